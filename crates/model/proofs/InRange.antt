@@ -1,0 +1,113 @@
+-- An accepted sheet's tree has every identifier below N and every inner function below their count.
+use Prim.Native.Nat.{ℕ, zero, suc, _≤_, _<_}
+use native.Mathlib.Omega.{arith}
+use mathlib.Core.Path.{_≡_, refl, sym, subst, ap, _∙_}
+use mathlib.Core.Bool.{Bool, true, false, false≢true, true≢false}
+use mathlib.Core.List.{List, [], _∷_}
+use lib.ListN.{length, getD}
+use lib.Dec.{ltb, leb, eqb}
+use Rattle.model.specs.Limits.{flagCount, mostIdentifiers, mostFunctions, mostParams, mostContext, returnsCount, mostBlocks, mostCount, mostOrder, mostTerminal, mostTraits, mostKind}
+use Rattle.model.specs.Lists.{pick, Every}
+use Rattle.model.specs.Sheet.{Flags, Identifier, InnerFunction, BlockId, Place, noPlace, EffectKind, Effect, Operand, Phi, Instruction, Terminal, Other, Return, MaybeThrow, Block, Sheet}
+use Rattle.model.specs.Effects.{kindOf, rowOf, isCreateFunction}
+use Rattle.model.specs.Reading.{Position, Result, got, refused, Read, andThen, _>>=_, pure, refuse, word, count, fixed, atMost, below, newNumber, times, numbered, counted}
+use Rattle.model.specs.Sections.{flags, identifier, innerFunction, place, unused, extra, effect, effects, operand, phi, instruction, terminalOf, terminal, block, sheet}
+use Rattle.model.specs.Ranges.{PlaceBelow, EffectBelow, PhiBelow, TerminalBelow, BlockBelow, SheetBelow}
+use Rattle.model.proofs.ReadLaws.{Reads, pure-reads, refuse-reads, pick-reads, any-reads, bind-reads, below-reads, times-reads, numbered-reads, counted-reads, counted-length}
+
+-- a word of which nothing is asked
+then-reads : {A B : Type 0} (m : Read A) (f : A → Read B) (Q : B → Type 0) → ((a : A) → Reads (f a) Q) → Reads (m >>= f) Q
+then-reads {A} m f Q k = bind-reads m f (λ (a : A). Unit {0}) Q (any-reads m) (λ a u. k a)
+
+place-reads : (n : ℕ) → Reads (place n) (PlaceBelow n)
+unfolding place
+place-reads n =
+    bind-reads (below n) _ (λ (i : ℕ). i < n) (PlaceBelow n) (below-reads n)
+    (λ i h. then-reads (atMost mostTraits) _ (PlaceBelow n) (λ t. then-reads word _ (PlaceBelow n) (λ s. pure-reads _ (PlaceBelow n) h)))
+
+unused-reads : (n : ℕ) → 0 < n → Reads unused (PlaceBelow n)
+unfolding unused
+unused-reads n h =
+    then-reads (atMost 0) _ (PlaceBelow n) (λ i. then-reads (atMost 0) _ (PlaceBelow n) (λ t. then-reads (atMost 0) _ (PlaceBelow n) (λ s. pure-reads noPlace (PlaceBelow n) h)))
+
+extra-reads : (m : ℕ) (k : EffectKind) → Reads (extra m k) (λ (x : ℕ). isCreateFunction k ≡ true → x < m)
+unfolding extra
+extra-reads m k =
+    pick-reads (isCreateFunction k) (below m) (atMost (rowOf k .extra)) (λ (x : ℕ). isCreateFunction k ≡ true → x < m)
+    (λ h ws c a d e t. below-reads m ws c a d e) (λ h ws c a d e t. absurd (true≢false (sym t ∙ h)))
+
+usedOr-reads : (n : ℕ) → 0 < n → (b : Bool) → Reads (pick b (place n) unused) (PlaceBelow n)
+usedOr-reads n h b = pick-reads b (place n) unused (PlaceBelow n) (λ e. place-reads n) (λ e. unused-reads n h)
+
+effect-reads : (n m : ℕ) → 0 < n → Reads (effect n m) (EffectBelow n m)
+unfolding effect
+effect-reads n m h =
+    then-reads (atMost mostKind) _ (EffectBelow n m)
+    (λ w. bind-reads (pick (leb 1 (rowOf (kindOf w) .places)) (place n) unused) _ (PlaceBelow n) (EffectBelow n m) (usedOr-reads n h (leb 1 (rowOf (kindOf w) .places)))
+    (λ p hp. bind-reads (pick (leb 2 (rowOf (kindOf w) .places)) (place n) unused) _ (PlaceBelow n) (EffectBelow n m) (usedOr-reads n h (leb 2 (rowOf (kindOf w) .places)))
+    (λ q hq. bind-reads (extra m (kindOf w)) _ (λ (x : ℕ). isCreateFunction (kindOf w) ≡ true → x < m) (EffectBelow n m) (extra-reads m (kindOf w))
+    (λ x hx. pure-reads _ (EffectBelow n m) (hp, hq, hx)))))
+
+effects-reads : (n m : ℕ) → 0 < n → Reads (effects n m) (Every (EffectBelow n m))
+unfolding effects
+effects-reads n m h = counted-reads (EffectBelow n m) mostCount (effect n m) (effect-reads n m h)
+
+operand-reads : (n : ℕ) (b : BlockId) → Reads (operand n b) (λ (o : Operand). PlaceBelow n (o .place))
+unfolding operand
+operand-reads n b =
+    bind-reads (place n) _ (PlaceBelow n) (λ (o : Operand). PlaceBelow n (o .place)) (place-reads n)
+    (λ p h. pure-reads _ (λ (o : Operand). PlaceBelow n (o .place)) h)
+
+phi-reads : (n : ℕ) → Reads (phi n) (PhiBelow n)
+unfolding phi
+phi-reads n =
+    bind-reads (place n) _ (PlaceBelow n) (PhiBelow n) (place-reads n)
+    (λ p h. then-reads (count mostCount) _ (PhiBelow n)
+    (λ k. bind-reads (numbered k [] (operand n)) _ (Every (λ (o : Operand). PlaceBelow n (o .place))) (PhiBelow n) (numbered-reads _ k [] (operand n) (operand-reads n))
+    (λ l q. pure-reads _ (PhiBelow n) (h, q))))
+
+abbrev InstructionBelow : ℕ → ℕ → Instruction → Type 0
+InstructionBelow n m i = Every (EffectBelow n m) (i .effects)
+
+instruction-reads : (n m : ℕ) → 0 < n → Reads (instruction n m) (InstructionBelow n m)
+unfolding instruction
+instruction-reads n m h =
+    then-reads (atMost mostOrder) _ (InstructionBelow n m)
+    (λ o. bind-reads (effects n m) _ (Every (EffectBelow n m)) (InstructionBelow n m) (effects-reads n m h) (λ l q. pure-reads _ (InstructionBelow n m) q))
+
+terminalOf-reads : (n m : ℕ) → 0 < n → (k o : ℕ) → Reads (terminalOf n m k o) (TerminalBelow n m)
+unfolding terminalOf
+terminalOf-reads n m h zero o = pure-reads (Other o) (TerminalBelow n m) tt
+terminalOf-reads n m h (suc zero) o =
+    bind-reads (place n) _ (PlaceBelow n) (TerminalBelow n m) (place-reads n)
+    (λ p hp. bind-reads (effects n m) _ (Every (EffectBelow n m)) (TerminalBelow n m) (effects-reads n m h) (λ l q. pure-reads (Return o p l) (TerminalBelow n m) (hp, q)))
+terminalOf-reads n m h (suc (suc k)) o =
+    bind-reads (effects n m) _ (Every (EffectBelow n m)) (TerminalBelow n m) (effects-reads n m h) (λ l q. pure-reads (MaybeThrow o l) (TerminalBelow n m) q)
+
+terminal-reads : (n m : ℕ) → 0 < n → Reads (terminal n m) (TerminalBelow n m)
+unfolding terminal
+terminal-reads n m h =
+    then-reads (atMost mostTerminal) _ (TerminalBelow n m) (λ k. then-reads (atMost mostOrder) _ (TerminalBelow n m) (λ o. terminalOf-reads n m h k o))
+
+block-reads : (n m : ℕ) → 0 < n → (b : BlockId) → Reads (block n m b) (BlockBelow n m)
+unfolding block
+block-reads n m h b =
+    bind-reads (counted mostCount (phi n)) _ (Every (PhiBelow n)) (BlockBelow n m) (counted-reads (PhiBelow n) mostCount (phi n) (phi-reads n))
+    (λ ps hp. bind-reads (counted mostCount (instruction n m)) _ (Every (InstructionBelow n m)) (BlockBelow n m) (counted-reads (InstructionBelow n m) mostCount (instruction n m) (instruction-reads n m h))
+    (λ is hi. bind-reads (terminal n m) _ (TerminalBelow n m) (BlockBelow n m) (terminal-reads n m h)
+    (λ t ht. pure-reads _ (BlockBelow n m) (hp, hi, ht))))
+
+pub sheet-reads : Reads sheet SheetBelow
+unfolding sheet
+sheet-reads =
+    then-reads flags _ SheetBelow
+    (λ fs. bind-reads (counted mostIdentifiers identifier) _ (λ (l : List Identifier). length l ≤ mostIdentifiers) SheetBelow (counted-length mostIdentifiers identifier)
+    (λ ids hn. then-reads (counted mostFunctions innerFunction) _ SheetBelow
+    (λ inner. bind-reads (counted mostParams (place (length ids))) _ (Every (PlaceBelow (length ids))) SheetBelow (counted-reads (PlaceBelow (length ids)) mostParams (place (length ids)) (place-reads (length ids)))
+    (λ ps hp. bind-reads (counted mostContext (place (length ids))) _ (Every (PlaceBelow (length ids))) SheetBelow (counted-reads (PlaceBelow (length ids)) mostContext (place (length ids)) (place-reads (length ids)))
+    (λ cs hc. then-reads (fixed returnsCount) _ SheetBelow
+    (λ k. bind-reads (place (length ids)) _ (PlaceBelow (length ids)) SheetBelow (place-reads (length ids))
+    (λ r hr. then-reads (count mostBlocks) _ SheetBelow
+    (λ b. bind-reads (numbered b [] (block (length ids) (length inner))) _ (Every (BlockBelow (length ids) (length inner))) SheetBelow
+    (numbered-reads (BlockBelow (length ids) (length inner)) b [] (block (length ids) (length inner)) (block-reads (length ids) (length inner) (omega (arith, hr))))
+    (λ bs hb. pure-reads _ SheetBelow (record { identifiers = hn; params = hp; context = hc; returns = hr; blocks = hb }))))))))))

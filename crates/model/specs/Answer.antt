@@ -1,0 +1,93 @@
+-- Document 01, "The answer": "Sections, each after its count of records: ranges (start, end); params; context (places); diagnostics; effects (eight words each); walks".
+use Prim.Native.Nat.{ℕ, zero, suc}
+use mathlib.Core.List.{List, [], _∷_, _++_, map}
+use lib.ListN.{length, getD}
+use Rattle.model.specs.Lists.{gather}
+use Rattle.model.specs.Sheet.{EvaluationOrder, FunctionId, Identifier, Diagnostic, InnerFunction, noFunction, Place, Effect, Sheet}
+use Rattle.model.specs.Traits.{traitsWord}
+use Rattle.model.specs.Effects.{Row, rowOf}
+use Rattle.model.specs.State.{State}
+use Rattle.model.specs.Walks.{Walk}
+use Rattle.model.specs.Summary.{realWalks, afterRenders, copied, recorded, collectParamEffects, marked, createReturns}
+use Rattle.model.specs.Simulated.{Simulated, simulate}
+
+-- a record of the first section
+pub record Range : Type 0 where
+  pub start : EvaluationOrder
+  pub end : EvaluationOrder
+
+-- the six sections, in the document's order
+pub record Answer : Type 0 where
+  pub ranges : List Range
+  pub params : List Place
+  pub context : List Place
+  pub diagnostics : List Diagnostic
+  pub effects : List Effect
+  pub walks : List ℕ
+
+-- the sheet's starts with the ends after the call
+abbrev pub rangesOf : List Identifier → List EvaluationOrder → List Range
+rangesOf [] ends = []
+rangesOf (i ∷ l) [] = []
+rangesOf (i ∷ l) (e ∷ ends) = record { start = i .start; end = e } ∷ rangesOf l ends
+
+-- the summary: copied effects; "mutation effects list context first", with "the old traits"; Create for returns; the simulated walks' effects
+unfoldable pub summary : Sheet → List Effect
+summary s =
+    copied s
+    ++ (gather (collectParamEffects (afterRenders s)) (s .context)
+    ++ (gather (collectParamEffects (afterRenders s)) (s .params)
+    ++ (createReturns s ∷ simulate s .effects)))
+
+-- the diagnostics of an inner function (the Rust's `append_function_errors`)
+abbrev pub functionErrors : List InnerFunction → FunctionId → List Diagnostic
+functionErrors fs k = getD fs k noFunction .diagnostics
+
+-- "Diagnostics are those handed to `record_diagnostic`, in order": while building, then by the walks
+unfoldable pub diagnosed : Sheet → List Diagnostic
+diagnosed s = recorded s ++ gather (functionErrors (s .functions)) (simulate s .state .handed)
+
+-- what an accepted sheet is answered; ends and diagnostics are those at the call's end (simulated walks change neither: proofs/Quiet)
+unfoldable pub answer : Sheet → Answer
+answer s = record {
+  ranges = rangesOf (s .identifiers) (simulate s .state .ends);
+  params = map (marked (afterRenders s)) (s .params);
+  context = map (marked (afterRenders s)) (s .context);
+  diagnostics = diagnosed s;
+  effects = summary s;
+  walks = map (λ (w : Walk). w .taken) (realWalks s ++ simulate s .walks);
+}
+
+-- "ranges (start, end)"
+abbrev pub rangeWords : Range → List ℕ
+rangeWords r = r .start ∷ r .end ∷ []
+
+-- "params; context (places)"
+abbrev pub placeWords : Place → List ℕ
+placeWords p = p .identifier ∷ traitsWord (p .effect) (p .reactive) ∷ p .span ∷ []
+
+-- "diagnostics"
+abbrev pub diagnosticWords : Diagnostic → List ℕ
+diagnosticWords d = d ∷ []
+
+-- "effects (eight words each)"
+abbrev pub effectWords : Effect → List ℕ
+effectWords e = rowOf (e .kind) .number ∷ (placeWords (e .first) ++ (placeWords (e .second) ++ (e .extra ∷ [])))
+
+-- "walks": the entries taken
+abbrev pub countWords : ℕ → List ℕ
+countWords k = k ∷ []
+
+-- "each after its count of records"
+abbrev pub section : {A : Type 0} → (A → List ℕ) → List A → List ℕ
+section f l = length l ∷ gather f l
+
+-- the answer as words
+unfoldable pub answerWords : Answer → List ℕ
+answerWords a =
+    section rangeWords (a .ranges)
+    ++ (section placeWords (a .params)
+    ++ (section placeWords (a .context)
+    ++ (section diagnosticWords (a .diagnostics)
+    ++ (section effectWords (a .effects)
+    ++ section countWords (a .walks)))))
