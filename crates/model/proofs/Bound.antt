@@ -21,7 +21,7 @@ use Rattle.model.specs.Demand3.{how}
 use Rattle.model.specs.Bound.{mostEntries, Bound}
 use Rattle.model.proofs.Everywhere.{every-mem, every-append, every-map}
 use Rattle.model.proofs.Steady.{each-keeps}
-use Rattle.model.proofs.Stored.{build-stores}
+use Rattle.model.proofs.Indexes.{build-stores}
 use Rattle.model.proofs.Potential.{walk-bound, walk-ends}
 use Rattle.model.proofs.RenderBound.{render-graph, render-bound, render-ends}
 use Rattle.model.proofs.Ends.{mutate-graph}
@@ -77,7 +77,7 @@ module _ (s : Sheet) where
   abbrev Fine : Simulated → Type 0
   Fine a = (a .state .graph ≡ build s .graph) × Every Within (a .walks)
 
-  simulated-bound : Every Within (simulate s .walks)
+  pub simulated-bound : Every Within (simulate s .walks)
   unfolding simulate
   simulated-bound =
       each-keeps (λ (into : Place) (a : Simulated). simulatedBy s into a (mutate simulated (simulation (a .index) into) (a .state))) Fine (tracked s)

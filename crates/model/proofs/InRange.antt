@@ -13,7 +13,7 @@ use Rattle.model.specs.Effects.{kindOf, rowOf, isCreateFunction}
 use Rattle.model.specs.Reading.{Position, Result, got, refused, Read, andThen, _>>=_, pure, refuse, word, count, fixed, atMost, below, newNumber, times, numbered, counted}
 use Rattle.model.specs.Sections.{flags, identifier, innerFunction, place, unused, extra, effect, effects, operand, phi, instruction, terminalOf, terminal, block, sheet}
 use Rattle.model.specs.Ranges.{PlaceBelow, EffectBelow, PhiBelow, TerminalBelow, BlockBelow, SheetBelow}
-use Rattle.model.proofs.ReadLaws.{Reads, pure-reads, refuse-reads, pick-reads, any-reads, bind-reads, below-reads, times-reads, numbered-reads, counted-reads, counted-length}
+use Rattle.model.proofs.ReadLaws.{Reads, pure-reads, refuse-reads, pick-reads, both-reads, any-reads, bind-reads, below-reads, times-reads, numbered-reads, counted-reads, counted-length}
 
 -- a word of which nothing is asked
 then-reads : {A B : Type 0} (m : Read A) (f : A → Read B) (Q : B → Type 0) → ((a : A) → Reads (f a) Q) → Reads (m >>= f) Q
@@ -97,17 +97,31 @@ block-reads n m h b =
     (λ is hi. bind-reads (terminal n m) _ (TerminalBelow n m) (BlockBelow n m) (terminal-reads n m h)
     (λ t ht. pure-reads _ (BlockBelow n m) (hp, hi, ht))))
 
+-- a section of places, its count within the limit
+places-reads : (most n : ℕ) → Reads (counted most (place n)) (λ (l : List Place). Every (PlaceBelow n) l × (length l ≤ most))
+places-reads most n =
+    both-reads (counted most (place n)) (Every (PlaceBelow n)) (λ (l : List Place). length l ≤ most) (counted-reads (PlaceBelow n) most (place n) (place-reads n)) (counted-length most (place n))
+
 pub sheet-reads : Reads sheet SheetBelow
 unfolding sheet
 sheet-reads =
     then-reads flags _ SheetBelow
     (λ fs. bind-reads (counted mostIdentifiers identifier) _ (λ (l : List Identifier). length l ≤ mostIdentifiers) SheetBelow (counted-length mostIdentifiers identifier)
-    (λ ids hn. then-reads (counted mostFunctions innerFunction) _ SheetBelow
-    (λ inner. bind-reads (counted mostParams (place (length ids))) _ (Every (PlaceBelow (length ids))) SheetBelow (counted-reads (PlaceBelow (length ids)) mostParams (place (length ids)) (place-reads (length ids)))
-    (λ ps hp. bind-reads (counted mostContext (place (length ids))) _ (Every (PlaceBelow (length ids))) SheetBelow (counted-reads (PlaceBelow (length ids)) mostContext (place (length ids)) (place-reads (length ids)))
+    (λ ids hn. bind-reads (counted mostFunctions innerFunction) _ (λ (l : List InnerFunction). length l ≤ mostFunctions) SheetBelow (counted-length mostFunctions innerFunction)
+    (λ inner hm. bind-reads (counted mostParams (place (length ids))) _ (λ (l : List Place). Every (PlaceBelow (length ids)) l × (length l ≤ mostParams)) SheetBelow (places-reads mostParams (length ids))
+    (λ ps hp. bind-reads (counted mostContext (place (length ids))) _ (λ (l : List Place). Every (PlaceBelow (length ids)) l × (length l ≤ mostContext)) SheetBelow (places-reads mostContext (length ids))
     (λ cs hc. then-reads (fixed returnsCount) _ SheetBelow
     (λ k. bind-reads (place (length ids)) _ (PlaceBelow (length ids)) SheetBelow (place-reads (length ids))
     (λ r hr. then-reads (count mostBlocks) _ SheetBelow
     (λ b. bind-reads (numbered b [] (block (length ids) (length inner))) _ (Every (BlockBelow (length ids) (length inner))) SheetBelow
     (numbered-reads (BlockBelow (length ids) (length inner)) b [] (block (length ids) (length inner)) (block-reads (length ids) (length inner) (omega (arith, hr))))
-    (λ bs hb. pure-reads _ SheetBelow (record { identifiers = hn; params = hp; context = hc; returns = hr; blocks = hb }))))))))))
+    (λ bs hb. pure-reads _ SheetBelow (record {
+      identifiers = hn;
+      functions = hm;
+      paramCount = hp .1;
+      contextCount = hc .1;
+      params = hp .0;
+      context = hc .0;
+      returns = hr;
+      blocks = hb;
+    }))))))))))

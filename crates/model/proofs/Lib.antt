@@ -26,5 +26,7 @@ pub mod Assertion
 pub mod Order
 pub mod Distinct
 pub mod Quiet
+pub mod Counted
 pub mod Indexes
+pub mod IndexesBelow
 pub mod Buffers

@@ -1,5 +1,5 @@
--- Simulated walks move no end and hand over no diagnostic; render walks move no end. So the answer's ends are those after the real walks.
-use Prim.Native.Nat.{ℕ, zero, suc}
+-- Simulated walks end, move no end and hand over nothing; render walks move no end and make no record. So the answer's ends are those after the real walks.
+use Prim.Native.Nat.{ℕ, zero, suc, _≤_}
 use mathlib.Core.Path.{_≡_, refl, sym, subst, ap, _∙_}
 use mathlib.Core.Bool.{Bool, true, false}
 use mathlib.Core.List.{List, [], _∷_, _++_}
@@ -18,7 +18,11 @@ use Rattle.model.specs.Renders.{RenderWalk, renderVisit, renderStep, ren
 use Rattle.model.specs.Runs.{rendered}
 use Rattle.model.specs.Summary.{afterReal, afterRenders}
 use Rattle.model.specs.Simulated.{tracked, simulation, Simulated, simulatedBy, simulate}
+use Rattle.model.specs.Bound.{mostEntries}
+use Rattle.model.specs.Quiet.{Quiet}
+use Rattle.model.proofs.Everywhere.{every-mem}
 use Rattle.model.proofs.Steady.{each-keeps}
+use Rattle.model.proofs.Bound.{simulated-bound}
 
 append-nil : (l : List FunctionId) → l ++ [] ≡ l
 append-nil [] = refl
@@ -52,28 +56,42 @@ module _ (m : Mutation) where
   unfolding mutate walkOf
   simulated-quiet s = run-quiet (enough (s .graph)) (start m s)
 
+-- the same ends and the same records
+abbrev Unmoved : State → State → Type 0
+Unmoved s t = (s .ends ≡ t .ends) × (s .records ≡ t .records)
+
 module _ (i : ℕ) where
-  visit-ends : (c b : Bool) (o : Option Node) (x : ℕ) (q : List ℕ) (w : RenderWalk) → renderVisit i c b o x q w .state .ends ≡ w .state .ends
+  visit-unmoved : (c b : Bool) (o : Option Node) (x : ℕ) (q : List ℕ) (w : RenderWalk) → Unmoved (renderVisit i c b o x q w .state) (w .state)
   unfolding renderVisit
-  visit-ends true b o x q w = refl
-  visit-ends false b none x q w = refl
-  visit-ends false true (some n) x q w = refl
-  visit-ends false false (some n) x q w = refl
+  visit-unmoved true b o x q w = (refl, refl)
+  visit-unmoved false b none x q w = (refl, refl)
+  visit-unmoved false true (some n) x q w = (refl, refl)
+  visit-unmoved false false (some n) x q w = (refl, refl)
 
-  step-ends : (q : List ℕ) (w : RenderWalk) → renderStep i q w .state .ends ≡ w .state .ends
+  step-unmoved : (q : List ℕ) (w : RenderWalk) → Unmoved (renderStep i q w .state) (w .state)
   unfolding renderStep
-  step-ends [] w = refl
-  step-ends (x ∷ q) w = visit-ends (getD (w .seen) x false) (hasRecord (getD (w .state .records) x noRecord)) (nodeAt (w .state .graph) x) x q w
+  step-unmoved [] w = (refl, refl)
+  step-unmoved (x ∷ q) w = visit-unmoved (getD (w .seen) x false) (hasRecord (getD (w .state .records) x noRecord)) (nodeAt (w .state .graph) x) x q w
 
-  run-ends : (fuel : ℕ) (w : RenderWalk) → renderRun i fuel w .state .ends ≡ w .state .ends
+  run-unmoved : (fuel : ℕ) (w : RenderWalk) → Unmoved (renderRun i fuel w .state) (w .state)
   unfolding renderRun
-  run-ends zero w = refl
-  run-ends (suc fuel) w = run-ends fuel (renderStep i (w .queue) w) ∙ step-ends (w .queue) w
+  run-unmoved zero w = (refl, refl)
+  run-unmoved (suc fuel) w =
+      let a = run-unmoved fuel (renderStep i (w .queue) w) in
+      let b = step-unmoved (w .queue) w in
+      (a .0 ∙ b .0, a .1 ∙ b .1)
 
-rendered-ends : (rs : List RenderOf) (s : State) → rendered rs s .ends ≡ s .ends
+rendered-unmoved : (rs : List RenderOf) (s : State) → Unmoved (rendered rs s) s
 unfolding rendered renderWalk
-rendered-ends [] s = refl
-rendered-ends (r ∷ rs) s = rendered-ends rs (renderWalk r s .state) ∙ run-ends (r .index) (enough (s .graph)) (renderStart r s)
+rendered-unmoved [] s = (refl, refl)
+rendered-unmoved (r ∷ rs) s =
+    let a = rendered-unmoved rs (renderWalk r s .state) in
+    let b = run-unmoved (r .index) (enough (s .graph)) (renderStart r s) in
+    (a .0 ∙ b .0, a .1 ∙ b .1)
+
+renders-unmoved : (s : Sheet) → Unmoved (afterRenders s) (afterReal s)
+unfolding afterRenders
+renders-unmoved s = rendered-unmoved _ (afterReal s)
 
 pub simulate-quiet : (s : Sheet) → Same (simulate s .state) (afterRenders s)
 unfolding simulate
@@ -84,5 +102,13 @@ simulate-quiet s =
 
 -- the ends at the call's end are those after its real walks
 pub final-ends : (s : Sheet) → simulate s .state .ends ≡ afterReal s .ends
-unfolding afterRenders
-final-ends s = simulate-quiet s .0 ∙ rendered-ends _ (afterReal s)
+final-ends s = simulate-quiet s .0 ∙ renders-unmoved s .0
+
+pub quiet : (s : Sheet) → Quiet s
+quiet s = record {
+  ended = every-mem (λ (w : Walk). (w .taken ≤ mostEntries s) × (w .queue ≡ [])) (λ (w : Walk). w .queue ≡ []) (simulate s .walks) (λ w m h. h .1) (simulated-bound s);
+  ends = simulate-quiet s .0;
+  handed = simulate-quiet s .1;
+  renderEnds = renders-unmoved s .0;
+  renderRecords = renders-unmoved s .1;
+}

@@ -34,6 +34,10 @@ module _ {A : Type 0} where
   pick-reads true f g Q h k = h refl
   pick-reads false f g Q h k = k refl
 
+  -- both of two properties
+  pub both-reads : (f : Read A) (P Q : A → Type 0) → Reads f P → Reads f Q → Reads f (λ (a : A). P a × Q a)
+  both-reads f P Q h k ws c a d e = (h ws c a d e, k ws c a d e)
+
   -- nothing known
   pub any-reads : (f : Read A) → Reads f (λ (a : A). Unit {0})
   any-reads f ws c a d e = tt

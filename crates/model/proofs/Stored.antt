@@ -1,236 +1,260 @@
--- The built graph stores at most as many forward edges, and at most as many entries, as the sheet has relation effects.
+-- The built graph stores nothing twice: whatever indexes weigh, the stored forward edges (entries), waiting operands, mutations and renders weigh at most what the indexes given so far do.
 use Prim.Native.Nat.{ℕ, zero, suc, _+_, _≤_, _<_}
 use native.Mathlib.Omega.{arith}
-use mathlib.Core.Path.{_≡_, refl, sym, subst, ap, _∙_}
+use mathlib.Core.Path.{_≡_, refl, sym, ap, _∙_}
 use mathlib.Core.Bool.{Bool, true, false, _&&_, not}
-use mathlib.Core.List.{List, [], _∷_, _++_}
+use mathlib.Core.List.{List, [], _∷_, _++_, List·Memᴰ}
 use mathlib.Core.Option.{Option, none, some}
-use lib.ListN.{length, getD, set, replicate, length-append}
+use lib.ListN.{length, getD, set, replicate}
 use Rattle.model.specs.Limits.{mostIdentifiers}
-use Rattle.model.specs.Lists.{pick, keep, consIf, each, among, tally, oneIf, mapOption}
+use Rattle.model.specs.Lists.{pick, keep, consIf, each, among, tally, mapOption}
 use Rattle.model.specs.Sheet.{IdentifierId, Place, EffectKind, Freeze, Mutate, MutateConditionally, MutateTransitive, MutateTransitiveConditionally, Capture, Alias, MaybeAlias, Assign, Create, CreateFrom, ImmutableCapture, Apply, CreateFunction, MutateFrozen, MutateGlobal, Impure, Render, Effect, Operand, Phi, Instruction, Terminal, Other, Return, MaybeThrow, Block, Sheet}
-use Rattle.model.specs.Effects.{rowOf, isAlias, isRelation}
-use Rattle.model.specs.Totals.{withRole, aliasesIn, terminalRelations, blockRelations, totals}
+use Rattle.model.specs.Effects.{isAlias}
 use Rattle.model.specs.Graph.{Value, object, phi, function, edgeKind, Edge, Entry, Node, Graph, nodeAt, hasNode, newNode, create, Relation, intoAliases, intoMaybeAliases, intoCaptures, intoCreatedFrom, keepsFrom, enter, withEdge, withEntry, change, store, relate, assign, createFrom}
-use Rattle.model.specs.Size.{nodeEdges, nodeEntries, edges, entries}
-use Rattle.model.specs.Built.{Built, Waiting, related, changed, waits, comes}
+use Rattle.model.specs.Mutation.{Mutation, RenderOf}
+use Rattle.model.specs.Built.{Built, Waiting, related, changed, waits, mutates, renders, comes, between}
 use Rattle.model.specs.Building.{instructionEffect, instruction, operand, phiNode, waitingFor, stillWaiting, wake, terminalEffect, terminal, block, firstPlaces, noNodes, firstNodes, build}
+use Rattle.model.specs.Indexes.{nodeEdgesBy, nodeEntriesBy, edgesBy, entriesBy, walksBy}
+use Rattle.model.proofs.Steady.{each-keeps}
 
-edges-set : (g : Graph) (x : ℕ) (o : Option Node) → edges (set g x o) + nodeEdges (nodeAt g x) ≤ edges g + nodeEdges o
-edges-set [] x o = omega arith
-edges-set (q ∷ g) zero o = omega arith
-edges-set (q ∷ g) (suc x) o = omega (arith, edges-set g x o)
+module _ {A : Type 0} (f : A → ℕ) where
+  tally-append : (l k : List A) → tally f (l ++ k) ≡ tally f l + tally f k
+  tally-append [] k = omega arith
+  tally-append (a ∷ l) k = omega (arith, tally-append l k)
 
-entries-set : (g : Graph) (x : ℕ) (o : Option Node) → entries (set g x o) + nodeEntries (nodeAt g x) ≤ entries g + nodeEntries o
-entries-set [] x o = omega arith
-entries-set (q ∷ g) zero o = omega arith
-entries-set (q ∷ g) (suc x) o = omega (arith, entries-set g x o)
+  tally-set : (l : List A) (x : ℕ) (o d : A) → f d ≡ 0 → tally f (set l x o) + f (getD l x d) ≤ tally f l + f o
+  tally-set [] x o d h = omega (arith, h)
+  tally-set (a ∷ l) zero o d h = omega arith
+  tally-set (a ∷ l) (suc x) o d h = omega (arith, tally-set l x o d h)
 
--- at most d more edges, and at most d more entries
-abbrev Grows : ℕ → Graph → Graph → Type 0
-Grows d g h = (edges h ≤ d + edges g) × (entries h ≤ d + entries g)
+  tally-split : (t : A → Bool) (l : List A) → tally f (keep t l) + tally f (keep (λ (a : A). not (t a)) l) ≡ tally f l
+  tally-split t [] = refl
+  tally-split t (a ∷ l) = go (t a) (tally-split t l)
+    where
+      go : (b : Bool) → tally f (keep t l) + tally f (keep (λ (a : A). not (t a)) l) ≡ tally f l
+          → tally f (consIf b a (keep t l)) + tally f (consIf (not b) a (keep (λ (a : A). not (t a)) l)) ≡ f a + tally f l
+      go true h = omega arith
+      go false h = omega arith
 
-create-grows : (x : IdentifierId) (v : Value) (g : Graph) → Grows 0 g (create x v g)
-unfolding create
-create-grows x v g = (omega (arith, edges-set g x (some (newNode v))), omega (arith, entries-set g x (some (newNode v))))
+module _ (f : ℕ → ℕ) where
+  -- what the indexes below n weigh together
+  unfoldable pub given : ℕ → ℕ
+  given zero = 0
+  given (suc n) = f n + given n
 
-enter-length : (x : IdentifierId) (i : ℕ) (l : List Entry) → length (enter x i l) ≤ suc (length l)
-unfolding enter
-enter-length x i l = go (keepsFrom x l)
-  where
-    new : List Entry
-    new = record { origin = x; index = i } ∷ []
+  -- the graph h weighs at most d more than g, in edges and in entries
+  abbrev Grows : ℕ → Graph → Graph → Type 0
+  Grows d g h = (edgesBy f h ≤ d + edgesBy f g) × (entriesBy f h ≤ d + entriesBy f g)
 
-    go : (b : Bool) → length (pick b l (l ++ new)) ≤ suc (length l)
-    go true = omega arith
-    go false = omega (arith, length-append l new)
+  create-grows : (x : IdentifierId) (v : Value) (g : Graph) → Grows 0 g (create x v g)
+  unfolding create
+  create-grows x v g = (
+    omega (arith, tally-set (nodeEdgesBy f) g x (some (newNode v)) none refl),
+    omega (arith, tally-set (nodeEntriesBy f) g x (some (newNode v)) none refl),
+  )
 
-edge-edges : (r : Relation) (i into : ℕ) (o : Option Node) → (nodeEdges (mapOption (withEdge r i into) o) ≤ suc (nodeEdges o)) × (nodeEntries (mapOption (withEdge r i into) o) ≤ nodeEntries o)
-unfolding withEdge
-edge-edges r i into none = (omega arith, omega arith)
-edge-edges r i into (some n) =
-    let new : List Edge = record { into = into; index = i; kind = edgeKind r } ∷ [] in
-    (omega (arith, length-append (n .forward) new), omega arith)
+  abbrev weighEntries : List Entry → ℕ
+  weighEntries = tally (λ (a : Entry). f (a .index))
 
-entry-entries : (r : Relation) (i from : ℕ) (o : Option Node) → (nodeEdges (mapOption (withEntry r i from) o) ≤ nodeEdges o) × (nodeEntries (mapOption (withEntry r i from) o) ≤ suc (nodeEntries o))
-unfolding withEntry
-entry-entries r i from none = (omega arith, omega arith)
-entry-entries intoCreatedFrom i from (some n) = (omega arith, omega (arith, enter-length from i (n .createdFrom)))
-entry-entries intoAliases i from (some n) = (omega arith, omega (arith, enter-length from i (n .aliases)))
-entry-entries intoMaybeAliases i from (some n) = (omega arith, omega (arith, enter-length from i (n .maybeAliases)))
-entry-entries intoCaptures i from (some n) = (omega arith, omega (arith, enter-length from i (n .captures)))
+  enter-grows : (x : IdentifierId) (i : ℕ) (l : List Entry) → weighEntries (enter x i l) ≤ f i + weighEntries l
+  unfolding enter
+  enter-grows x i l = go (keepsFrom x l)
+    where
+      new : List Entry
+      new = record { origin = x; index = i } ∷ []
 
-store-grows : (r : Relation) (i : ℕ) (from into : IdentifierId) (g : Graph) → Grows 1 g (store r i from into g)
-unfolding store change
-store-grows r i from into g =
-    let o₁ : Option Node = mapOption (withEdge r i into) (nodeAt g from) in
-    let g₁ : Graph = set g from o₁ in
-    let o₂ : Option Node = mapOption (withEntry r i from) (nodeAt g₁ into) in
-    let a = edge-edges r i into (nodeAt g from) in
-    let b = entry-entries r i from (nodeAt g₁ into) in
-    (omega (arith, a .0, b .0, edges-set g from o₁, edges-set g₁ into o₂), omega (arith, a .1, b .1, entries-set g from o₁, entries-set g₁ into o₂))
+      go : (b : Bool) → weighEntries (pick b l (l ++ new)) ≤ f i + weighEntries l
+      go true = omega arith
+      go false = omega (arith, tally-append (λ (a : Entry). f (a .index)) l new)
 
-relate-grows : (r : Relation) (i : ℕ) (from into : IdentifierId) (g : Graph) → Grows 1 g (relate r i from into g)
-unfolding relate
-relate-grows r i from into g = go (hasNode g from && hasNode g into)
-  where
-    go : (b : Bool) → Grows 1 g (pick b (store r i from into g) g)
-    go true = store-grows r i from into g
-    go false = (omega arith, omega arith)
+  edge-grows : (r : Relation) (i into : ℕ) (o : Option Node)
+      → (nodeEdgesBy f (mapOption (withEdge r i into) o) ≤ f i + nodeEdgesBy f o) × (nodeEntriesBy f (mapOption (withEdge r i into) o) ≤ nodeEntriesBy f o)
+  unfolding withEdge
+  edge-grows r i into none = (omega arith, omega arith)
+  edge-grows r i into (some n) =
+      let new : List Edge = record { into = into; index = i; kind = edgeKind r } ∷ [] in
+      (omega (arith, tally-append (λ (a : Edge). f (a .index)) (n .forward) new), omega arith)
 
-assign-grows : (i : ℕ) (from into : IdentifierId) (g : Graph) → Grows 1 g (assign i from into g)
-unfolding assign
-assign-grows i from into g = go (hasNode g into)
-  where
-    go : (b : Bool) → Grows 1 g (relate intoAliases i from into (pick b g (create into object g)))
-    go true = relate-grows intoAliases i from into g
-    go false =
-        let a = relate-grows intoAliases i from into (create into object g) in
-        let c = create-grows into object g in
-        (omega (arith, a .0, c .0), omega (arith, a .1, c .1))
+  entry-grows : (r : Relation) (i from : ℕ) (o : Option Node)
+      → (nodeEdgesBy f (mapOption (withEntry r i from) o) ≤ nodeEdgesBy f o) × (nodeEntriesBy f (mapOption (withEntry r i from) o) ≤ f i + nodeEntriesBy f o)
+  unfolding withEntry
+  entry-grows r i from none = (omega arith, omega arith)
+  entry-grows intoCreatedFrom i from (some n) = (omega arith, omega (arith, enter-grows from i (n .createdFrom)))
+  entry-grows intoAliases i from (some n) = (omega arith, omega (arith, enter-grows from i (n .aliases)))
+  entry-grows intoMaybeAliases i from (some n) = (omega arith, omega (arith, enter-grows from i (n .maybeAliases)))
+  entry-grows intoCaptures i from (some n) = (omega arith, omega (arith, enter-grows from i (n .captures)))
 
-createFrom-grows : (i : ℕ) (from into : IdentifierId) (g : Graph) → Grows 1 g (createFrom i from into g)
-unfolding createFrom
-createFrom-grows i from into g =
-    let a = store-grows intoCreatedFrom i from into (create into object g) in
-    let c = create-grows into object g in
-    (omega (arith, a .0, c .0), omega (arith, a .1, c .1))
+  store-grows : (r : Relation) (i : ℕ) (from into : IdentifierId) (g : Graph) → Grows (f i) g (store r i from into g)
+  unfolding store change
+  store-grows r i from into g =
+      let o₁ : Option Node = mapOption (withEdge r i into) (nodeAt g from) in
+      let g₁ : Graph = set g from o₁ in
+      let o₂ : Option Node = mapOption (withEntry r i from) (nodeAt g₁ into) in
+      let a = edge-grows r i into (nodeAt g from) in
+      let b = entry-grows r i from (nodeAt g₁ into) in (
+        omega (arith, a .0, b .0, tally-set (nodeEdgesBy f) g from o₁ none refl, tally-set (nodeEdgesBy f) g₁ into o₂ none refl),
+        omega (arith, a .1, b .1, tally-set (nodeEntriesBy f) g from o₁ none refl, tally-set (nodeEntriesBy f) g₁ into o₂ none refl),
+      )
 
--- c bounds the edges, and the entries, each with the operands that still wait
-abbrev Fits : ℕ → Built → Type 0
-Fits c b = (edges (b .graph) + length (b .waiting) ≤ c) × (entries (b .graph) + length (b .waiting) ≤ c)
+  relate-grows : (r : Relation) (i : ℕ) (from into : IdentifierId) (g : Graph) → Grows (f i) g (relate r i from into g)
+  unfolding relate
+  relate-grows r i from into g = go (hasNode g from && hasNode g into)
+    where
+      go : (b : Bool) → Grows (f i) g (pick b (store r i from into g) g)
+      go true = store-grows r i from into g
+      go false = (omega arith, omega arith)
 
-weaken : (c d : ℕ) (b : Built) → c ≤ d → Fits c b → Fits d b
-weaken c d b h f = (omega (arith, f .0), omega (arith, f .1))
+  assign-grows : (i : ℕ) (from into : IdentifierId) (g : Graph) → Grows (f i) g (assign i from into g)
+  unfolding assign
+  assign-grows i from into g = go (hasNode g into)
+    where
+      go : (b : Bool) → Grows (f i) g (relate intoAliases i from into (pick b g (create into object g)))
+      go true = relate-grows intoAliases i from into g
+      go false =
+          let a = relate-grows intoAliases i from into (create into object g) in
+          let c = create-grows into object g in
+          (omega (arith, a .0, c .0), omega (arith, a .1, c .1))
 
-still : (c : ℕ) (b : Built) → Fits c b → Fits (0 + c) b
-still c b f = weaken c (0 + c) b (omega arith) f
+  createFrom-grows : (i : ℕ) (from into : IdentifierId) (g : Graph) → Grows (f i) g (createFrom i from into g)
+  unfolding createFrom
+  createFrom-grows i from into g =
+      let a = store-grows intoCreatedFrom i from into (create into object g) in
+      let c = create-grows into object g in
+      (omega (arith, a .0, c .0), omega (arith, a .1, c .1))
 
-grown : (d c : ℕ) (b : Built) (h : Graph) → Grows d (b .graph) h → Fits c b → (edges h + length (b .waiting) ≤ d + c) × (entries h + length (b .waiting) ≤ d + c)
-grown d c b h w f = (omega (arith, w .0, f .0), omega (arith, w .1, f .1))
+  abbrev waitingBy : List Waiting → ℕ
+  waitingBy = tally (λ (w : Waiting). f (w .index))
 
-waits-fits : (p from into c : ℕ) (b : Built) → Fits c b → Fits (1 + c) (waits p from into b)
-waits-fits p from into c b f = let l = length-append (b .waiting) (record { predecessor = p; index = b .index; origin = from; into = into } ∷ []) in (omega (arith, f .0, l), omega (arith, f .1, l))
+  -- what is stored, waits or is left for the walks weighs at most what the indexes given do
+  abbrev pub Within : Built → Type 0
+  Within b = (edgesBy f (b .graph) + waitingBy (b .waiting) + walksBy f b ≤ given (b .index)) × (entriesBy f (b .graph) + waitingBy (b .waiting) + walksBy f b ≤ given (b .index))
 
--- one after another, each adds its cost
-each-fits : {A : Type 0} (f : A → Built → Built) (cost : A → ℕ) → ((a : A) (c : ℕ) (b : Built) → Fits c b → Fits (cost a + c) (f a b))
-    → (l : List A) (c : ℕ) (b : Built) → Fits c b → Fits (tally cost l + c) (each f l b)
-each-fits f cost h [] c b p = still c b p
-each-fits f cost h (a ∷ l) c b p =
-    weaken (tally cost l + (cost a + c)) (cost a + tally cost l + c) (each f l (f a b)) (omega arith) (each-fits f cost h l (cost a + c) (f a b) (h a c b p))
+  created-within : (x : IdentifierId) (v : Value) (b : Built) → Within b → Within (changed (create x v) b)
+  created-within x v b h = let w = create-grows x v (b .graph) in (omega (arith, w .0, h .0), omega (arith, w .1, h .1))
 
-each-one : {A : Type 0} (f : A → Built → Built) → ((a : A) (c : ℕ) (b : Built) → Fits c b → Fits (1 + c) (f a b))
-    → (l : List A) (c : ℕ) (b : Built) → Fits c b → Fits (length l + c) (each f l b)
-each-one f h [] c b p = still c b p
-each-one f h (a ∷ l) c b p = weaken (length l + (1 + c)) (suc (length l) + c) (each f l (f a b)) (omega arith) (each-one f h l (1 + c) (f a b) (h a c b p))
+  -- a relation takes the next index
+  related-within : (r : ℕ → Graph → Graph) (b : Built) → Grows (f (b .index)) (b .graph) (r (b .index) (b .graph)) → Within b → Within (related r b)
+  unfolding given
+  related-within r b w h = (omega (arith, w .0, h .0), omega (arith, w .1, h .1))
 
-effect-fits : (t : EffectKind) (o : ℕ) (e : Effect) (c : ℕ) (b : Built) → Fits c b → Fits (oneIf (isRelation (rowOf t .role)) + c) (instructionEffect t o e b)
-unfolding instructionEffect rowOf
-effect-fits Freeze o e c b f = still c b f
-effect-fits Mutate o e c b f = still c b f
-effect-fits MutateConditionally o e c b f = still c b f
-effect-fits MutateTransitive o e c b f = still c b f
-effect-fits MutateTransitiveConditionally o e c b f = still c b f
-effect-fits Capture o e c b f = grown 1 c b (relate intoCaptures (b .index) (e .first .identifier) (e .second .identifier) (b .graph)) (relate-grows intoCaptures (b .index) (e .first .identifier) (e .second .identifier) (b .graph)) f
-effect-fits Alias o e c b f = grown 1 c b (relate intoAliases (b .index) (e .first .identifier) (e .second .identifier) (b .graph)) (relate-grows intoAliases (b .index) (e .first .identifier) (e .second .identifier) (b .graph)) f
-effect-fits MaybeAlias o e c b f = grown 1 c b (relate intoMaybeAliases (b .index) (e .first .identifier) (e .second .identifier) (b .graph)) (relate-grows intoMaybeAliases (b .index) (e .first .identifier) (e .second .identifier) (b .graph)) f
-effect-fits Assign o e c b f = grown 1 c b (assign (b .index) (e .first .identifier) (e .second .identifier) (b .graph)) (assign-grows (b .index) (e .first .identifier) (e .second .identifier) (b .graph)) f
-effect-fits Create o e c b f = grown 0 c b (create (e .first .identifier) object (b .graph)) (create-grows (e .first .identifier) object (b .graph)) f
-effect-fits CreateFrom o e c b f = grown 1 c b (createFrom (b .index) (e .first .identifier) (e .second .identifier) (b .graph)) (createFrom-grows (b .index) (e .first .identifier) (e .second .identifier) (b .graph)) f
-effect-fits ImmutableCapture o e c b f = still c b f
-effect-fits Apply o e c b f = still c b f
-effect-fits CreateFunction o e c b f = grown 0 c b (create (e .first .identifier) (function (e .extra)) (b .graph)) (create-grows (e .first .identifier) (function (e .extra)) (b .graph)) f
-effect-fits MutateFrozen o e c b f = still c b f
-effect-fits MutateGlobal o e c b f = still c b f
-effect-fits Impure o e c b f = still c b f
-effect-fits Render o e c b f = still c b f
+  aliased-within : (from into : Place) (b : Built) → Within b → Within (between (relate intoAliases) from into b)
+  aliased-within from into b h =
+      related-within (λ (i : ℕ). relate intoAliases i (from .identifier) (into .identifier)) b (relate-grows intoAliases (b .index) (from .identifier) (into .identifier) (b .graph)) h
 
-operand-fits : (into : Place) (o : Operand) (c : ℕ) (b : Built) → Fits c b → Fits (1 + c) (operand into o b)
-unfolding operand
-operand-fits into o c b f = go (among (o .predecessor) (b .come))
-  where
-    go : (t : Bool) → Fits (1 + c) (pick t (related (λ (i : ℕ). relate intoAliases i (o .place .identifier) (into .identifier)) b) (waits (o .predecessor) (o .place .identifier) (into .identifier) b))
-    go true = grown 1 c b (relate intoAliases (b .index) (o .place .identifier) (into .identifier) (b .graph)) (relate-grows intoAliases (b .index) (o .place .identifier) (into .identifier) (b .graph)) f
-    go false = waits-fits (o .predecessor) (o .place .identifier) (into .identifier) c b f
+  mutates-within : (m : Mutation) (b : Built) → m .index ≡ b .index → Within b
+      → Within (record { graph = b .graph; index = suc (b .index); come = b .come; waiting = b .waiting; mutations = b .mutations ++ (m ∷ []); renders = b .renders })
+  unfolding given
+  mutates-within m b e h =
+      let l = tally-append (λ (m : Mutation). f (m .index)) (b .mutations) (m ∷ []) in
+      let w : f (m .index) ≡ f (b .index) = ap f e in
+      (omega (arith, l, w, h .0), omega (arith, l, w, h .1))
 
-phi-fits : (p : Phi) (c : ℕ) (b : Built) → Fits c b → Fits (length (p .operands) + c) (phiNode p b)
-unfolding phiNode
-phi-fits p c b f =
-    let w = create-grows (p .place .identifier) phi (b .graph) in
-    each-one (operand (p .place)) (operand-fits (p .place)) (p .operands) c (changed (create (p .place .identifier) phi) b) (omega (arith, w .0, f .0), omega (arith, w .1, f .1))
+  renders-within : (p : Place) (b : Built) → Within b → Within (renders p b)
+  unfolding given
+  renders-within p b h =
+      let l = tally-append (λ (r : RenderOf). f (r .index)) (b .renders) (record { index = b .index; identifier = p .identifier } ∷ []) in
+      (omega (arith, l, h .0), omega (arith, l, h .1))
 
-keep-split : {A : Type 0} (t : A → Bool) (l : List A) → length (keep t l) + length (keep (λ (a : A). not (t a)) l) ≡ length l
-keep-split t [] = refl
-keep-split t (a ∷ l) = go (t a) (keep-split t l)
-  where
-    go : (b : Bool) → length (keep t l) + length (keep (λ (a : _). not (t a)) l) ≡ length l
-        → length (consIf b a (keep t l)) + length (consIf (not b) a (keep (λ (a : _). not (t a)) l)) ≡ suc (length l)
-    go true h = omega arith
-    go false h = omega arith
+  waits-within : (p : ℕ) (from into : IdentifierId) (b : Built) → Within b → Within (waits p from into b)
+  unfolding given
+  waits-within p from into b h =
+      let l = tally-append (λ (w : Waiting). f (w .index)) (b .waiting) (record { predecessor = p; index = b .index; origin = from; into = into } ∷ []) in
+      (omega (arith, l, h .0), omega (arith, l, h .1))
 
--- those that wake are stored: each takes the place that it had while it waited
-woken-fits : (l : List Waiting) (c : ℕ) (b : Built) → (edges (b .graph) + length (b .waiting) + length l ≤ c) × (entries (b .graph) + length (b .waiting) + length l ≤ c)
-    → Fits c (each (λ (w : Waiting). changed (relate intoAliases (w .index) (w .origin) (w .into))) l b)
-woken-fits [] c b f = (omega (arith, f .0), omega (arith, f .1))
-woken-fits (w ∷ l) c b f =
-    let r = relate-grows intoAliases (w .index) (w .origin) (w .into) (b .graph) in
-    woken-fits l c (changed (relate intoAliases (w .index) (w .origin) (w .into)) b) (omega (arith, r .0, f .0), omega (arith, r .1, f .1))
+  effect-within : (t : EffectKind) (o : ℕ) (e : Effect) (b : Built) → Within b → Within (instructionEffect t o e b)
+  unfolding instructionEffect
+  effect-within Freeze o e b h = h
+  effect-within Mutate o e b h = mutates-within _ b refl h
+  effect-within MutateConditionally o e b h = mutates-within _ b refl h
+  effect-within MutateTransitive o e b h = mutates-within _ b refl h
+  effect-within MutateTransitiveConditionally o e b h = mutates-within _ b refl h
+  effect-within Capture o e b h =
+      related-within (λ (i : ℕ). relate intoCaptures i (e .first .identifier) (e .second .identifier)) b (relate-grows intoCaptures (b .index) (e .first .identifier) (e .second .identifier) (b .graph)) h
+  effect-within Alias o e b h = aliased-within (e .first) (e .second) b h
+  effect-within MaybeAlias o e b h =
+      related-within (λ (i : ℕ). relate intoMaybeAliases i (e .first .identifier) (e .second .identifier)) b (relate-grows intoMaybeAliases (b .index) (e .first .identifier) (e .second .identifier) (b .graph)) h
+  effect-within Assign o e b h =
+      related-within (λ (i : ℕ). assign i (e .first .identifier) (e .second .identifier)) b (assign-grows (b .index) (e .first .identifier) (e .second .identifier) (b .graph)) h
+  effect-within Create o e b h = created-within (e .first .identifier) object b h
+  effect-within CreateFrom o e b h =
+      related-within (λ (i : ℕ). createFrom i (e .first .identifier) (e .second .identifier)) b (createFrom-grows (b .index) (e .first .identifier) (e .second .identifier) (b .graph)) h
+  effect-within ImmutableCapture o e b h = h
+  effect-within Apply o e b h = h
+  effect-within CreateFunction o e b h = created-within (e .first .identifier) (function (e .extra)) b h
+  effect-within MutateFrozen o e b h = h
+  effect-within MutateGlobal o e b h = h
+  effect-within Impure o e b h = h
+  effect-within Render o e b h = renders-within (e .first) b h
 
-wake-fits : (n c : ℕ) (b : Built) → Fits c b → Fits c (wake n b)
-unfolding wake
-wake-fits n c b f =
-    let k = keep-split (waitingFor n) (b .waiting) in
-    woken-fits (keep (waitingFor n) (b .waiting)) c (stillWaiting n b) (omega (arith, k, f .0), omega (arith, k, f .1))
+  instruction-within : (i : Instruction) (b : Built) → Within b → Within (instruction i b)
+  unfolding instruction
+  instruction-within i b h = each-keeps (λ (e : Effect). instructionEffect (e .kind) (i .order) e) Within (i .effects) b (λ e m c q. effect-within (e .kind) (i .order) e c q) h
 
-terminalEffect-fits : (e : Effect) (c : ℕ) (b : Built) → Fits c b → Fits (oneIf (isAlias (e .kind)) + c) (terminalEffect e b)
-unfolding terminalEffect
-terminalEffect-fits e c b f = go (isAlias (e .kind))
-  where
-    go : (t : Bool) → Fits (oneIf t + c) (pick t (related (λ (i : ℕ). relate intoAliases i (e .first .identifier) (e .second .identifier)) b) b)
-    go true = grown 1 c b (relate intoAliases (b .index) (e .first .identifier) (e .second .identifier) (b .graph)) (relate-grows intoAliases (b .index) (e .first .identifier) (e .second .identifier) (b .graph)) f
-    go false = still c b f
+  operand-within : (into : Place) (o : Operand) (b : Built) → Within b → Within (operand into o b)
+  unfolding operand
+  operand-within into o b h = go (among (o .predecessor) (b .come))
+    where
+      go : (t : Bool) → Within (pick t (between (relate intoAliases) (o .place) into b) (waits (o .predecessor) (o .place .identifier) (into .identifier) b))
+      go true = aliased-within (o .place) into b h
+      go false = waits-within (o .predecessor) (o .place .identifier) (into .identifier) b h
 
-terminal-fits : (r : Place) (t : Terminal) (c : ℕ) (b : Built) → Fits c b → Fits (terminalRelations t + c) (terminal r t b)
-unfolding terminal
-terminal-fits r (Other o) c b f = still c b f
-terminal-fits r (Return o p l) c b f =
-    weaken (aliasesIn l + (1 + c)) (suc (aliasesIn l) + c) (terminal r (Return o p l) b) (omega arith)
-    (each-fits terminalEffect (λ (e : Effect). oneIf (isAlias (e .kind))) terminalEffect-fits l (1 + c) _
-    (grown 1 c b (relate intoAliases (b .index) (p .identifier) (r .identifier) (b .graph)) (relate-grows intoAliases (b .index) (p .identifier) (r .identifier) (b .graph)) f))
-terminal-fits r (MaybeThrow o l) c b f = each-fits terminalEffect (λ (e : Effect). oneIf (isAlias (e .kind))) terminalEffect-fits l c b f
+  phi-within : (p : Phi) (b : Built) → Within b → Within (phiNode p b)
+  unfolding phiNode
+  phi-within p b h = each-keeps (operand (p .place)) Within (p .operands) (changed (create (p .place .identifier) phi) b) (λ o m c q. operand-within (p .place) o c q) (created-within (p .place .identifier) phi b h)
 
-instruction-fits : (i : Instruction) (c : ℕ) (b : Built) → Fits c b → Fits (tally (λ (e : Effect). oneIf (isRelation (rowOf (e .kind) .role))) (i .effects) + c) (instruction i b)
-unfolding instruction
-instruction-fits i c b f =
-    each-fits (λ (e : Effect). instructionEffect (e .kind) (i .order) e) (λ (e : Effect). oneIf (isRelation (rowOf (e .kind) .role))) (λ e d a g. effect-fits (e .kind) (i .order) e d a g) (i .effects) c b f
+  -- those that wake are stored: each takes the place that it had while it waited
+  woken-within : (l : List Waiting) (b : Built)
+      → (edgesBy f (b .graph) + waitingBy (b .waiting) + walksBy f b + waitingBy l ≤ given (b .index)) × (entriesBy f (b .graph) + waitingBy (b .waiting) + walksBy f b + waitingBy l ≤ given (b .index))
+      → Within (each (λ (w : Waiting). changed (relate intoAliases (w .index) (w .origin) (w .into))) l b)
+  woken-within [] b h = (omega (arith, h .0), omega (arith, h .1))
+  woken-within (w ∷ l) b h =
+      let r = relate-grows intoAliases (w .index) (w .origin) (w .into) (b .graph) in
+      woken-within l (changed (relate intoAliases (w .index) (w .origin) (w .into)) b) (omega (arith, r .0, h .0), omega (arith, r .1, h .1))
 
-block-fits : (r : Place) (k : Block) (c : ℕ) (b : Built) → Fits c b → Fits (blockRelations k + c) (block r k b)
-unfolding block blockRelations
-block-fits r k c b f =
-    let cp : ℕ = tally (λ (p : Phi). length (p .operands)) (k .phis) in
-    let ci : ℕ = withRole isRelation (k .instructions) in
-    let ct : ℕ = terminalRelations (k .terminal) in
-    weaken (ct + (ci + (cp + c))) (cp + (ci + ct) + c) (block r k b) (omega arith)
-    (terminal-fits r (k .terminal) (ci + (cp + c)) _
-    (wake-fits (k .number) (ci + (cp + c)) _
-    (each-fits instruction _ instruction-fits (k .instructions) (cp + c) _
-    (each-fits phiNode (λ (p : Phi). length (p .operands)) phi-fits (k .phis) c b f))))
+  wake-within : (n : ℕ) (b : Built) → Within b → Within (wake n b)
+  unfolding wake
+  wake-within n b h =
+      let k = tally-split (λ (w : Waiting). f (w .index)) (waitingFor n) (b .waiting) in
+      woken-within (keep (waitingFor n) (b .waiting)) (stillWaiting n b) (omega (arith, k, h .0), omega (arith, k, h .1))
 
-none-stored : (n : ℕ) → (edges (noNodes n) ≤ 0) × (entries (noNodes n) ≤ 0)
-none-stored zero = (omega arith, omega arith)
-none-stored (suc n) = let h = none-stored n in (omega (arith, h .0), omega (arith, h .1))
+  terminalEffect-within : (e : Effect) (b : Built) → Within b → Within (terminalEffect e b)
+  unfolding terminalEffect
+  terminalEffect-within e b h = go (isAlias (e .kind))
+    where
+      go : (t : Bool) → Within (pick t (between (relate intoAliases) (e .first) (e .second) b) b)
+      go true = aliased-within (e .first) (e .second) b h
+      go false = h
 
-first-stored : (ps : List Place) (g : Graph) → edges g ≤ 0 → entries g ≤ 0
-    → (edges (each (λ (p : Place). create (p .identifier) object) ps g) ≤ 0) × (entries (each (λ (p : Place). create (p .identifier) object) ps g) ≤ 0)
-first-stored [] g h k = (h, k)
-first-stored (p ∷ ps) g h k = let c = create-grows (p .identifier) object g in first-stored ps (create (p .identifier) object g) (omega (arith, c .0)) (omega (arith, c .1))
+  terminal-within : (r : Place) (t : Terminal) (b : Built) → Within b → Within (terminal r t b)
+  unfolding terminal
+  terminal-within r (Other o) b h = h
+  terminal-within r (Return o p l) b h =
+      each-keeps terminalEffect Within l (between (relate intoAliases) p r b) (λ e m c q. terminalEffect-within e c q) (aliased-within p r b h)
+  terminal-within r (MaybeThrow o l) b h = each-keeps terminalEffect Within l b (λ e m c q. terminalEffect-within e c q) h
 
--- R bounds the forward edges and the entries stored
-pub build-stores : (s : Sheet) → (edges (build s .graph) ≤ totals s .relations) × (entries (build s .graph) ≤ totals s .relations)
-unfolding build firstNodes totals
-build-stores s =
-    let z = none-stored mostIdentifiers in
-    let f = first-stored (firstPlaces s) (noNodes mostIdentifiers) (z .0) (z .1) in
-    let r = each-fits (block (s .returns)) blockRelations (block-fits (s .returns)) (s .blocks) 0
-    (record { graph = firstNodes s; index = 0; come = []; waiting = []; mutations = []; renders = [] }) (omega (arith, f .0), omega (arith, f .1)) in
-    (omega (arith, r .0), omega (arith, r .1))
+  block-within : (r : Place) (k : Block) (b : Built) → Within b → Within (block r k b)
+  unfolding block
+  block-within r k b h =
+      let b₁ : Built = each phiNode (k .phis) b in
+      let b₂ : Built = each instruction (k .instructions) (comes (k .number) b₁) in
+      terminal-within r (k .terminal) (wake (k .number) b₂)
+      (wake-within (k .number) b₂
+      (each-keeps instruction Within (k .instructions) (comes (k .number) b₁) (λ i m c q. instruction-within i c q)
+      (each-keeps phiNode Within (k .phis) b (λ p m c q. phi-within p c q) h)))
+
+  none-stored : (n : ℕ) → (edgesBy f (noNodes n) ≤ 0) × (entriesBy f (noNodes n) ≤ 0)
+  none-stored zero = (omega arith, omega arith)
+  none-stored (suc n) = let h = none-stored n in (omega (arith, h .0), omega (arith, h .1))
+
+  first-stored : (ps : List Place) (g : Graph) → (edgesBy f g ≤ 0) × (entriesBy f g ≤ 0)
+      → (edgesBy f (each (λ (p : Place). create (p .identifier) object) ps g) ≤ 0) × (entriesBy f (each (λ (p : Place). create (p .identifier) object) ps g) ≤ 0)
+  first-stored ps g h =
+      each-keeps (λ (p : Place). create (p .identifier) object) (λ (g : Graph). (edgesBy f g ≤ 0) × (entriesBy f g ≤ 0)) ps g
+      (λ p m c q. let w = create-grows (p .identifier) object c in (omega (arith, w .0, q .0), omega (arith, w .1, q .1))) h
+
+  pub build-within : (s : Sheet) → Within (build s)
+  unfolding build firstNodes given
+  build-within s =
+      let z = first-stored (firstPlaces s) (noNodes mostIdentifiers) (none-stored mostIdentifiers) in
+      each-keeps (block (s .returns)) Within (s .blocks) (record { graph = firstNodes s; index = 0; come = []; waiting = []; mutations = []; renders = [] })
+      (λ k m c q. block-within (s .returns) k c q) (omega (arith, z .0), omega (arith, z .1))

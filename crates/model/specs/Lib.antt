@@ -30,3 +30,4 @@ pub mod Demand3
 pub mod Bound
 pub mod Assertion
 pub mod Quiet
+pub mod Indexes

@@ -1,10 +1,10 @@
--- What an accepted sheet's tree is known to hold: N is at most 512, every identifier is below N, every inner function below their count (document 01, "The sheet").
+-- What an accepted sheet's tree is known to hold: its sections keep to their limits, every identifier is below N, every inner function below their count (document 01, "The sheet").
 use Prim.Native.Nat.{ℕ, _<_, _≤_}
 use mathlib.Core.Path.{_≡_}
 use mathlib.Core.Bool.{true}
 use mathlib.Core.List.{List}
 use lib.ListN.{length}
-use Rattle.model.specs.Limits.{mostIdentifiers}
+use Rattle.model.specs.Limits.{mostIdentifiers, mostFunctions, mostParams, mostContext}
 use Rattle.model.specs.Lists.{Every}
 use Rattle.model.specs.Sheet.{Place, Effect, Operand, Phi, Instruction, Terminal, Other, Return, MaybeThrow, Block, Sheet}
 use Rattle.model.specs.Effects.{isCreateFunction}
@@ -33,6 +33,9 @@ BlockBelow n m b = Every (PhiBelow n) (b .phis) × Every (λ (i : Instruction). 
 
 pub record SheetBelow (s : Sheet) : Type 0 where
   pub identifiers : length (s .identifiers) ≤ mostIdentifiers
+  pub functions : length (s .functions) ≤ mostFunctions
+  pub paramCount : length (s .params) ≤ mostParams
+  pub contextCount : length (s .context) ≤ mostContext
   pub params : Every (PlaceBelow (length (s .identifiers))) (s .params)
   pub context : Every (PlaceBelow (length (s .identifiers))) (s .context)
   pub returns : PlaceBelow (length (s .identifiers)) (s .returns)
