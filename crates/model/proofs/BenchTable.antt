@@ -1,8 +1,10 @@
--- Cases 1 to 8 of document 01, and the cases of our own: each table holds as a whole, by computing with the definitions. Regenerate the lists below when a definition is added.
+-- The tables of cases hold as a whole, by computing with the definitions: cases 1 to 8 of document 01, cases of our own, and a call for each refusal.
+-- The lists below name every definition of specs/ that a table computes with; a definition that is added there is added here.
 use lib.Dec.{T}
 use Rattle.model.specs.Bench.{right}
 use Rattle.model.specs.Table.{table}
 use Rattle.model.specs.Ours.{ours}
+use Rattle.model.specs.Refusals.{calls, refusedSo}
 use Rattle.model.specs.Answer.{summary, diagnosed, answer, answerWords}
 use Rattle.model.specs.Building.{instructionEffect, instruction, operand, phiNode, wake, terminalEffect, terminal, block, firstNodes, build}
 use Rattle.model.specs.Call.{ended, read, fits, answered, outcome, answerAfter, workspaceAfter}
@@ -17,14 +19,18 @@ use Rattle.model.specs.Simulated.{tracked, simulation, flowEffects, simu
 use Rattle.model.specs.Size.{enough}
 use Rattle.model.specs.State.{accepts}
 use Rattle.model.specs.Summary.{copied, recorded, sheetEnds, built, realWalks, afterReal, afterRenders, collectParamEffects, captureMark, marked, createReturns}
-use Rattle.model.specs.Traits.{effectOf, reactiveOf, traitsWord}
 use Rattle.model.specs.Totals.{instructionEffects, blockRelations, totals, over, judged}
+use Rattle.model.specs.Traits.{effectOf, reactiveOf, traitsWord}
 use Rattle.model.specs.Walks.{pushes, visit, step, run, walkOf, mutate}
 
 pub table-right : T (right table)
-unfolding effectOf reactiveOf traitsWord summary diagnosed answer answerWords instructionEffect instruction operand phiNode wake terminalEffect terminal block firstNodes build ended read fits answered outcome answerAfter workspaceAfter kindOf rowOf create enter withEdge withEntry change store relate assign createFrom word count fixed atMost below newNumber times numbered counted renderPushes renderVisit renderStep renderRun renderWalk walksOf after rendersOf rendered reached largestEnd flag flags identifier diagnostic innerFunction place unused extra effect effects operand-Sections phi instruction-Sections terminalOf terminal-Sections block-Sections sheet taken serves call tracked simulation flowEffects simulate enough accepts copied recorded sheetEnds built realWalks afterReal afterRenders collectParamEffects captureMark marked createReturns instructionEffects blockRelations totals over judged pushes visit step run walkOf mutate right table
+unfolding summary diagnosed answer answerWords instructionEffect instruction operand phiNode wake terminalEffect terminal block firstNodes build ended read fits answered outcome answerAfter workspaceAfter kindOf rowOf create enter withEdge withEntry change store relate assign createFrom word count fixed atMost below newNumber times numbered counted renderPushes renderVisit renderStep renderRun renderWalk walksOf after rendersOf rendered reached largestEnd flag flags identifier diagnostic innerFunction place unused extra effect effects operand-Sections phi instruction-Sections terminalOf terminal-Sections block-Sections sheet taken serves call tracked simulation flowEffects simulate enough accepts copied recorded sheetEnds built realWalks afterReal afterRenders collectParamEffects captureMark marked createReturns instructionEffects blockRelations totals over judged effectOf reactiveOf traitsWord pushes visit step run walkOf mutate right table
 table-right = tt
 
 pub ours-right : T (right ours)
-unfolding effectOf reactiveOf traitsWord summary diagnosed answer answerWords instructionEffect instruction operand phiNode wake terminalEffect terminal block firstNodes build ended read fits answered outcome answerAfter workspaceAfter kindOf rowOf create enter withEdge withEntry change store relate assign createFrom word count fixed atMost below newNumber times numbered counted renderPushes renderVisit renderStep renderRun renderWalk walksOf after rendersOf rendered reached largestEnd flag flags identifier diagnostic innerFunction place unused extra effect effects operand-Sections phi instruction-Sections terminalOf terminal-Sections block-Sections sheet taken serves call tracked simulation flowEffects simulate enough accepts copied recorded sheetEnds built realWalks afterReal afterRenders collectParamEffects captureMark marked createReturns instructionEffects blockRelations totals over judged pushes visit step run walkOf mutate right ours
+unfolding summary diagnosed answer answerWords instructionEffect instruction operand phiNode wake terminalEffect terminal block firstNodes build ended read fits answered outcome answerAfter workspaceAfter kindOf rowOf create enter withEdge withEntry change store relate assign createFrom word count fixed atMost below newNumber times numbered counted renderPushes renderVisit renderStep renderRun renderWalk walksOf after rendersOf rendered reached largestEnd flag flags identifier diagnostic innerFunction place unused extra effect effects operand-Sections phi instruction-Sections terminalOf terminal-Sections block-Sections sheet taken serves call tracked simulation flowEffects simulate enough accepts copied recorded sheetEnds built realWalks afterReal afterRenders collectParamEffects captureMark marked createReturns instructionEffects blockRelations totals over judged effectOf reactiveOf traitsWord pushes visit step run walkOf mutate right ours
 ours-right = tt
+
+pub calls-refused : T (refusedSo calls)
+unfolding summary diagnosed answer answerWords instructionEffect instruction operand phiNode wake terminalEffect terminal block firstNodes build ended read fits answered outcome answerAfter workspaceAfter kindOf rowOf create enter withEdge withEntry change store relate assign createFrom word count fixed atMost below newNumber times numbered counted renderPushes renderVisit renderStep renderRun renderWalk walksOf after rendersOf rendered reached largestEnd flag flags identifier diagnostic innerFunction place unused extra effect effects operand-Sections phi instruction-Sections terminalOf terminal-Sections block-Sections sheet taken serves call tracked simulation flowEffects simulate enough accepts copied recorded sheetEnds built realWalks afterReal afterRenders collectParamEffects captureMark marked createReturns instructionEffects blockRelations totals over judged effectOf reactiveOf traitsWord pushes visit step run walkOf mutate refusedSo calls
+calls-refused = tt

@@ -246,8 +246,11 @@ roleIn f i = tally (λ (e : Effect). byRole f (e .kind)) (i .effects)
 instruction-spends : (i : Instruction) → tally (λ (e : Effect). spends (e .kind)) (i .effects) ≡ roleIn isRelation i + (roleIn isMutation i + roleIn isRender i)
 unfolding spends
 instruction-spends i =
-    omega (arith, tally-sum (λ (e : Effect). byRole isRelation (e .kind)) (λ (e : Effect). byRole isMutation (e .kind) + byRole isRender (e .kind)) (i .effects),
-    tally-sum (λ (e : Effect). byRole isMutation (e .kind)) (λ (e : Effect). byRole isRender (e .kind)) (i .effects))
+    omega (
+      arith,
+      tally-sum (λ (e : Effect). byRole isRelation (e .kind)) (λ (e : Effect). byRole isMutation (e .kind) + byRole isRender (e .kind)) (i .effects),
+      tally-sum (λ (e : Effect). byRole isMutation (e .kind)) (λ (e : Effect). byRole isRender (e .kind)) (i .effects),
+    )
 
 instructions-spend : (l : List Instruction) → tally (λ (i : Instruction). tally (λ (e : Effect). spends (e .kind)) (i .effects)) l ≡ withRole isRelation l + (withRole isMutation l + withRole isRender l)
 instructions-spend l =

@@ -8,7 +8,7 @@ pub mod Follow
 pub mod Potential
 pub mod Twice
 pub mod Fuel
-pub mod Alike
+pub mod GraphAlone
 pub mod Ends
 pub mod Sets
 pub mod Steady
@@ -22,8 +22,8 @@ pub mod Either
 pub mod Everywhere
 pub mod WhenRead
 pub mod Bound
-pub mod Assertion
-pub mod Order
+pub mod NodeAssertion
+pub mod AllRefusals
 pub mod Distinct
 pub mod Quiet
 pub mod Counted

@@ -12,7 +12,7 @@ use Rattle.model.specs.Mutation.{Mutation}
 use Rattle.model.specs.State.{State, Mode, real}
 use Rattle.model.specs.Walks.{Item, Walk, mutate}
 use Rattle.model.specs.Runs.{walksOf, after, holds, reached, maxIf, largestEnd, EachWalk, SameMutations}
-use Rattle.model.proofs.Alike.{Alike, mutate-alike}
+use Rattle.model.proofs.GraphAlone.{Alike, mutate-alike}
 use Rattle.model.proofs.Ends.{mutate-graph, after-length, after-end}
 
 -- what holds of any mutation's walk on a state with this graph holds of each walk of a run

@@ -21,8 +21,10 @@ pub mod Answer
 pub mod Call
 pub mod Service
 pub mod Bench
+pub mod Small
 pub mod Table
 pub mod Ours
+pub mod Refusals
 pub mod Ranges
 pub mod Distinct
 pub mod Chain
