@@ -1,4 +1,8 @@
+-- The theorems about the definitions, and the laws behind them.
+-- the tables of cases and the order of the refusals
 pub mod BenchTable
+pub mod AllRefusals
+-- one walk: an induction principle, and what it gives
 pub mod Induct
 pub mod Members
 pub mod Raised
@@ -9,24 +13,28 @@ pub mod Potential
 pub mod Twice
 pub mod Fuel
 pub mod GraphAlone
+-- lists of mutations
 pub mod Ends
 pub mod Sets
+-- building
 pub mod Steady
 pub mod Nodes
 pub mod Stored
-pub mod RenderBound
-pub mod Demand3
-pub mod ReadLaws
-pub mod InRange
-pub mod Either
-pub mod Everywhere
-pub mod WhenRead
-pub mod Bound
-pub mod NodeAssertion
-pub mod AllRefusals
-pub mod Distinct
-pub mod Quiet
 pub mod Counted
 pub mod Indexes
+-- renders
+pub mod RenderBound
+-- reading
+pub mod Either
+pub mod Everywhere
+pub mod ReadLaws
+pub mod InRange
+pub mod Distinct
+pub mod WhenRead
+-- the theorems about whole sheets
+pub mod Bound
+pub mod NodeAssertion
 pub mod IndexesBelow
+pub mod Quiet
+pub mod Demand3
 pub mod Buffers

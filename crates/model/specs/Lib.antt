@@ -1,3 +1,5 @@
+-- The definitions of document 01, in its order.
+-- "Answers and refusals" and "The sheet": limits, the tree, one reading, the totals
 pub mod Limits
 pub mod Lists
 pub mod Sheet
@@ -6,10 +8,12 @@ pub mod Effects
 pub mod Reading
 pub mod Sections
 pub mod Totals
+-- "Building"
 pub mod Graph
 pub mod Mutation
 pub mod Built
 pub mod Building
+-- "Walks"
 pub mod Size
 pub mod State
 pub mod Walks
@@ -17,19 +21,22 @@ pub mod Renders
 pub mod Runs
 pub mod Summary
 pub mod Simulated
+-- "The answer", and the call and the service of "Answers and refusals"
 pub mod Answer
 pub mod Call
 pub mod Service
+-- "Bench cases", and tables of our own
 pub mod Bench
 pub mod Small
 pub mod Table
 pub mod Ours
 pub mod Refusals
+-- what is claimed of all this; proofs/ has the theorems
 pub mod Ranges
 pub mod Distinct
-pub mod Chain
-pub mod Demand3
+pub mod Indexes
 pub mod Bound
 pub mod Assertion
 pub mod Quiet
-pub mod Indexes
+pub mod Chain
+pub mod Demand3
