@@ -1,0 +1,3 @@
+//! Stand-in: the one pass, cut by `cut.rs`.
+
+include!(concat!(env!("OUT_DIR"), "/cut.rs"));

@@ -1,0 +1,78 @@
+//! check --cases            the bench cases of document 01, its limits and refusals
+//! check --smallest FILE..  sheets with their answers, as text
+//!
+//! In such a file `#` begins a comment, a line that begins with `=` is a line of
+//! the answer, and every other line has words of the sheet, in decimal. The plain
+//! reader is held to all lines, the original to the first five.
+
+use std::process::ExitCode;
+
+use oracle::cases::{CASES, FURTHER};
+use oracle::compare::{lines, original_lines};
+use oracle::plain;
+
+struct Text {
+    words: Vec<u32>,
+    answer: Vec<String>,
+}
+
+fn parse(text: &str) -> Result<Text, String> {
+    let mut parsed = Text { words: Vec::new(), answer: Vec::new() };
+    for line in text.lines() {
+        let line = line.split('#').next().unwrap_or_default().trim();
+        if let Some(answer) = line.strip_prefix('=') {
+            parsed.answer.push(answer.trim().to_string());
+            continue;
+        }
+        for word in line.split_whitespace() {
+            parsed.words.push(word.parse().map_err(|_| format!("{word} is no word"))?);
+        }
+    }
+    Ok(parsed)
+}
+
+fn check(file: &str) -> Result<(), String> {
+    let text = std::fs::read_to_string(file).map_err(|e| e.to_string())?;
+    let text = parse(&text)?;
+    let plain = lines(&plain::outcome(&text.words, 16_384, usize::MAX));
+    if plain != text.answer {
+        return Err(format!("plain reader:\n= {}", plain.join("\n= ")));
+    }
+    if let Ok(sheet) = plain::read(&text.words) {
+        let original = original_lines(&sheet);
+        if original != text.answer[..5] {
+            return Err(format!("original:\n= {}", original.join("\n= ")));
+        }
+    }
+    Ok(())
+}
+
+fn main() -> ExitCode {
+    let mut arguments = std::env::args().skip(1);
+    let results: Vec<(String, Result<(), String>)> = match arguments.next().as_deref() {
+        Some("--cases") => {
+            let named = |(n, case): (usize, &fn() -> Result<(), String>)| {
+                (format!("case {}", n + 1), case())
+            };
+            let further = FURTHER.iter().map(|(name, case)| (name.to_string(), case()));
+            CASES.iter().enumerate().map(named).chain(further).collect()
+        }
+        Some("--smallest") => arguments.map(|f| (f.clone(), check(&f))).collect(),
+        _ => {
+            eprintln!("check --cases | check --smallest FILE..");
+            return ExitCode::from(2);
+        }
+    };
+    let mut failed = 0;
+    for (name, result) in &results {
+        match result {
+            Ok(()) => println!("{name}: holds"),
+            Err(message) => {
+                failed += 1;
+                println!("{name}: {message}");
+            }
+        }
+    }
+    println!("{} checked, {failed} failed", results.len());
+    ExitCode::from((failed > 0) as u8)
+}

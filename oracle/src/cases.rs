@@ -1,0 +1,243 @@
+//! The bench cases of document 01, with the numbers that it gives.
+
+use crate::compare::{compare, roomy};
+use crate::damage::{Call, Room};
+use crate::generate::{self, LIMITS, Limit, PASSABLE};
+use crate::plain::building::build;
+use crate::plain::sheet::{
+    Block, Effect, Identifier, Instruction, Phi, Place, Sheet, Terminal, WORKSPACE_WORDS,
+};
+use crate::plain::walks::trace;
+use crate::plain::{self, Answer, Outcome};
+use crate::random::Random;
+
+pub const CASE_1: &str = "2 0 1 / 3 0 0 0 0 0 0 0 0 0 / 0 / 1 0 0 5 / 0 / 1 2 0 0 / 1 0 0 2 1 2 9 1 0 0 0 0 0 0 5 0 0 0 1 0 0 0 2 1 3 1 0 7 0 0 0 0 1 3 1 0 0 0";
+
+const ANSWER_1: [&str; 6] = [
+    "ranges 3 0 3 0 3 0 0",
+    "params 1 0 3 5",
+    "context 0",
+    "diagnostics 0",
+    "effects 3 3 0 0 7 0 0 0 0 9 2 0 0 0 0 0 0 6 0 3 5 2 0 0 0",
+    "walks 3 3 5 5",
+];
+
+fn place(identifier: u32) -> Place {
+    Place { identifier, traits: 0, span: 0 }
+}
+
+fn one(kind: u32, identifier: u32) -> Effect {
+    Effect { kind, first: place(identifier), ..Effect::default() }
+}
+
+fn two(kind: u32, from: u32, into: u32) -> Effect {
+    Effect { kind, first: place(from), second: place(into), extra: 0 }
+}
+
+/// Every effect in an instruction of its own, orders from 1.
+fn block(number: u32, effects: &[Effect]) -> Block {
+    let instructions = (1..)
+        .zip(effects)
+        .map(|(order, effect)| Instruction { order, effects: vec![*effect] })
+        .collect();
+    Block { number, phis: Vec::new(), instructions, terminal: Terminal::Other { order: 9 } }
+}
+
+fn sheet(identifiers: usize, params: &[u32], returns: u32, blocks: Vec<Block>) -> Sheet {
+    Sheet {
+        function_expression: false,
+        validations: true,
+        identifiers: vec![Identifier::default(); identifiers],
+        functions: Vec::new(),
+        params: params.iter().map(|&p| place(p)).collect(),
+        context: Vec::new(),
+        returns: place(returns),
+        blocks,
+    }
+}
+
+/// The answer, on which the original and the plain reader agree.
+fn agreed(sheet: &Sheet) -> Result<Answer, String> {
+    let (refusal, difference) = compare(&roomy(&sheet.words()), &mut []);
+    match difference {
+        Some(d) => Err(format!("{} differs: {:?} / {:?}", d.side, d.got, d.expected)),
+        None if refusal > 0 => Err(format!("refused {refusal}")),
+        None => Ok(plain::answer(sheet)),
+    }
+}
+
+fn is<T: PartialEq + std::fmt::Debug>(what: &str, got: T, expected: T) -> Result<(), String> {
+    if got == expected { Ok(()) } else { Err(format!("{what}: {got:?}, not {expected:?}")) }
+}
+
+/// The identifiers accepted by a walk, in order.
+fn accepted(sheet: &Sheet, walk: usize) -> Vec<u32> {
+    let traced = trace(sheet, build(sheet));
+    traced.walks[walk].accepted.iter().map(|s| s.identifier).collect()
+}
+
+fn case_1() -> Result<(), String> {
+    let words: Vec<u32> = CASE_1.split_whitespace().filter_map(|w| w.parse().ok()).collect();
+    let sheet = plain::read(&words).map_err(|r| format!("refused {r}"))?;
+    is("lines", agreed(&sheet)?.lines(), ANSWER_1.map(String::from).to_vec())
+}
+
+fn case_2() -> Result<(), String> {
+    let answer = agreed(&sheet(1, &[], 0, Vec::new()))?;
+    is("effects", answer.effects, vec![one(9, 0)])?;
+    is("walks", answer.walks, vec![1])?;
+    let answer = agreed(&sheet(3, &[0, 1], 2, Vec::new()))?;
+    is("effects", answer.effects, vec![one(9, 2), two(5, 1, 0)])
+}
+
+fn case_3() -> Result<(), String> {
+    let sheet = sheet(3, &[], 2, vec![block(0, &[two(10, 0, 1), one(1, 1)])]);
+    let answer = agreed(&sheet)?;
+    is("entries", answer.walks[0], 2)?;
+    is("end of 0", answer.ranges[0].1, 0)?;
+    is("end of 1", answer.ranges[1].1, 3)
+}
+
+fn case_4() -> Result<(), String> {
+    let sheet = sheet(3, &[0, 1], 2, vec![block(0, &[two(5, 0, 1), one(1, 1)])]);
+    let answer = agreed(&sheet)?;
+    is("entries", answer.walks[0], 1)?;
+    is("accepted", accepted(&sheet, 0), vec![1])?;
+    is("end of 0", answer.ranges[0].1, 0)
+}
+
+fn case_5() -> Result<(), String> {
+    let (x, y, p) = (0, 1, 2);
+    let mut first = block(0, &[one(1, x), two(6, x, y)]);
+    first.phis.push(Phi { place: place(p), operands: vec![(1, place(x))] });
+    let sheet = sheet(4, &[x, y], 3, vec![first, block(1, &[])]);
+    let answer = agreed(&sheet)?;
+    is("entries", answer.walks[0], 1)?;
+    is("end of the phi", answer.ranges[p as usize].1, 0)?;
+    let built = build(&sheet);
+    let edges = &built.nodes[x as usize].as_ref().ok_or("x has no node")?.edges;
+    is("stored order", edges.iter().map(|e| e.index).collect(), vec![2, 0])
+}
+
+fn case_6() -> Result<(), String> {
+    let (a, b, p) = (0, 1, 2);
+    for (mutated, entries, reached) in [(a, 2, vec![a, p]), (p, 5, vec![p, b, a])] {
+        let mut last = block(2, &[one(1, mutated)]);
+        last.phis.push(Phi { place: place(p), operands: vec![(0, place(a)), (1, place(b))] });
+        let sheet = sheet(4, &[a, b], 3, vec![block(0, &[]), block(1, &[]), last]);
+        is("entries", agreed(&sheet)?.walks[0], entries)?;
+        is("accepted", accepted(&sheet, 0), reached)?;
+    }
+    Ok(())
+}
+
+fn case_7() -> Result<(), String> {
+    let effects = [two(6, 0, 1), two(7, 0, 1), one(1, 0)];
+    let sheet = sheet(3, &[0, 1], 2, vec![block(0, &effects)]);
+    is("entries", agreed(&sheet)?.walks[0], 7)?;
+    is("accepted", accepted(&sheet, 0), vec![0, 1, 1])
+}
+
+fn case_8() -> Result<(), String> {
+    let words = sheet(1, &[], 0, Vec::new()).words();
+    let mut next = u32::MAX;
+    for serial in [Some(u32::MAX), Some(0)] {
+        is("serial", plain::turn(&mut next, &words, WORKSPACE_WORDS, 16_384).1, serial)?;
+    }
+    is("refused", plain::turn(&mut next, &words, 0, 16_384).1, None)?;
+    is("state", next, 1)
+}
+
+fn refusal(call: &Call) -> Result<u32, String> {
+    match compare(call, &mut []) {
+        (refusal, None) => Ok(refusal),
+        (_, Some(difference)) => Err(format!("{difference:?}")),
+    }
+}
+
+fn case_9() -> Result<(), String> {
+    let good = roomy(&sheet(1, &[], 0, Vec::new()).words());
+    let workspace = |workspace| Call { workspace, ..good.clone() };
+    is("workspace 16,383", refusal(&workspace(16_383))?, 1)?;
+    is("workspace 16,384", refusal(&workspace(16_384))?, 0)?;
+    let mut random = Random::new(9);
+    for limit in [Limit::Relations, Limit::PhiRelations] {
+        let at = generate::at_limit(&mut random, limit);
+        is("relations", at.totals().relations, 1_024)?;
+        is("1,024 relations", refusal(&roomy(&at.words()))?, 0)?;
+        let past = generate::past_limit(&mut random, limit);
+        is("relations", past.totals().relations, 1_025)?;
+        is("1,025 relations", refusal(&roomy(&past.words()))?, 8)?;
+    }
+    is("room as the answer", refusal(&Call { room: Room::Exact, ..good.clone() })?, 0)?;
+    is("one answer word short", refusal(&Call { room: Room::Short(1), ..good.clone() })?, 9)?;
+    let Outcome::Accepted(words) = plain::outcome(&good.sheet, good.workspace, usize::MAX) else {
+        return Err("refused".into());
+    };
+    is("answer", words, vec![1, 0, 0, 0, 0, 0, 1, 9, 0, 0, 0, 0, 0, 0, 0, 1, 1])
+}
+
+/// Every limit: met exactly it is accepted, passed by one it is refused.
+fn limits() -> Result<(), String> {
+    let mut random = Random::new(10);
+    for limit in LIMITS {
+        let at = generate::at_limit(&mut random, limit);
+        is(&format!("{limit:?} met"), refusal(&roomy(&at.words()))?, 0)?;
+        let totals = at.totals();
+        match limit {
+            Limit::Mutations => is("mutations", totals.mutations, 512)?,
+            Limit::Renders => is("renders", totals.renders, 256)?,
+            Limit::Words => is("words", at.words().len(), 16_384)?,
+            _ => {}
+        }
+    }
+    for limit in PASSABLE {
+        let past = generate::past_limit(&mut random, limit).words();
+        let expected = match limit {
+            Limit::Words => 2,
+            Limit::Relations | Limit::PhiRelations | Limit::Mutations | Limit::Renders => 8,
+            _ => 4,
+        };
+        is(&format!("{limit:?} passed"), refusal(&roomy(&past))?, expected)?;
+    }
+    Ok(())
+}
+
+/// For one word the lower number, and the first faulty word decides.
+fn refusal_order() -> Result<(), String> {
+    let good = sheet(1, &[], 0, vec![block(7, &[]), block(8, &[])]).words();
+    // The words of the second block: number, phis, instructions, terminal, order.
+    let number = good.len() - 5;
+    let with = |changes: &[(usize, u32)], length: usize| {
+        let mut words = good.clone();
+        changes.iter().for_each(|&(at, word)| words[at] = word);
+        words.resize(length, 0);
+        refusal(&roomy(&words))
+    };
+    let whole = good.len();
+    is("good", with(&[], whole)?, 0)?;
+    is("number again", with(&[(number, 7)], whole)?, 6)?;
+    is("number past its range", with(&[(number, 65_536)], whole)?, 5)?;
+    is("6 before 4", with(&[(number, 7), (number + 1, 1_025)], whole)?, 6)?;
+    is("4 before 5", with(&[(number + 1, 1_025), (number + 3, 3)], whole)?, 4)?;
+    is("5 before 3", with(&[(number + 3, 3)], whole - 1)?, 5)?;
+    is("3", with(&[], whole - 1)?, 3)?;
+    is("5 before 7", with(&[(number + 4, 1_000_000)], whole + 1)?, 5)?;
+    is("7", with(&[], whole + 1)?, 7)?;
+    is("2 before all others", with(&[(0, 9)], 16_385)?, 2)?;
+    is("7 up to 16,384 words", with(&[], 16_384)?, 7)?;
+    is("flags 3", with(&[(0, 3)], whole)?, 4)?;
+    is("empty", with(&[], 0)?, 3)?;
+    let mut past = generate::past_limit(&mut Random::new(1), Limit::Renders).words();
+    is("8", refusal(&roomy(&past))?, 8)?;
+    is("8 before 9", refusal(&Call { room: Room::None, ..roomy(&past) })?, 8)?;
+    past.push(0);
+    is("7 before 8", refusal(&roomy(&past))?, 7)?;
+    is("1 before 7", refusal(&Call { workspace: 0, ..roomy(&past) })?, 1)
+}
+
+pub const FURTHER: [(&str, fn() -> Result<(), String>); 2] =
+    [("limits", limits), ("refusal order", refusal_order)];
+
+pub const CASES: [fn() -> Result<(), String>; 9] =
+    [case_1, case_2, case_3, case_4, case_5, case_6, case_7, case_8, case_9];

@@ -1,0 +1,299 @@
+//! The comparison of one call: the plain reader decides, every other side is
+//! held to it.
+
+use std::panic::{AssertUnwindSafe, catch_unwind};
+
+use crate::damage::{Call, Room};
+use crate::original_side;
+use crate::plain::{self, Outcome, sheet};
+
+/// A further side of the comparison, such as our own library. It answers every
+/// call, refusals 1 and 9 included, with all six sections.
+pub trait Side {
+    fn name(&self) -> &'static str;
+    fn outcome(&mut self, sheet: &[u32], workspace_len: usize, answer_len: usize) -> Outcome;
+}
+
+/// A difference between a side and the plain reader.
+#[derive(Debug, Clone)]
+pub struct Difference {
+    pub side: &'static str,
+    pub expected: Vec<String>,
+    pub got: Vec<String>,
+}
+
+/// The outcome in the program's lines.
+pub fn lines(outcome: &Outcome) -> Vec<String> {
+    match outcome {
+        Outcome::Refused(number) => vec![format!("refused {number}")],
+        Outcome::Accepted(words) => words_in_lines(words),
+    }
+}
+
+/// The sections of an answer's words; words that make no section come last.
+fn words_in_lines(words: &[u32]) -> Vec<String> {
+    let sections = [
+        ("ranges", 2),
+        ("params", 3),
+        ("context", 3),
+        ("diagnostics", 1),
+        ("effects", 8),
+        ("walks", 1),
+    ];
+    let mut lines = Vec::new();
+    let mut rest = words;
+    for (name, size) in sections {
+        let Some((&count, after)) = rest.split_first() else { break };
+        let length = (count as usize).saturating_mul(size).min(after.len());
+        let words: String = after[..length].iter().map(|w| format!(" {w}")).collect();
+        lines.push(format!("{name} {count}{words}"));
+        rest = &after[length..];
+    }
+    if !rest.is_empty() {
+        lines.push(format!("more {rest:?}"));
+    }
+    lines
+}
+
+/// The original's five lines, or why there are none.
+pub fn original_lines(sheet: &sheet::Sheet) -> Vec<String> {
+    match original_answer(sheet) {
+        Ok(answer) => answer.lines()[..5].to_vec(),
+        Err(message) => vec![message],
+    }
+}
+
+fn original_answer(sheet: &sheet::Sheet) -> Result<plain::Answer, String> {
+    catch_unwind(AssertUnwindSafe(|| original_side::answer(sheet))).map_err(|panic| {
+        let text = panic
+            .downcast_ref::<String>()
+            .cloned()
+            .or_else(|| panic.downcast_ref::<&str>().map(|s| s.to_string()))
+            .unwrap_or_default();
+        format!("panic: {text}")
+    })
+}
+
+/// The refusal of a call (0 if it is accepted) and the first difference.
+pub fn compare(call: &Call, sides: &mut [Box<dyn Side>]) -> (u32, Option<Difference>) {
+    let read = plain::read(&call.sheet);
+    let mut answer_len = call.room.words(0);
+    let mut difference = None;
+    if let Ok(sheet) = &read {
+        let plain = plain::answer(sheet);
+        answer_len = call.room.words(plain.words().len());
+        difference = match original_answer(sheet) {
+            Ok(original) => {
+                let five = plain::Answer { walks: Vec::new(), ..plain.clone() };
+                (original != five).then(|| Difference {
+                    side: "original",
+                    expected: plain.lines(),
+                    got: original.lines()[..5].to_vec(),
+                })
+            }
+            Err(message) => {
+                Some(Difference { side: "original", expected: plain.lines(), got: vec![message] })
+            }
+        };
+        // Every walk ends after at most 4R + 1 entries.
+        let bound = 4 * sheet.totals().relations as u32 + 1;
+        if difference.is_none() && plain.walks.iter().any(|&w| w > bound) {
+            difference = Some(Difference {
+                side: "bound of a walk",
+                expected: vec![format!("at most {bound}")],
+                got: plain.lines(),
+            });
+        }
+        if difference.is_none() && sheet.words() != call.sheet {
+            difference = Some(Difference {
+                side: "words of the sheet as read",
+                expected: vec![format!("{:?}", call.sheet)],
+                got: vec![format!("{:?}", sheet.words())],
+            });
+        }
+    }
+    let expected = plain::outcome(&call.sheet, call.workspace, answer_len);
+    for side in sides {
+        let got = side.outcome(&call.sheet, call.workspace, answer_len);
+        if got != expected && difference.is_none() {
+            difference = Some(Difference {
+                side: side.name(),
+                expected: lines(&expected),
+                got: lines(&got),
+            });
+        }
+    }
+    let refusal = match expected {
+        Outcome::Refused(number) => number,
+        Outcome::Accepted(_) => 0,
+    };
+    (refusal, difference)
+}
+
+// =============================================================================
+// Shrinking
+// =============================================================================
+
+/// Smaller variants of a sheet's parts, largest steps first.
+fn smaller(sheet: &sheet::Sheet) -> Vec<sheet::Sheet> {
+    use sheet::Terminal;
+    let mut all = Vec::new();
+    let mut with = |change: &dyn Fn(&mut sheet::Sheet)| {
+        let mut copy = sheet.clone();
+        change(&mut copy);
+        if copy != *sheet {
+            all.push(copy);
+        }
+    };
+    for b in 0..sheet.blocks.len() {
+        with(&|s| _ = s.blocks.remove(b));
+    }
+    for (b, block) in sheet.blocks.iter().enumerate() {
+        for i in 0..block.instructions.len() {
+            with(&|s| _ = s.blocks[b].instructions.remove(i));
+        }
+        for p in 0..block.phis.len() {
+            with(&|s| _ = s.blocks[b].phis.remove(p));
+        }
+        with(&|s| s.blocks[b].terminal = Terminal::Other { order: 0 });
+        for (i, instruction) in block.instructions.iter().enumerate() {
+            for e in 0..instruction.effects.len() {
+                with(&|s| _ = s.blocks[b].instructions[i].effects.remove(e));
+            }
+        }
+        for (p, phi) in block.phis.iter().enumerate() {
+            for o in 0..phi.operands.len() {
+                with(&|s| _ = s.blocks[b].phis[p].operands.remove(o));
+            }
+        }
+        for e in 0..block.terminal.effects().len() {
+            with(&|s| match &mut s.blocks[b].terminal {
+                Terminal::Return { effects, .. } | Terminal::MaybeThrow { effects, .. } => {
+                    effects.remove(e);
+                }
+                Terminal::Other { .. } => {}
+            });
+        }
+    }
+    for i in 0..sheet.params.len() {
+        with(&|s| _ = s.params.remove(i));
+    }
+    for i in 0..sheet.context.len() {
+        with(&|s| _ = s.context.remove(i));
+    }
+    with(&|s| _ = s.identifiers.pop());
+    // The last identifier becomes another one.
+    let last = sheet.identifiers.len() as u32 - 1;
+    for other in 0..last {
+        with(&|s| {
+            s.identifiers.pop();
+            for place in s.places_mut() {
+                if place.identifier == last {
+                    place.identifier = other;
+                }
+            }
+        });
+    }
+    with(&|s| _ = s.functions.pop());
+    for f in 0..sheet.functions.len() {
+        with(&|s| _ = s.functions[f].pop());
+    }
+    all
+}
+
+/// Variants of words: parts taken out, single words set to 0 or halved.
+fn smaller_words(words: &[u32]) -> Vec<Vec<u32>> {
+    let mut all = Vec::new();
+    let mut length = words.len() / 2;
+    while length > 0 {
+        for start in (0..words.len()).step_by(length) {
+            let mut copy = words.to_vec();
+            copy.drain(start..(start + length).min(words.len()));
+            all.push(copy);
+        }
+        length /= 2;
+    }
+    for at in 0..words.len() {
+        if words[at] > 0 {
+            for less in [0, words[at] / 2, words[at] - 1] {
+                let mut copy = words.to_vec();
+                copy[at] = less;
+                all.push(copy);
+            }
+        }
+    }
+    all
+}
+
+/// The smallest call found that still differs on the same side.
+pub fn shrink(call: &Call, side: &'static str, sides: &mut [Box<dyn Side>]) -> Call {
+    let mut best = call.clone();
+    let mut tries = 20_000;
+    loop {
+        let mut variants: Vec<Vec<u32>> = Vec::new();
+        if let Ok(sheet) = plain::read(&best.sheet) {
+            variants.extend(smaller(&sheet).iter().map(sheet::Sheet::words));
+        }
+        if best.sheet.len() < 2_000 {
+            variants.extend(smaller_words(&best.sheet));
+        }
+        let next = variants.into_iter().find(|words| {
+            tries -= 1;
+            let variant = Call { sheet: words.clone(), ..best };
+            tries > 0
+                && compare(&variant, sides).1.is_some_and(|difference| difference.side == side)
+        });
+        match next {
+            Some(words) => best.sheet = words,
+            None => return best,
+        }
+    }
+}
+
+/// A call with enough room.
+pub fn roomy(sheet: &[u32]) -> Call {
+    Call { sheet: sheet.to_vec(), workspace: sheet::WORKSPACE_WORDS, room: Room::Exact }
+}
+
+#[cfg(test)]
+mod tests {
+    use super::*;
+    use crate::generate;
+    use crate::random::Random;
+
+    /// Answers like the plain reader, but forgets the last walk if there is a phi.
+    struct Faulty;
+
+    impl Side for Faulty {
+        fn name(&self) -> &'static str {
+            "faulty"
+        }
+        fn outcome(&mut self, words: &[u32], workspace_len: usize, answer_len: usize) -> Outcome {
+            let outcome = plain::outcome(words, workspace_len, answer_len);
+            let phi = plain::read(words).is_ok_and(|s| s.blocks.iter().any(|b| !b.phis.is_empty()));
+            match outcome {
+                Outcome::Accepted(mut words) if phi => {
+                    words.pop();
+                    Outcome::Accepted(words)
+                }
+                other => other,
+            }
+        }
+    }
+
+    #[test]
+    fn a_fault_is_found_and_shrunk() {
+        let mut sides: Vec<Box<dyn Side>> = vec![Box::new(Faulty)];
+        let mut random = Random::new(1);
+        let call = (0..1_000)
+            .map(|_| roomy(&generate::sheet(&mut random).words()))
+            .find(|call| compare(call, &mut sides).1.is_some())
+            .expect("sheets with a phi come up");
+        let small = shrink(&call, "faulty", &mut sides);
+        let sheet = plain::read(&small.sheet).expect("it is accepted");
+        // One identifier, one block, one phi without operands.
+        assert_eq!(sheet.identifiers.len(), 1);
+        assert_eq!(small.sheet.len(), 24);
+        assert!(small.sheet.iter().sum::<u32>() <= 8, "{:?}", small.sheet);
+    }
+}

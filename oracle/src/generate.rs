@@ -1,0 +1,744 @@
+//! Accepted sheets from random numbers: mostly small, with a tail up to the limits.
+
+use crate::plain::sheet::{
+    Block, EFFECTS, Effect, Identifier, Instruction, MAX_BLOCK_NUMBER, MAX_DIAGNOSTIC,
+    MAX_MUTATIONS, MAX_ORDER, MAX_RANGE, MAX_RELATIONS, MAX_RENDERS, Phi, Place, SHEET_WORDS,
+    Sheet, Terminal, is_mutation, is_relation, is_render,
+};
+use crate::random::Random;
+
+/// How large the parts may become.
+struct Size {
+    identifiers: usize,
+    places: usize,
+    functions: usize,
+    blocks: usize,
+    phis: usize,
+    operands: usize,
+    instructions: usize,
+    effects: usize,
+}
+
+const TINY: Size = Size {
+    identifiers: 5,
+    places: 2,
+    functions: 2,
+    blocks: 3,
+    phis: 2,
+    operands: 3,
+    instructions: 4,
+    effects: 4,
+};
+
+const SMALL: Size = Size {
+    identifiers: 16,
+    places: 5,
+    functions: 4,
+    blocks: 6,
+    phis: 3,
+    operands: 5,
+    instructions: 6,
+    effects: 5,
+};
+
+const MIDDLE: Size = Size {
+    identifiers: 64,
+    places: 12,
+    functions: 8,
+    blocks: 14,
+    phis: 4,
+    operands: 8,
+    instructions: 9,
+    effects: 6,
+};
+
+const LARGE: Size = Size {
+    identifiers: 512,
+    places: 64,
+    functions: 64,
+    blocks: 60,
+    phis: 4,
+    operands: 10,
+    instructions: 12,
+    effects: 8,
+};
+
+/// What is left before a limit.
+struct Left {
+    words: usize,
+    relations: usize,
+    mutations: usize,
+    renders: usize,
+}
+
+pub struct Generator<'r> {
+    random: &'r mut Random,
+    identifiers: usize,
+    functions: usize,
+    /// Identifiers drawn more often than others are those below this number.
+    hot: usize,
+    /// One weight for each effect kind.
+    weights: [usize; 18],
+    left: Left,
+}
+
+impl Generator<'_> {
+    fn identifier(&mut self) -> u32 {
+        let limit = if self.random.percent(70) { self.hot } else { self.identifiers };
+        self.random.below(limit) as u32
+    }
+
+    fn span(&mut self) -> u32 {
+        match self.random.below(8) {
+            0..3 => 0,
+            3..6 => self.random.between(1, 20) as u32,
+            6 => self.random.choose(&[u32::MAX, 1 << 31, 65_535, 65_536]),
+            _ => self.random.word() as u32,
+        }
+    }
+
+    pub fn place(&mut self) -> Place {
+        Place {
+            identifier: self.identifier(),
+            traits: self.random.below(16) as u32,
+            span: self.span(),
+        }
+    }
+
+    fn order(&mut self) -> u32 {
+        match self.random.below(20) {
+            0 => 0,
+            1 => MAX_ORDER,
+            2 => self.random.below(MAX_ORDER as usize + 1) as u32,
+            _ => self.random.between(1, 60) as u32,
+        }
+    }
+
+    fn range_word(&mut self) -> u32 {
+        match self.random.below(12) {
+            0 => MAX_RANGE,
+            1 => self.random.below(MAX_RANGE as usize + 1) as u32,
+            2..5 => self.random.between(1, 60) as u32,
+            _ => 0,
+        }
+    }
+
+    fn kind(&mut self) -> u32 {
+        let total: usize = self.weights.iter().sum();
+        let mut drawn = self.random.below(total);
+        for (kind, weight) in self.weights.iter().enumerate() {
+            if drawn < *weight {
+                return kind as u32;
+            }
+            drawn -= weight;
+        }
+        unreachable!("the weights make the total")
+    }
+
+    pub fn effect_of(&mut self, kind: u32) -> Effect {
+        let (places, most) = EFFECTS[kind as usize];
+        let most = if kind == 13 { self.functions as u32 - 1 } else { most };
+        let first = if places >= 1 { self.place() } else { Place::default() };
+        let second = if places >= 2 { self.place() } else { Place::default() };
+        let extra = match self.random.below(4) {
+            0 => 0,
+            1 => most,
+            _ => self.random.below(most as usize + 1) as u32,
+        };
+        Effect { kind, first, second, extra }
+    }
+
+    /// An effect that still fits, if one word count does.
+    fn effect(&mut self, terminal: bool) -> Option<Effect> {
+        if self.left.words < 8 {
+            return None;
+        }
+        let mut kind = if terminal {
+            // Every kind may stand in a terminal; Alias is the one that counts.
+            if self.random.percent(50) { 6 } else { self.random.below(18) as u32 }
+        } else {
+            self.kind()
+        };
+        if kind == 13 && self.functions == 0 {
+            kind = 9;
+        }
+        let counted = if terminal { kind == 6 } else { true };
+        if counted && is_relation(kind) {
+            if self.left.relations == 0 {
+                return None;
+            }
+            self.left.relations -= 1;
+        }
+        if !terminal && is_mutation(kind) {
+            if self.left.mutations == 0 {
+                return None;
+            }
+            self.left.mutations -= 1;
+        }
+        if !terminal && is_render(kind) {
+            if self.left.renders == 0 {
+                return None;
+            }
+            self.left.renders -= 1;
+        }
+        self.left.words -= 8;
+        Some(self.effect_of(kind))
+    }
+
+    fn effects(&mut self, most: usize, terminal: bool) -> Vec<Effect> {
+        let count = self.random.below(most + 1);
+        (0..count).map_while(|_| self.effect(terminal)).collect()
+    }
+
+    fn phi(&mut self, numbers: &[u32], at: usize, most: usize) -> Phi {
+        let place = self.place();
+        let mut operands: Vec<(u32, Place)> = Vec::new();
+        for _ in 0..self.random.below(most + 1) {
+            let predecessor = match self.random.below(10) {
+                0 => self.random.below(MAX_BLOCK_NUMBER as usize + 1) as u32,
+                1 => numbers[at],
+                2..5 => numbers[self.random.between(at, numbers.len() - 1)],
+                _ => numbers[self.random.below(at + 1)],
+            };
+            let fresh = operands.iter().all(|o| o.0 != predecessor);
+            if fresh && self.left.relations > 0 && self.left.words >= 4 {
+                self.left.relations -= 1;
+                self.left.words -= 4;
+                operands.push((predecessor, self.place()));
+            }
+        }
+        Phi { place, operands }
+    }
+
+    fn block(&mut self, numbers: &[u32], at: usize, size: &Size) -> Option<Block> {
+        // Number, two counts and the longest terminal.
+        if self.left.words < 10 || self.left.relations == 0 {
+            return None;
+        }
+        self.left.words -= 10;
+        self.left.relations -= 1;
+        let mut phis = Vec::new();
+        for _ in 0..self.random.below(size.phis + 1) {
+            if self.left.words >= 4 {
+                self.left.words -= 4;
+                phis.push(self.phi(numbers, at, size.operands));
+            }
+        }
+        let mut instructions = Vec::new();
+        for _ in 0..self.random.below(size.instructions + 1) {
+            if self.left.words >= 2 {
+                self.left.words -= 2;
+                let order = self.order();
+                instructions
+                    .push(Instruction { order, effects: self.effects(size.effects, false) });
+            }
+        }
+        let order = self.order();
+        let terminal = match self.random.below(3) {
+            0 => Terminal::Other { order },
+            1 => {
+                let value = self.place();
+                Terminal::Return { order, value, effects: self.effects(size.effects, true) }
+            }
+            _ => Terminal::MaybeThrow { order, effects: self.effects(size.effects, true) },
+        };
+        Some(Block { number: numbers[at], phis, instructions, terminal })
+    }
+
+    /// Different block numbers, in rising order or not.
+    fn block_numbers(&mut self, count: usize) -> Vec<u32> {
+        let far = self.random.percent(20);
+        let mut numbers: Vec<u32> = Vec::new();
+        while numbers.len() < count {
+            let number = if far {
+                self.random.below(MAX_BLOCK_NUMBER as usize + 1) as u32
+            } else {
+                numbers.len() as u32
+            };
+            if !numbers.contains(&number) {
+                numbers.push(number);
+            }
+        }
+        if far && self.random.percent(30) && !numbers.contains(&MAX_BLOCK_NUMBER) {
+            let at = self.random.below(count);
+            numbers[at] = MAX_BLOCK_NUMBER;
+        }
+        for i in (1..count).rev() {
+            if self.random.percent(15) {
+                numbers.swap(i, self.random.below(i + 1));
+            }
+        }
+        numbers
+    }
+
+    fn diagnostic(&mut self) -> u32 {
+        match self.random.below(6) {
+            0 => 0,
+            1 => MAX_DIAGNOSTIC,
+            _ => self.random.below(MAX_DIAGNOSTIC as usize + 1) as u32,
+        }
+    }
+
+    fn places(&mut self, most: usize) -> Vec<Place> {
+        let count = self.random.below(most + 1);
+        self.left.words = self.left.words.saturating_sub(3 * count);
+        (0..count).map(|_| self.place()).collect()
+    }
+
+    fn sheet(&mut self, size: &Size) -> Sheet {
+        self.left.words -= 16 + 3 * self.identifiers;
+        let identifiers = (0..self.identifiers)
+            .map(|_| Identifier {
+                start: self.range_word(),
+                end: self.range_word(),
+                type_: self.random.below(3) as u32,
+            })
+            .collect();
+        let functions: Vec<Vec<u32>> = (0..self.functions)
+            .map(|_| {
+                let most = self.random.choose(&[0, 1, 2, 3, 5]);
+                (0..self.random.below(most + 1)).map(|_| self.diagnostic()).collect()
+            })
+            .collect();
+        self.left.words -= functions.iter().map(|f| f.len().max(1) + 1).sum::<usize>();
+        let params = self.places(size.places);
+        let context = self.places(size.places);
+        let mut returns = self.place();
+        if self.random.percent(20)
+            && let Some(place) = params.first().or(context.first())
+        {
+            returns.identifier = place.identifier;
+        }
+
+        let count = self.random.below(size.blocks + 1);
+        let numbers = if count == 0 { Vec::new() } else { self.block_numbers(count) };
+        let mut blocks: Vec<Block> =
+            (0..count).map_while(|at| self.block(&numbers, at, size)).collect();
+        // Often most identifiers get a node first.
+        if let Some(first) = blocks.first_mut()
+            && self.random.percent(60)
+        {
+            let mut created = Vec::new();
+            for identifier in 0..self.identifiers as u32 {
+                if self.left.words >= 16 && self.random.percent(75) {
+                    let kind = if self.functions > 0 && self.random.percent(25) { 13 } else { 9 };
+                    let mut effect = self.effect_of(kind);
+                    effect.first.identifier = identifier;
+                    self.left.words -= 8;
+                    created.push(effect);
+                }
+            }
+            let order = self.order();
+            first.instructions.insert(0, Instruction { order, effects: created });
+        }
+        Sheet {
+            function_expression: self.random.percent(30),
+            validations: self.random.percent(70),
+            identifiers,
+            functions,
+            params,
+            context,
+            returns,
+            blocks,
+        }
+    }
+}
+
+/// Weights for renders over function nodes, which few mutations disturb.
+fn render_weights(random: &mut Random) -> [usize; 18] {
+    let mut weights = [0; 18];
+    for kind in [5, 6, 7, 8, 10] {
+        weights[kind] = random.between(1, 8);
+    }
+    weights[13] = 6;
+    weights[17] = random.between(2, 8);
+    weights[random.between(1, 4)] = random.below(2);
+    weights
+}
+
+fn weights(random: &mut Random) -> [usize; 18] {
+    let mut weights = [1; 18];
+    match random.below(6) {
+        // Every kind alike.
+        0 => {}
+        // Relations and mutations.
+        1 | 2 => {
+            for kind in [1, 2, 3, 4, 5, 6, 7, 8, 10] {
+                weights[kind] = 8;
+            }
+        }
+        // Nodes created again.
+        3 => {
+            for kind in [6, 8, 9, 10, 13] {
+                weights[kind] = 8;
+            }
+        }
+        // Functions and renders.
+        4 => {
+            for kind in [3, 5, 6, 13, 17] {
+                weights[kind] = 8;
+            }
+        }
+        // A few kinds of their own.
+        _ => {
+            for _ in 0..4 {
+                weights[random.below(18)] = 20;
+            }
+        }
+    }
+    weights
+}
+
+fn generator(random: &mut Random, identifiers: usize, functions: usize) -> Generator<'_> {
+    let hot = random.between(1, identifiers.min(8));
+    let weights = weights(random);
+    Generator {
+        random,
+        identifiers,
+        functions,
+        hot,
+        weights,
+        left: Left {
+            words: SHEET_WORDS,
+            relations: MAX_RELATIONS,
+            mutations: MAX_MUTATIONS,
+            renders: MAX_RENDERS,
+        },
+    }
+}
+
+fn sized(random: &mut Random, size: &Size) -> Sheet {
+    let renders = random.percent(15);
+    let identifiers = random.between(1, size.identifiers);
+    let functions = random.between(renders as usize, size.functions);
+    let hot = if random.percent(50) { identifiers } else { random.between(1, identifiers) };
+    let mut generator = generator(random, identifiers, functions);
+    generator.hot = hot;
+    if renders {
+        generator.weights = render_weights(generator.random);
+    }
+    let mut sheet = generator.sheet(size);
+    if renders {
+        sheet.validations = true;
+        sheet.function_expression = false;
+        for (number, function) in (1..).zip(&mut sheet.functions) {
+            if function.is_empty() {
+                function.push(number);
+            }
+        }
+    }
+    sheet
+}
+
+/// An accepted sheet.
+pub fn sheet(random: &mut Random) -> Sheet {
+    match random.below(1000) {
+        0..640 => sized(random, &TINY),
+        640..930 => sized(random, &SMALL),
+        930..985 => sized(random, &MIDDLE),
+        985..992 => sized(random, &LARGE),
+        _ => {
+            let limit = random.choose(&LIMITS);
+            at_limit(random, limit)
+        }
+    }
+}
+
+/// A tiny accepted sheet.
+pub fn tiny(random: &mut Random) -> Sheet {
+    sized(random, &TINY)
+}
+
+// =============================================================================
+// Limits, met exactly
+// =============================================================================
+
+#[derive(Debug, Clone, Copy, PartialEq, Eq)]
+pub enum Limit {
+    Identifiers,
+    Functions,
+    FunctionDiagnostics,
+    Params,
+    Context,
+    Blocks,
+    Phis,
+    Operands,
+    Instructions,
+    Effects,
+    TerminalEffects,
+    Relations,
+    PhiRelations,
+    Mutations,
+    Renders,
+    Words,
+    /// A long answer from function nodes and renders; nothing to pass.
+    Diagnostics,
+}
+
+pub const LIMITS: [Limit; 17] = [
+    Limit::Identifiers,
+    Limit::Functions,
+    Limit::FunctionDiagnostics,
+    Limit::Params,
+    Limit::Context,
+    Limit::Blocks,
+    Limit::Phis,
+    Limit::Operands,
+    Limit::Instructions,
+    Limit::Effects,
+    Limit::TerminalEffects,
+    Limit::Relations,
+    Limit::PhiRelations,
+    Limit::Mutations,
+    Limit::Renders,
+    Limit::Words,
+    Limit::Diagnostics,
+];
+
+/// Those of the limits that a sheet can pass by one.
+pub const PASSABLE: [Limit; 16] = {
+    let mut limits = [Limit::Words; 16];
+    let mut i = 0;
+    while i < limits.len() {
+        limits[i] = LIMITS[i];
+        i += 1;
+    }
+    limits
+};
+
+fn empty_block(number: u32) -> Block {
+    Block {
+        number,
+        phis: Vec::new(),
+        instructions: Vec::new(),
+        terminal: Terminal::Other { order: 1 },
+    }
+}
+
+/// A sheet that has `more` above a limit: 0 is accepted, 1 is refused.
+fn about_limit(random: &mut Random, limit: Limit, more: usize) -> Sheet {
+    let identifiers = match limit {
+        Limit::Identifiers => 512,
+        Limit::Diagnostics => 256,
+        _ => random.between(2, 40),
+    };
+    let mut g = generator(random, identifiers, 3);
+    g.hot = identifiers;
+    let size = Size { blocks: 2, ..TINY };
+    let mut sheet = g.sheet(&size);
+    if limit == Limit::Diagnostics {
+        return many_diagnostics(&mut g);
+    }
+    if !matches!(limit, Limit::Identifiers | Limit::Functions | Limit::Params | Limit::Context) {
+        sheet.blocks.clear();
+    }
+    match limit {
+        Limit::Identifiers => {
+            for _ in 0..more {
+                sheet.identifiers.push(Identifier::default());
+            }
+        }
+        Limit::Functions => {
+            while sheet.functions.len() < 64 + more {
+                sheet.functions.push(Vec::new());
+            }
+            let mut block = empty_block(65_535);
+            let into = g.place();
+            let create = Effect { kind: 13, first: into, second: Place::default(), extra: 63 };
+            block.instructions.push(Instruction { order: 1, effects: vec![create] });
+            sheet.blocks = vec![block];
+        }
+        Limit::FunctionDiagnostics => {
+            sheet.functions = vec![(0..64 + more).map(|_| g.diagnostic()).collect()];
+        }
+        Limit::Params => {
+            while sheet.params.len() < 64 + more {
+                sheet.params.push(g.place());
+            }
+        }
+        Limit::Context => {
+            while sheet.context.len() < 64 + more {
+                sheet.context.push(g.place());
+            }
+        }
+        Limit::Blocks => {
+            let numbers = g.block_numbers(256 + more);
+            sheet.blocks = numbers.iter().map(|&n| empty_block(n)).collect();
+        }
+        Limit::Phis => {
+            let mut block = empty_block(0);
+            for _ in 0..1_024 + more {
+                block.phis.push(Phi { place: g.place(), operands: Vec::new() });
+            }
+            sheet.blocks = vec![block];
+        }
+        Limit::Operands => {
+            // The waiting ones come with the second block.
+            let mut first = empty_block(1);
+            let base = 1;
+            let operands = (0..1_024 + more as u32).map(|i| (base + i, g.place())).collect();
+            first.phis.push(Phi { place: g.place(), operands });
+            sheet.blocks = vec![first, empty_block(2), empty_block(1_024)];
+        }
+        Limit::Instructions => {
+            let mut block = empty_block(0);
+            for _ in 0..1_024 + more {
+                let order = g.order();
+                block.instructions.push(Instruction { order, effects: Vec::new() });
+            }
+            sheet.blocks = vec![block];
+        }
+        Limit::Effects | Limit::TerminalEffects => {
+            let effects = (0..1_024 + more)
+                .map(|_| {
+                    let kind = g.random.choose(&[0, 9, 11, 12, 14]);
+                    g.effect_of(kind)
+                })
+                .collect();
+            let mut block = empty_block(0);
+            if limit == Limit::Effects {
+                block.instructions.push(Instruction { order: 1, effects });
+            } else {
+                block.terminal = Terminal::MaybeThrow { order: 1, effects };
+            }
+            sheet.blocks = vec![block];
+        }
+        Limit::Relations => {
+            let mut block = empty_block(0);
+            let mut effects: Vec<Effect> = (0..identifiers as u32)
+                .map(|identifier| {
+                    let mut create = g.effect_of(9);
+                    create.first.identifier = identifier;
+                    create
+                })
+                .collect();
+            for _ in 0..1_000 {
+                let kind = g.random.choose(&[5, 6, 6, 7, 8, 10]);
+                effects.push(g.effect_of(kind));
+                if effects.len() < 1_000 && g.random.percent(3) {
+                    let kind = g.random.between(1, 4) as u32;
+                    effects.push(g.effect_of(kind));
+                }
+            }
+            for part in effects.chunks(500) {
+                let order = g.order();
+                block.instructions.push(Instruction { order, effects: part.to_vec() });
+            }
+            let value = g.place();
+            let aliases = (0..23 + more).map(|_| g.effect_of(6)).collect();
+            block.terminal = Terminal::Return { order: 9, value, effects: aliases };
+            sheet.blocks = vec![block];
+        }
+        Limit::PhiRelations => {
+            let mut block = empty_block(0);
+            for i in 0..1_024 / 16 {
+                let operands = (0..16).map(|o| ((i + o) % 20, g.place())).collect();
+                block.phis.push(Phi { place: g.place(), operands });
+            }
+            let mut last = empty_block(1);
+            for _ in 0..more {
+                let value = g.place();
+                last.terminal = Terminal::Return { order: 5, value, effects: Vec::new() };
+            }
+            let mutations = (0..40)
+                .map(|_| {
+                    let kind = g.random.between(1, 4) as u32;
+                    g.effect_of(kind)
+                })
+                .collect();
+            last.instructions.push(Instruction { order: 4, effects: mutations });
+            sheet.blocks = vec![block, last];
+        }
+        Limit::Mutations => {
+            let mut block = empty_block(0);
+            for _ in 0..(512 + more) / 8 + 1 {
+                let order = g.order();
+                block.instructions.push(Instruction { order, effects: Vec::new() });
+            }
+            for i in 0..512 + more {
+                let kind = g.random.between(1, 4) as u32;
+                let mutation = g.effect_of(kind);
+                let relation = g.random.choose(&[5, 6, 7, 8, 10]);
+                let relation = g.effect_of(relation);
+                block.instructions[i / 8].effects.extend([relation, mutation]);
+            }
+            sheet.blocks = vec![block];
+        }
+        Limit::Renders => {
+            let mut block = empty_block(0);
+            for _ in 0..256 + more {
+                let other = g.random.choose(&[5, 6, 8, 10, 13]);
+                let effects = vec![g.effect_of(other), g.effect_of(17)];
+                let order = g.order();
+                block.instructions.push(Instruction { order, effects });
+            }
+            sheet.blocks = vec![block];
+        }
+        Limit::Words => {
+            let mut block = empty_block(0);
+            let target = SHEET_WORDS + more;
+            sheet.blocks = vec![block.clone()];
+            let mut left = target - sheet.words().len();
+            while left >= 10 {
+                let count = ((left - 2) / 8).min(g.random.between(1, 600));
+                let effects = (0..count)
+                    .map(|_| {
+                        let kind = g.random.choose(&[0, 9, 11, 12, 13, 14, 15, 16]);
+                        g.effect_of(kind)
+                    })
+                    .collect();
+                block.instructions.push(Instruction { order: 1, effects });
+                left -= 2 + 8 * count;
+            }
+            for _ in 0..left {
+                sheet.functions.push(Vec::new());
+            }
+            sheet.blocks = vec![block];
+        }
+        Limit::Diagnostics => unreachable!("made above"),
+    }
+    sheet
+}
+
+/// Many function nodes handed over by many renders.
+fn many_diagnostics(g: &mut Generator) -> Sheet {
+    let function: Vec<u32> = (0..64).map(|_| g.diagnostic()).collect();
+    let nodes = g.random.between(2, 200) as u32;
+    let renders = g.random.between(1, 60);
+    let place = |identifier| Place { identifier, traits: 0, span: 0 };
+    let mut effects = Vec::new();
+    for i in 0..nodes {
+        let create = Effect { kind: 13, first: place(i), ..Effect::default() };
+        effects.push(create);
+        if i > 0 {
+            let kind = g.random.choose(&[5, 6, 8]);
+            let relation =
+                Effect { kind, first: place(i), second: place(i - 1), ..Effect::default() };
+            effects.push(relation);
+        }
+    }
+    let render = Effect { kind: 17, ..Effect::default() };
+    effects.extend(std::iter::repeat_n(render, renders));
+    let mut block = empty_block(0);
+    block.instructions.push(Instruction { order: 1, effects });
+    Sheet {
+        function_expression: false,
+        validations: true,
+        identifiers: vec![Identifier::default(); g.identifiers],
+        functions: vec![function],
+        params: Vec::new(),
+        context: Vec::new(),
+        returns: place(g.identifiers as u32 - 1),
+        blocks: vec![block],
+    }
+}
+
+/// An accepted sheet that meets the limit exactly.
+pub fn at_limit(random: &mut Random, limit: Limit) -> Sheet {
+    about_limit(random, limit, 0)
+}
+
+/// A sheet that passes one of the `PASSABLE` limits by one.
+pub fn past_limit(random: &mut Random, limit: Limit) -> Sheet {
+    about_limit(random, limit, 1)
+}

@@ -1,0 +1,11 @@
+//! The oracle: the original pass, a plain implementation of document 01, and
+//! sheets to hold them against each other.
+
+pub mod cases;
+pub mod compare;
+pub mod damage;
+pub mod generate;
+pub mod original_side;
+pub mod ours;
+pub mod plain;
+pub mod random;

@@ -1,0 +1,201 @@
+//! A plain implementation of document 01, in the order of its text. Lists and loops
+//! only; no thought of speed or of memory.
+
+pub mod building;
+pub mod sheet;
+pub mod walks;
+
+use building::{Kind, Mutation, Node, build, records_errors};
+use sheet::{Effect, Place, Sheet, WORKSPACE_WORDS, put_effect, put_place};
+use walks::{render, trace, walk};
+
+pub use sheet::read;
+
+#[derive(Debug, Clone, PartialEq, Eq)]
+pub enum Outcome {
+    Refused(u32),
+    Accepted(Vec<u32>),
+}
+
+/// The sections of an answer.
+#[derive(Debug, Clone, PartialEq, Eq, Default)]
+pub struct Answer {
+    pub ranges: Vec<(u32, u32)>,
+    pub params: Vec<Place>,
+    pub context: Vec<Place>,
+    pub diagnostics: Vec<u32>,
+    pub effects: Vec<Effect>,
+    pub walks: Vec<u32>,
+}
+
+impl Answer {
+    /// The sections with their names, counts and words.
+    pub fn sections(&self) -> [(&'static str, usize, Vec<u32>); 6] {
+        let places = |places: &[Place]| {
+            let mut words = Vec::new();
+            places.iter().for_each(|p| put_place(&mut words, p));
+            words
+        };
+        let ranges = self.ranges.iter().flat_map(|r| [r.0, r.1]).collect();
+        let mut effects = Vec::new();
+        self.effects.iter().for_each(|e| put_effect(&mut effects, e));
+        [
+            ("ranges", self.ranges.len(), ranges),
+            ("params", self.params.len(), places(&self.params)),
+            ("context", self.context.len(), places(&self.context)),
+            ("diagnostics", self.diagnostics.len(), self.diagnostics.clone()),
+            ("effects", self.effects.len(), effects),
+            ("walks", self.walks.len(), self.walks.clone()),
+        ]
+    }
+
+    pub fn words(&self) -> Vec<u32> {
+        let mut words = Vec::new();
+        for (_, count, section) in self.sections() {
+            words.push(count as u32);
+            words.extend(section);
+        }
+        words
+    }
+
+    /// A line for each section, as the program prints them.
+    pub fn lines(&self) -> Vec<String> {
+        let line = |(name, count, words): (&str, usize, Vec<u32>)| {
+            let mut line = format!("{name} {count}");
+            words.iter().for_each(|w| line.push_str(&format!(" {w}")));
+            line
+        };
+        self.sections().map(line).to_vec()
+    }
+}
+
+/// The records of a context variable or parameter as effects: local first.
+fn record_effects(place: &Place, node: &Node) -> Vec<Effect> {
+    let mut effects = Vec::new();
+    let effect = |kind, span, extra| Effect {
+        kind,
+        first: Place { span, ..*place },
+        second: Place::default(),
+        extra,
+    };
+    match node.local {
+        Some(r) if r.kind == Kind::Definite => effects.push(effect(1, r.span, node.reason)),
+        Some(r) => effects.push(effect(2, r.span, 0)),
+        None => {}
+    }
+    match node.transitive {
+        Some(r) if r.kind == Kind::Definite => effects.push(effect(3, r.span, 0)),
+        Some(r) => effects.push(effect(4, r.span, 0)),
+        None => {}
+    }
+    effects
+}
+
+/// The place with its effect set to Capture, the reactive mark kept.
+fn marked(place: &Place) -> Place {
+    Place { traits: place.traits / 8 * 8 + 3, ..*place }
+}
+
+/// The answer of an accepted sheet.
+pub fn answer(sheet: &Sheet) -> Answer {
+    let errors = records_errors(sheet);
+    let built = build(sheet);
+    let mut diagnostics = built.diagnostics.clone();
+    let mut effects = built.effects.clone();
+    let traced = trace(sheet, built);
+    let (ends, mut built) = (traced.ends, traced.built);
+    let mut counts: Vec<u32> = traced.walks.iter().map(|w| w.taken).collect();
+
+    if errors {
+        let mutated = traced.walks.iter().flat_map(|w| w.functions.clone());
+        let rendered = built.renders.iter().flat_map(|r| render(&built, r));
+        for function in mutated.chain(rendered) {
+            diagnostics.extend(&sheet.functions[function as usize]);
+        }
+    }
+
+    let node_of = |place: &Place| built.nodes[place.identifier as usize].as_ref();
+    for place in sheet.context.iter().chain(&sheet.params) {
+        effects.extend(node_of(place).map_or(Vec::new(), |n| record_effects(place, n)));
+    }
+    let mark = |place: &Place| {
+        if node_of(place).is_some_and(|n| n.has_record()) { marked(place) } else { *place }
+    };
+    let params: Vec<Place> = sheet.params.iter().map(mark).collect();
+    let context: Vec<Place> = sheet.context.iter().map(mark).collect();
+
+    // 6 × reason + value kind: reason KnownReturnSignature is 0.
+    let value_kind = match sheet.identifiers[sheet.returns.identifier as usize].type_ {
+        1 => 2, // Primitive
+        2 => 1, // Frozen
+        _ => 0, // Mutable
+    };
+    effects.push(Effect {
+        kind: 9,
+        first: sheet.returns,
+        second: Place::default(),
+        extra: value_kind,
+    });
+
+    let returns = sheet.returns.identifier;
+    let tracked: Vec<Place> =
+        params.iter().chain(&context).chain([&sheet.returns]).copied().collect();
+    for (into, index) in tracked.iter().zip(built.next_index..) {
+        let simulated = Mutation {
+            index,
+            order: 0,
+            kind: Kind::Conditional,
+            transitive: true,
+            place: *into,
+            reason: 0,
+        };
+        counts.push(walk(&mut built, &simulated, None).taken);
+        for from in params.iter().chain(&context) {
+            if from.identifier == into.identifier || from.identifier == returns {
+                continue;
+            }
+            let node = built.nodes[from.identifier as usize].as_ref();
+            if node.expect("parameters and context have nodes").last == index {
+                let kind = if into.identifier == returns { 6 } else { 5 };
+                effects.push(Effect { kind, first: *from, second: *into, extra: 0 });
+            }
+        }
+    }
+
+    let ranges = sheet.identifiers.iter().zip(ends).map(|(i, end)| (i.start, end)).collect();
+    Answer { ranges, params, context, diagnostics, effects, walks: counts }
+}
+
+/// The whole call, without the service state.
+pub fn outcome(sheet: &[u32], workspace_len: usize, answer_len: usize) -> Outcome {
+    if workspace_len < WORKSPACE_WORDS {
+        return Outcome::Refused(1);
+    }
+    let sheet = match read(sheet) {
+        Ok(sheet) => sheet,
+        Err(refusal) => return Outcome::Refused(refusal),
+    };
+    let words = answer(&sheet).words();
+    if answer_len < words.len() {
+        return Outcome::Refused(9);
+    }
+    Outcome::Accepted(words)
+}
+
+/// The service's call: an accepted one takes the next serial.
+pub fn turn(
+    next: &mut u32,
+    sheet: &[u32],
+    workspace_len: usize,
+    answer_len: usize,
+) -> (Outcome, Option<u32>) {
+    let outcome = outcome(sheet, workspace_len, answer_len);
+    match outcome {
+        Outcome::Refused(_) => (outcome, None),
+        Outcome::Accepted(_) => {
+            let serial = *next;
+            *next = next.wrapping_add(1);
+            (outcome, Some(serial))
+        }
+    }
+}
