@@ -24,6 +24,7 @@ pub mod Counted
 pub mod Indexes
 -- renders
 pub mod RenderBound
+pub mod Handed
 -- reading
 pub mod Either
 pub mod Everywhere
