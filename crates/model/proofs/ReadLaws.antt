@@ -83,7 +83,7 @@ count-reads most =
     (λ w u. pick-reads (leb w most) (pure w) (refuse 4) (λ (w : ℕ). w ≤ most) (λ h. pure-reads w (λ (w : ℕ). w ≤ most) (leb-true w most h)) (λ h. refuse-reads 4 (λ (w : ℕ). w ≤ most)))
 
 module _ {A : Type 0} where
-  times-length : (k : ℕ) (f : Read A) → Reads (times k f) (λ (l : List A). length l ≡ k)
+  pub times-length : (k : ℕ) (f : Read A) → Reads (times k f) (λ (l : List A). length l ≡ k)
   unfolding times
   times-length zero f = pure-reads [] (λ (l : List A). length l ≡ 0) refl
   times-length (suc k) f =
