@@ -29,6 +29,7 @@ pub mod Handed
 pub mod Either
 pub mod Everywhere
 pub mod ReadLaws
+pub mod Got
 pub mod InRange
 pub mod Distinct
 pub mod WhenRead
