@@ -40,3 +40,6 @@ pub mod IndexesBelow
 pub mod Quiet
 pub mod Demand3
 pub mod Buffers
+-- what the call builds on: renders and simulated walks, one after another
+pub mod Rendering
+pub mod Simulating

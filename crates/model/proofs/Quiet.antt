@@ -57,7 +57,7 @@ module _ (m : Mutation) where
   simulated-quiet s = run-quiet (enough (s .graph)) (start m s)
 
 -- the same ends and the same records
-abbrev Unmoved : State → State → Type 0
+abbrev pub Unmoved : State → State → Type 0
 Unmoved s t = (s .ends ≡ t .ends) × (s .records ≡ t .records)
 
 module _ (i : ℕ) where
@@ -81,12 +81,17 @@ module _ (i : ℕ) where
       let b = step-unmoved (w .queue) w in
       (a .0 ∙ b .0, a .1 ∙ b .1)
 
+-- one render
+pub render-unmoved : (r : RenderOf) (s : State) → Unmoved (renderWalk r s .state) s
+unfolding renderWalk
+render-unmoved r s = run-unmoved (r .index) (enough (s .graph)) (renderStart r s)
+
 rendered-unmoved : (rs : List RenderOf) (s : State) → Unmoved (rendered rs s) s
-unfolding rendered renderWalk
+unfolding rendered
 rendered-unmoved [] s = (refl, refl)
 rendered-unmoved (r ∷ rs) s =
     let a = rendered-unmoved rs (renderWalk r s .state) in
-    let b = run-unmoved (r .index) (enough (s .graph)) (renderStart r s) in
+    let b = render-unmoved r s in
     (a .0 ∙ b .0, a .1 ∙ b .1)
 
 renders-unmoved : (s : Sheet) → Unmoved (afterRenders s) (afterReal s)
