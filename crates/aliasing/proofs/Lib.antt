@@ -1,0 +1,13 @@
+pub mod Writes
+pub mod Records
+pub mod Hands
+pub mod Parts
+pub mod Potential
+pub mod Cases
+pub mod Steps
+pub mod Walks
+pub mod Begin
+pub mod Start
+pub mod Pending
+pub mod Demand3
+pub mod New

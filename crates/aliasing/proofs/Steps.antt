@@ -1,0 +1,338 @@
+-- One entry taken: the three ways that a step ends.
+use Prim.Native.Nat.{ℕ, suc, _+_, _-_, _/_, _%_, _≤_, _<_}
+use native.Mathlib.Omega.{arith}
+use mathlib.Core.Bool.{_&&_, not}
+use mathlib.Core.List.{List, [], _∷_, _++_, reverseAux}
+use mathlib.Core.Option.{none, some}
+use mathlib.Core.Path.{_≡_, refl, sym, ap, subst, _∙_}
+use lib.ListN.{length, getD, set, take, drop}
+use lib.Seq.{slice, length-take-le, take-suc, drop-append-le, getD-set-other}
+use Rattle.model.specs.Lists.{listIf}
+use Rattle.model.specs.Graph.{Graph, Node, nodeAt}
+use Rattle.model.specs.Mutation.{level}
+use Rattle.model.specs.State.{Record, noRecord, hasRecord, recordsErrors, touch, functionOf, State, accepts}
+use Rattle.model.specs.Walks.{Item, Walk, pushes, remember, skipped, missed, accept, step}
+use Rattle.rows.specs.Rows.{rowsOf, value, rowF, rowB, Good, Kept}
+use Rattle.rows.specs.Graph.{valueOf, ownNode, graphOfRows}
+use Rattle.rows.proofs.Rows.{value-at, rows-length}
+use Rattle.rows.proofs.Graph.{row-there, row-missing}
+use Rattle.rows.proofs.Parts.{drop-more}
+use Rattle.pushes.specs.Pushes.{pushedW, Pushed, Room, deg}
+use Rattle.pushes.specs.Items.{itemOf, queueOf}
+use Rattle.pushes.proofs.Sizes.{pushed-le}
+use Rattle.pushes.proofs.Pushes.{pushed-part, pushed-kept}
+use Rattle.pushes.proofs.Items.{pushed-items, queue-push}
+use Rattle.aliasing.specs.declared.Mutation.{Mutation}
+use Rattle.aliasing.specs.Says.{modeSays, mutationSays}
+use Rattle.aliasing.specs.State.{nodesOf, seenOf, recordsOf, endsOf, stateOf, bare}
+use Rattle.aliasing.specs.Accepts.{acceptW, handW}
+use Rattle.aliasing.specs.Potential.{phi}
+use Rattle.aliasing.specs.Walks.{Shows, Ready, Callable, Stepped}
+use Rattle.aliasing.proofs.Parts.{slice-below, slice-above, nodes-below, seen-below, seen-above, rows-below, rows-above, mark-kept, mark-seen, seen-at, seen-length, accept-kept, accept-nodes, nodes-length}
+use Rattle.aliasing.proofs.Records.{level-is, accept-records, accept-ends}
+use Rattle.aliasing.proofs.Hands.{handed-is, hand-same, room-kept, records-length}
+use Rattle.aliasing.proofs.Potential.{phi-falls}
+use Rattle.aliasing.proofs.Cases.{step-skips, step-misses, step-accepts}
+
+-- ---- the entry
+abbrev pub last : List ℕ → ℕ → ℕ
+last ws top = getD ws (top - 1) 0
+
+abbrev pub placeAt : List ℕ → ℕ → ℕ
+placeAt ws top = last ws top % 512
+
+abbrev pub kindAt : List ℕ → ℕ → ℕ
+kindAt ws top = last ws top / 2048 % 2
+
+abbrev pub transitiveAt : List ℕ → ℕ → ℕ
+transitiveAt ws top = last ws top / 512 % 2
+
+abbrev pub directionAt : List ℕ → ℕ → ℕ
+directionAt ws top = last ws top / 1024 % 2
+
+pub queue-last : (ws : List ℕ) (top : ℕ) → 9218 < top → top ≤ length ws → slice 9218 top ws ≡ slice 9218 (top - 1) ws ++ (last ws top ∷ [])
+queue-last ws top more fit =
+    let e : top ≡ suc (top - 1) = omega arith in
+    ap (λ (t : ℕ). drop 9218 (take t ws)) e ∙ ap (drop 9218) (take-suc ws (top - 1) 0 (omega arith))
+    ∙ drop-append-le 9218 (take (top - 1) ws) (last ws top ∷ []) (omega (arith, length-take-le (top - 1) ws (omega arith)))
+
+pub queue-head : (ws : List ℕ) (top : ℕ) → 9218 < top → top ≤ length ws → queueOf (slice 9218 top ws) ≡ itemOf (last ws top) ∷ queueOf (slice 9218 (top - 1) ws)
+queue-head ws top more fit = ap queueOf (queue-last ws top more fit) ∙ queue-push (slice 9218 (top - 1) ws) (last ws top ∷ [])
+
+item-level : (e : ℕ) → level (itemOf e .kind) ≡ e / 2048 % 2 + 1
+unfolding itemOf
+item-level e = level-is (e / 2048 % 2) (omega arith)
+
+item-place : (e : ℕ) → itemOf e .identifier ≡ e % 512
+unfolding itemOf
+item-place e = refl
+
+-- ---- the state by its parts
+pub state-same : (ws ws′ : List ℕ) (hand hand′ : ℕ) → rowsOf ws′ ≡ rowsOf ws → nodesOf ws′ ≡ nodesOf ws → slice 13315 hand′ ws′ ≡ slice 13315 hand ws → stateOf ws′ hand′ ≡ stateOf ws hand
+unfolding stateOf
+state-same ws ws′ hand hand′ p q r = λ j. record { graph = graphOfRows (p j); records = recordsOf (q j); ends = endsOf (q j); handed = r j }
+
+pub graph-is : (ws : List ℕ) (hand : ℕ) → stateOf ws hand .graph ≡ graphOfRows (rowsOf ws)
+unfolding stateOf
+graph-is ws hand = refl
+
+pub graph-missing : (ws : List ℕ) (hand x : ℕ) → x < 512 → value (rowsOf ws) x ≡ 0 → nodeAt (stateOf ws hand .graph) x ≡ none
+graph-missing ws hand x h e = ap (λ (g : Graph). nodeAt g x) (graph-is ws hand) ∙ row-missing (rowsOf ws) x h e
+
+pub graph-there : (ws : List ℕ) (hand x : ℕ) → x < 512 → (value (rowsOf ws) x ≡ 0 → ⊥) → nodeAt (stateOf ws hand .graph) x ≡ some (ownNode (value (rowsOf ws) x) (rowF (rowsOf ws)) (rowB (rowsOf ws)) x)
+graph-there ws hand x h e = ap (λ (g : Graph). nodeAt g x) (graph-is ws hand) ∙ row-there (rowsOf ws) x h e
+
+shows-to : {ws : List ℕ} {top hand : ℕ} (w v : Walk) → Shows ws top hand v → w ≡ v → Shows ws top hand w
+shows-to {ws} {top} {hand} w v s p = subst (Shows ws top hand) (sym p) s
+
+module _ (m : Mutation) (ws : List ℕ) (top hand : ℕ) (ready : Ready ws top hand) (callable : Callable m) (more : 9218 < top) where
+  fit : top ≤ length ws
+  fit = omega (arith, ready .fits, ready .size)
+
+  x-below : placeAt ws top < 512
+  x-below = omega arith
+
+  k-below : kindAt ws top < 2
+  k-below = omega arith
+
+  module _ (w : Walk) (s : Shows ws top hand w) where
+    head : w .queue ≡ itemOf (last ws top) ∷ queueOf (slice 9218 (top - 1) ws)
+    head = sym (s .queue) ∙ queue-head ws top more fit
+
+    at-seen : getD (w .seen) (itemOf (last ws top) .identifier) 0 ≡ getD ws (3584 + placeAt ws top) 0
+    unfolding itemOf
+    at-seen = ap (λ (l : List ℕ). getD l (placeAt ws top) 0) (sym (s .seen)) ∙ seen-at ws (placeAt ws top) x-below
+
+  -- ---- seen at this kind or a higher one
+  module _ (seen : kindAt ws top < getD ws (3584 + placeAt ws top) 0) where
+    skips : (w : Walk) → Shows ws top hand w → Shows ws (top - 1) hand (step (modeSays m) (mutationSays m) (w .queue) w)
+    skips w s =
+        shows-to (step (modeSays m) (mutationSays m) (w .queue) w) (skipped (queueOf (slice 9218 (top - 1) ws)) w) (record { queue = refl; seen = s .seen; state = s .state })
+        (step-skips (modeSays m) (mutationSays m) w (itemOf (last ws top)) (queueOf (slice 9218 (top - 1) ws)) (head w s)
+        (omega (arith, at-seen w s, item-level (last ws top))))
+
+    pub step-seen : Stepped m ws top hand ws (top - 1) hand
+    step-seen = record {
+      follows = skips;
+      ready = record { size = ready .size; low = omega arith; good = ready .good; fits = omega (arith, ready .fits); handing = ready .handing };
+      falls = omega arith;
+      aside = record { graph = refl; behind = refl; same = refl };
+    }
+
+  -- ---- not seen
+  module _ (unseen : getD ws (3584 + placeAt ws top) 0 ≤ kindAt ws top) where
+    abbrev marked : List ℕ
+    marked = set ws (3584 + placeAt ws top) (kindAt ws top + 1)
+
+    mark : Kept 3584 4096 ws marked
+    mark = mark-kept ws (placeAt ws top) (kindAt ws top + 1) x-below
+
+    mark-levels : seenOf marked ≡ set (seenOf ws) (placeAt ws top) (kindAt ws top + 1)
+    mark-levels = mark-seen ws (placeAt ws top) (kindAt ws top + 1) x-below
+
+    falls-by : phi (set (seenOf ws) (placeAt ws top) (kindAt ws top + 1)) (rowsOf ws) 512 + deg (rowsOf ws) (placeAt ws top) ≤ phi (seenOf ws) (rowsOf ws) 512
+    falls-by =
+        phi-falls (seenOf ws) (rowsOf ws) (placeAt ws top) (kindAt ws top + 1) 512 x-below (omega (arith, seen-length ws (ready .size)))
+        (omega (arith, seen-at ws (placeAt ws top) x-below)) (omega arith)
+
+    value-kept : getD marked (4096 + placeAt ws top) 0 ≡ value (rowsOf ws) (placeAt ws top)
+    value-kept = getD-set-other ws (3584 + placeAt ws top) (4096 + placeAt ws top) (kindAt ws top + 1) 0 (omega arith) ∙ sym (value-at ws (ready .size) (placeAt ws top) x-below)
+
+    module _ (w : Walk) (s : Shows ws top hand w) where
+      higher : getD (w .seen) (itemOf (last ws top) .identifier) 0 < level (itemOf (last ws top) .kind)
+      higher = omega (arith, at-seen w s, item-level (last ws top))
+
+      remembered : set (seenOf ws) (placeAt ws top) (kindAt ws top + 1) ≡ remember (itemOf (last ws top)) (w .seen)
+      unfolding itemOf
+      remembered =
+          ap (λ (l : List ℕ). set l (placeAt ws top) (kindAt ws top + 1)) (s .seen)
+          ∙ ap (set (w .seen) (placeAt ws top)) (sym (level-is (kindAt ws top) k-below))
+
+    -- ---- missing
+    module _ (none-there : getD marked (4096 + placeAt ws top) 0 ≡ 0) where
+      misses : (w : Walk) → Shows ws top hand w → Shows marked (top - 1) hand (step (modeSays m) (mutationSays m) (w .queue) w)
+      unfolding itemOf
+      misses w s =
+          shows-to (step (modeSays m) (mutationSays m) (w .queue) w) (missed (itemOf (last ws top)) (queueOf (slice 9218 (top - 1) ws)) w)
+          (record {
+            queue = ap queueOf (slice-above mark 9218 (top - 1) (omega arith) (omega arith));
+            seen = mark-levels ∙ remembered w s;
+            state = state-same ws marked hand hand (rows-above mark (omega arith)) (nodes-below mark (omega arith)) (slice-above mark 13315 hand (omega arith) (ready .handing .low)) ∙ s .state;
+          })
+          (step-misses (modeSays m) (mutationSays m) w (itemOf (last ws top)) (queueOf (slice 9218 (top - 1) ws)) (head w s) (higher w s)
+          (ap (λ (t : State). nodeAt (t .graph) (placeAt ws top)) (sym (s .state)) ∙ gone))
+        where
+          gone : nodeAt (stateOf ws hand .graph) (placeAt ws top) ≡ none
+          gone = graph-missing ws hand (placeAt ws top) x-below (sym value-kept ∙ none-there)
+
+      pub step-missing : Stepped m ws top hand marked (top - 1) hand
+      step-missing = record {
+        follows = misses;
+        ready = record {
+          size = omega (arith, ready .size, mark .same);
+          low = omega arith;
+          good = subst Good (sym (rows-above mark (omega arith))) (ready .good);
+          fits = omega (arith, ready .fits, falls-by, phi-marked);
+          handing = record { low = ready .handing .low; room = omega (arith, ready .handing .room, ap (λ (l : List ℕ). bare (recordsOf l)) (nodes-below mark (omega arith))) };
+        };
+        falls = omega (arith, falls-by, phi-marked);
+        aside = record { graph = rows-above mark (omega arith); behind = drop-more 4096 13827 marked ws (omega arith) (mark .high); same = mark .same };
+      }
+        where
+          phi-marked : phi (seenOf marked) (rowsOf marked) 512 ≡ phi (set (seenOf ws) (placeAt ws top) (kindAt ws top + 1)) (rowsOf ws) 512
+          phi-marked =
+              ap (λ (l : List ℕ). phi l (rowsOf marked) 512) mark-levels
+              ∙ ap (λ (g : List ℕ). phi (set (seenOf ws) (placeAt ws top) (kindAt ws top + 1)) g 512) (rows-above mark (omega arith))
+
+    -- ---- accepted: the function handed over, the fields written, the entries pushed
+    module _ (wsH : List ℕ) (h : ℕ) (ph : Pushed marked hand (handW marked (getD marked (4096 + placeAt ws top) 0) (placeAt ws top) (m .«should_record_errors»)) wsH h) where
+      abbrev records : List Record
+      records = recordsOf (nodesOf ws)
+
+      abbrev handing : List ℕ
+      handing = listIf (recordsErrors (modeSays m) && not (hasRecord (getD (recordsOf (nodesOf ws)) (placeAt ws top) noRecord))) (functionOf (valueOf (value (rowsOf ws) (placeAt ws top))))
+
+      hands : handW marked (getD marked (4096 + placeAt ws top) 0) (placeAt ws top) (m .«should_record_errors») ≡ handing
+      unfolding nodesOf
+      hands =
+          hand-same marked (getD marked (4096 + placeAt ws top) 0) (placeAt ws top) (m .«should_record_errors») x-below
+          ∙ ap (λ (l : List ℕ). handW l (getD marked (4096 + placeAt ws top) 0) (placeAt ws top) (m .«should_record_errors»)) (nodes-below mark (omega arith))
+          ∙ ap (λ (v : ℕ). handW (take 3584 ws) v (placeAt ws top) (m .«should_record_errors»)) value-kept
+          ∙ handed-is (take 3584 ws) (value (rowsOf ws) (placeAt ws top)) (placeAt ws top) m x-below callable
+
+      ph′ : Pushed marked hand handing wsH h
+      ph′ = subst (λ (vs : List ℕ). Pushed marked hand vs wsH h) hands ph
+
+      abbrev touched : List Record
+      touched = set (recordsOf (nodesOf ws)) (placeAt ws top) (touch (itemOf (last ws top) .transitive) (mutationSays m) (record { kind = itemOf (last ws top) .kind; span = m .span }) (getD (recordsOf (nodesOf ws)) (placeAt ws top) noRecord))
+
+      hand-room : h + bare touched ≤ 13827
+      hand-room =
+          omega (
+            arith,
+            ph′ .next,
+            ready .handing .room,
+            room-kept (recordsOf (nodesOf ws)) (placeAt ws top) (recordsErrors (modeSays m)) (valueOf (value (rowsOf ws) (placeAt ws top))) (itemOf (last ws top) .transitive) (mutationSays m)
+                (record { kind = itemOf (last ws top) .kind; span = m .span }) (omega (arith, records-length (nodesOf ws))),
+          )
+
+      kept-hand : Kept 13315 13827 marked wsH
+      kept-hand = pushed-kept 13315 13827 ph′ (ready .handing .low) (omega (arith, hand-room))
+
+      module _ (ws₂ : List ℕ) (is₂ : ws₂ ≡ acceptW wsH (placeAt ws top) (transitiveAt ws top) (kindAt ws top + 1) m) where
+        kept-fields : Kept 0 3584 wsH ws₂
+        kept-fields = subst (Kept 0 3584 wsH) (sym is₂) (accept-kept wsH (placeAt ws top) (transitiveAt ws top) (kindAt ws top + 1) m x-below)
+
+        rows₂ : rowsOf ws₂ ≡ rowsOf ws
+        rows₂ = rows-above kept-fields (omega arith) ∙ rows-below kept-hand (omega arith) ∙ rows-above mark (omega arith)
+
+        length₂ : length ws₂ ≡ length ws
+        length₂ = kept-fields .same ∙ kept-hand .same ∙ mark .same
+
+        pub step-room : Room ws₂ (top - 1) (deg (rowsOf ws₂) (placeAt ws top))
+        step-room = record {
+          size = omega (arith, ready .size, length₂);
+          low = omega arith;
+          good = subst Good (sym rows₂) (ready .good);
+          room = omega (arith, falls-by, ready .fits, ap (λ (g : List ℕ). deg g (placeAt ws top)) rows₂);
+        }
+
+        module _ (there : getD marked (4096 + placeAt ws top) 0 ≡ 0 → ⊥) (ws₃ : List ℕ) (r : ℕ)
+            (p : Pushed ws₂ (top - 1) (pushedW (rowsOf ws₂) (placeAt ws top) (directionAt ws top) (m .index) (transitiveAt ws top) (kindAt ws top)) ws₃ r) where
+          abbrev pushed : List ℕ
+          pushed = pushedW (rowsOf ws) (placeAt ws top) (directionAt ws top) (m .index) (transitiveAt ws top) (kindAt ws top)
+
+          p′ : Pushed ws₂ (top - 1) pushed ws₃ r
+          p′ = subst (λ (g : List ℕ). Pushed ws₂ (top - 1) (pushedW g (placeAt ws top) (directionAt ws top) (m .index) (transitiveAt ws top) (kindAt ws top)) ws₃ r) rows₂ p
+
+          few : length pushed ≤ deg (rowsOf ws) (placeAt ws top)
+          few = pushed-le (rowsOf ws) (rows-length ws (ready .size)) (ready .good) (placeAt ws top) (directionAt ws top) (m .index) (transitiveAt ws top) (kindAt ws top) x-below
+
+          room : r ≤ 13315
+          room = omega (arith, p′ .next, falls-by, few, ready .fits)
+
+          kept-queue : Kept 9218 13315 ws₂ ws₃
+          kept-queue = pushed-kept 9218 13315 p′ (omega arith) room
+
+          nodes₃ : nodesOf ws₃ ≡ acceptW (nodesOf ws) (placeAt ws top) (transitiveAt ws top) (kindAt ws top + 1) m
+          nodes₃ =
+              nodes-below kept-queue (omega arith) ∙ ap nodesOf is₂ ∙ accept-nodes wsH (placeAt ws top) (transitiveAt ws top) (kindAt ws top + 1) m x-below
+              ∙ ap (λ (l : List ℕ). acceptW l (placeAt ws top) (transitiveAt ws top) (kindAt ws top + 1) m) (nodes-below kept-hand (omega arith) ∙ nodes-below mark (omega arith))
+
+          seen₃ : seenOf ws₃ ≡ set (seenOf ws) (placeAt ws top) (kindAt ws top + 1)
+          seen₃ = seen-below kept-queue (omega arith) ∙ seen-above kept-fields (omega arith) ∙ seen-below kept-hand (omega arith) ∙ mark-levels
+
+          rows₃ : rowsOf ws₃ ≡ rowsOf ws
+          rows₃ = rows-below kept-queue (omega arith) ∙ rows₂
+
+          queue₃ : slice 9218 r ws₃ ≡ slice 9218 (top - 1) ws ++ pushed
+          queue₃ =
+              pushed-part 9218 p′ (omega arith) (omega (arith, room, length₂, ready .size))
+              ∙ ap (λ (q : List ℕ). q ++ pushed)
+              (slice-above kept-fields 9218 (top - 1) (omega arith) (omega arith) ∙ slice-below kept-hand 9218 (top - 1) (omega (arith, ready .fits)) ∙ slice-above mark 9218 (top - 1) (omega arith) (omega arith))
+
+          handed₃ : slice 13315 h ws₃ ≡ slice 13315 hand ws ++ handing
+          handed₃ =
+              slice-above kept-queue 13315 h (omega arith) (omega (arith, ph′ .next, ready .handing .low)) ∙ slice-above kept-fields 13315 h (omega arith) (omega (arith, ph′ .next, ready .handing .low))
+              ∙ pushed-part 13315 ph′ (ready .handing .low) (omega (arith, hand-room, mark .same, ready .size))
+              ∙ ap (λ (q : List ℕ). q ++ handing) (slice-above mark 13315 hand (omega arith) (ready .handing .low))
+
+          records₃ : recordsOf (nodesOf ws₃) ≡ touched
+          unfolding itemOf
+          records₃ = ap recordsOf nodes₃ ∙ accept-records (nodesOf ws) (nodes-length ws (ready .size)) (placeAt ws top) (transitiveAt ws top) (kindAt ws top) x-below k-below m
+
+          state₃ : stateOf ws₃ h
+              ≡ accepts (modeSays m) (mutationSays m) (placeAt ws top) (valueOf (value (rowsOf ws) (placeAt ws top))) (itemOf (last ws top) .transitive) (itemOf (last ws top) .kind) (stateOf ws hand)
+          unfolding stateOf accepts mutationSays
+          state₃ = λ j. record {
+            graph = graphOfRows (rows₃ j);
+            records = records₃ j;
+            ends = (ap endsOf nodes₃ ∙ accept-ends (nodesOf ws) (placeAt ws top) (transitiveAt ws top) (kindAt ws top + 1) m x-below) j;
+            handed = handed₃ j;
+          }
+
+          own-there : value (rowsOf ws) (placeAt ws top) ≡ 0 → ⊥
+          own-there z = there (value-kept ∙ z)
+
+          abbrev own : Node
+          own = ownNode (value (rowsOf ws) (placeAt ws top)) (rowF (rowsOf ws)) (rowB (rowsOf ws)) (placeAt ws top)
+
+          entries₃ : queueOf (slice 9218 r ws₃) ≡ reverseAux (pushes (mutationSays m .index) own (itemOf (last ws top))) (queueOf (slice 9218 (top - 1) ws))
+          unfolding itemOf mutationSays
+          entries₃ =
+              ap queueOf queue₃ ∙ queue-push (slice 9218 (top - 1) ws) pushed
+              ∙ ap (λ (l : List Item). reverseAux l (queueOf (slice 9218 (top - 1) ws)))
+              (pushed-items (rowsOf ws) (placeAt ws top) (m .index) (transitiveAt ws top) (directionAt ws top) (kindAt ws top) (omega arith) (omega arith) (omega arith) (itemOf (last ws top)) refl refl refl)
+
+          accepts-it : (w : Walk) → Shows ws top hand w → Shows ws₃ r h (step (modeSays m) (mutationSays m) (w .queue) w)
+          unfolding itemOf
+          accepts-it w s =
+              shows-to (step (modeSays m) (mutationSays m) (w .queue) w) (accept (modeSays m) (mutationSays m) own (itemOf (last ws top)) (queueOf (slice 9218 (top - 1) ws)) w)
+              (record {
+                queue = entries₃;
+                seen = seen₃ ∙ remembered w s;
+                state = state₃ ∙ ap (accepts (modeSays m) (mutationSays m) (placeAt ws top) (valueOf (value (rowsOf ws) (placeAt ws top))) (itemOf (last ws top) .transitive) (itemOf (last ws top) .kind)) (s .state);
+              })
+              (step-accepts (modeSays m) (mutationSays m) w (itemOf (last ws top)) (queueOf (slice 9218 (top - 1) ws)) (head w s) own (higher w s)
+              (ap (λ (t : State). nodeAt (t .graph) (placeAt ws top)) (sym (s .state)) ∙ graph-there ws hand (placeAt ws top) x-below own-there))
+
+          phi₃ : phi (seenOf ws₃) (rowsOf ws₃) 512 ≡ phi (set (seenOf ws) (placeAt ws top) (kindAt ws top + 1)) (rowsOf ws) 512
+          phi₃ = ap (λ (l : List ℕ). phi l (rowsOf ws₃) 512) seen₃ ∙ ap (λ (g : List ℕ). phi (set (seenOf ws) (placeAt ws top) (kindAt ws top + 1)) g 512) rows₃
+
+          pub step-accepted : Stepped m ws top hand ws₃ r h
+          step-accepted = record {
+            follows = accepts-it;
+            ready = record {
+              size = omega (arith, ready .size, length₂, kept-queue .same);
+              low = omega (arith, p′ .next);
+              good = subst Good (sym rows₃) (ready .good);
+              fits = omega (arith, p′ .next, few, falls-by, phi₃, ready .fits);
+              handing = record { low = omega (arith, ph′ .next, ready .handing .low); room = omega (arith, hand-room, ap bare records₃) };
+            };
+            falls = omega (arith, p′ .next, few, falls-by, phi₃);
+            aside = record {
+              graph = rows₃;
+              behind = drop-more 13315 13827 ws₃ ws₂ (omega arith) (kept-queue .high) ∙ drop-more 3584 13827 ws₂ wsH (omega arith) (kept-fields .high) ∙ kept-hand .high ∙ drop-more 4096 13827 marked ws (omega arith) (mark .high);
+              same = kept-queue .same ∙ length₂;
+            };
+          }

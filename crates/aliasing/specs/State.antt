@@ -1,0 +1,62 @@
+-- What the workspace stands for: the state that mutations run on (document 01, "Walks").
+use Prim.Native.Nat.{ℕ, zero, suc, _+_, _≤_}
+use mathlib.Core.Bool.{not}
+use mathlib.Core.List.{List}
+use mathlib.Core.Option.{Option, none, some}
+use lib.ListN.{getD, take}
+use lib.Seq.{slice}
+use Rattle.model.specs.Lists.{tally, oneIf}
+use Rattle.model.specs.Mutation.{reasonOf}
+use Rattle.model.specs.State.{Info, Record, hasRecord, State}
+use Rattle.rows.specs.Layout.{LKIND, LSPAN, TKIND, TSPAN, LAST, REASON, END, SEEN, VALUE, HANDED, MUTATIONS}
+use Rattle.rows.specs.Rows.{rowsOf}
+use Rattle.rows.specs.Graph.{tab, graphOfRows}
+use Rattle.rows.specs.Pending.{kindOf}
+
+-- the fields of the nodes
+unfoldable pub nodesOf : List ℕ → List ℕ
+nodesOf ws = take SEEN ws
+
+-- the levels at which the walk under way has accepted each identifier, or found it missing
+unfoldable pub seenOf : List ℕ → List ℕ
+seenOf ws = slice SEEN VALUE ws
+
+-- a record by the words of its kind (0 is none, else the level) and its span
+abbrev pub infoOf : ℕ → ℕ → Option Info
+infoOf zero span = none
+infoOf (suc k) span = some (record { kind = kindOf k; span = span })
+
+-- what the fields keep of x
+unfoldable pub recordAt : List ℕ → ℕ → Record
+recordAt ns x = record {
+  reason = reasonOf (getD ns (REASON + x) 0);
+  last = getD ns (LAST + x) 0;
+  transitive = infoOf (getD ns (TKIND + x) 0) (getD ns (TSPAN + x) 0);
+  local = infoOf (getD ns (LKIND + x) 0) (getD ns (LSPAN + x) 0);
+}
+
+-- the records of all identifiers
+unfoldable pub recordsOf : List ℕ → List Record
+recordsOf ns = tab 512 (recordAt ns)
+
+-- the ends of all identifiers
+unfoldable pub endsOf : List ℕ → List ℕ
+endsOf ns = slice END SEEN ns
+
+-- the state; `hand` is where the next function is to be handed over
+unfoldable pub stateOf : List ℕ → ℕ → State
+stateOf ws hand = record {
+  graph = graphOfRows (rowsOf ws);
+  records = recordsOf (nodesOf ws);
+  ends = endsOf (nodesOf ws);
+  handed = slice HANDED hand ws;
+}
+
+-- how many identifiers have no record
+unfoldable pub bare : List Record → ℕ
+bare rs = tally (λ (r : Record). oneIf (not (hasRecord r))) rs
+
+-- the functions handed over leave room for one of each identifier without a record: none is handed over by an identifier that has one
+pub record Handing (ws : List ℕ) (hand : ℕ) : Type 0 where
+  pub low : HANDED ≤ hand
+  pub room : hand + bare (recordsOf (nodesOf ws)) ≤ MUTATIONS

@@ -1,0 +1,66 @@
+-- What the functions of the walk promise, by the walk of document 01.
+use Prim.Native.Nat.{ℕ, _+_, _*_, _≤_, _<_}
+use mathlib.Core.Bool.{false}
+use mathlib.Core.List.{List}
+use mathlib.Core.Path.{_≡_}
+use lib.ListN.{length, drop}
+use lib.Seq.{slice}
+use Rattle.model.specs.Size.{edges, entries}
+use Rattle.model.specs.Walks.{Walk, step, run, mutate}
+use Rattle.rows.specs.Layout.{LEAST, QUEUE, HANDED, MUTATIONS}
+use Rattle.rows.specs.Rows.{rowsOf, Good}
+use Rattle.pushes.specs.Items.{queueOf}
+use Rattle.aliasing.specs.Says.{modeSays, mutationSays}
+use Rattle.aliasing.specs.State.{seenOf, stateOf, Handing}
+use Rattle.aliasing.specs.Potential.{phi}
+use Rattle.aliasing.specs.declared.Mutation.{Mutation}
+
+-- the words hold the walk w, its accepted entries and its count aside: the queue up to `top`, the levels, the state
+pub record Shows (ws : List ℕ) (top hand : ℕ) (w : Walk) : Type 0 where
+  pub queue : queueOf (slice QUEUE top ws) ≡ w .queue
+  pub seen : seenOf ws ≡ w .seen
+  pub state : stateOf ws hand ≡ w .state
+
+-- what a walk needs at each entry
+pub record Ready (ws : List ℕ) (top hand : ℕ) : Type 0 where
+  pub size : LEAST ≤ length ws
+  pub low : QUEUE ≤ top
+  pub good : Good (rowsOf ws)
+  pub fits : top + phi (seenOf ws) (rowsOf ws) 512 ≤ HANDED
+  pub handing : Handing ws hand
+
+-- what no part of a walk changes: the graph, and what lies behind the functions handed over
+pub record Aside (ws ws′ : List ℕ) : Type 0 where
+  pub graph : rowsOf ws′ ≡ rowsOf ws
+  pub behind : drop MUTATIONS ws′ ≡ drop MUTATIONS ws
+  pub same : length ws′ ≡ length ws
+
+-- what `mutate` can be called with: an identifier, and no errors recorded for a simulated mutation
+pub record Callable (m : Mutation) : Type 0 where
+  pub start : m .start .0 < 512
+  pub quiet : m .end .0 ≡ 0 → m .«should_record_errors» ≡ false
+
+-- one entry was taken
+pub record Stepped (m : Mutation) (ws : List ℕ) (top hand : ℕ) (ws′ : List ℕ) (top′ hand′ : ℕ) : Type 0 where
+  pub follows : (w : Walk) → Shows ws top hand w → Shows ws′ top′ hand′ (step (modeSays m) (mutationSays m) (w .queue) w)
+  pub ready : Ready ws′ top′ hand′
+  pub falls : top′ + phi (seenOf ws′) (rowsOf ws′) 512 < top + phi (seenOf ws) (rowsOf ws) 512
+  pub aside : Aside ws ws′
+
+-- all entries were taken, `count` of them
+pub record Walked (m : Mutation) (ws : List ℕ) (top hand : ℕ) (ws′ : List ℕ) (count hand′ : ℕ) : Type 0 where
+  pub follows : (w : Walk) → Shows ws top hand w → Shows ws′ QUEUE hand′ (run (modeSays m) (mutationSays m) count w)
+  pub counts : (w : Walk) → Shows ws top hand w → run (modeSays m) (mutationSays m) count w .taken ≡ w .taken + count
+  pub few : QUEUE + count ≤ top + phi (seenOf ws) (rowsOf ws) 512
+  pub ready : Ready ws′ QUEUE hand′
+  pub aside : Aside ws ws′
+
+-- the walk of one mutation, the definition's in state and count
+pub record Mutated (m : Mutation) (ws : List ℕ) (hand : ℕ) (ws′ : List ℕ) (count hand′ : ℕ) : Type 0 where
+  pub state : stateOf ws′ hand′ ≡ mutate (modeSays m) (mutationSays m) (stateOf ws hand) .state
+  pub counts : count ≡ mutate (modeSays m) (mutationSays m) (stateOf ws hand) .taken
+  pub few : count ≤ 1 + 2 * (edges (stateOf ws hand .graph) + entries (stateOf ws hand .graph))
+  -- so many as the queue has words
+  pub most : count ≤ 4097
+  pub handing : Handing ws′ hand′
+  pub aside : Aside ws ws′

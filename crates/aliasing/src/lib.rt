@@ -1,0 +1,255 @@
+// The walk of a mutation over the graph in the lent workspace (the original's `mutate`), and the loop over the pending mutations.
+ghost use mathlib.Core.Path.{_≡_};
+ghost use Prim.Native.Nat.{_+_, _-_, _*_, _≤_, _<_};
+ghost use lib.ListN.{length, getD};
+ghost use Rattle.model.specs.Limits.{mostOrder};
+ghost use Rattle.rows.specs.Layout.{LEAST, MUTATIONS, QUEUE, VALUE};
+ghost use Rattle.rows.specs.Rows.{Indexed};
+ghost use Rattle.pushes.specs.Pushes.{Pushed};
+ghost use Rattle.rows.specs.Pending.{kindOf};
+ghost use Rattle.aliasing.specs.Says.{bit, kindBit, kindSays};
+ghost use Rattle.aliasing.specs.State.{Handing};
+ghost use Rattle.aliasing.specs.Accepts.{raiseW, firstW, recordW, acceptW, functionW, handW};
+ghost use Rattle.aliasing.specs.Walks.{Ready, Callable, Stepped, Walked, Mutated};
+ghost use Rattle.aliasing.specs.Pending.{Pending, Made, Processed};
+use hir::EvaluationOrder;
+use hir::IdentifierId;
+use pushes::entry;
+use pushes::push_all;
+use rows::END;
+use rows::HANDED;
+use rows::LAST;
+use rows::LKIND;
+use rows::MUTATIONS;
+use rows::QUEUE;
+use rows::REASON;
+use rows::SEEN;
+use rows::TKIND;
+use rows::VALUE;
+use rows::clear;
+
+// The original's `MutationKind`.
+pub enum MutationKind {
+    Conditional,
+    Definite,
+}
+
+// What `mutate` is called with. A simulated mutation has its end unset and records no errors; reason 0 is none, 1 AssignCurrentProperty.
+pub struct Mutation {
+    pub index: u32,
+    pub start: IdentifierId,
+    pub end: EvaluationOrder,
+    pub transitive: bool,
+    pub kind: MutationKind,
+    pub span: u32,
+    pub reason: u32,
+    pub should_record_errors: bool,
+}
+
+// What a step leaves: the queue's top, and where the next function is to be handed over.
+struct Next {
+    top: usize,
+    hand: usize,
+}
+
+// What a walk leaves: the entries taken, and where the next function is to be handed over.
+pub struct Taken {
+    pub count: u32,
+    pub hand: usize,
+}
+
+// ws[at] becomes the larger of itself and v.
+fn raise(ws: &mut [u32], at: usize, v: u32)
+    requires { ⌜ at < length (now ws) ⌝ }
+    ensures { λ _. ⌜ now (ws .exit) ≡ raiseW (now (ws .entry)) at v ⌝ }
+{
+    if ws[at] < v {
+        ws[at] = v;
+    }
+}
+
+// ws[at] becomes v where it is 0.
+fn first(ws: &mut [u32], at: usize, v: u32)
+    requires { ⌜ at < length (now ws) ⌝ }
+    ensures { λ _. ⌜ now (ws .exit) ≡ firstW (now (ws .entry)) at v ⌝ }
+{
+    if ws[at] == 0 {
+        ws[at] = v;
+    }
+}
+
+// A record of a higher kind replaces the one there: its level at `at`, its span 512 words further.
+fn record_kind(ws: &mut [u32], at: usize, level: u32, span: u32)
+    requires { ⌜ at + 512 < length (now ws) ⌝ }
+    ensures { λ _. ⌜ now (ws .exit) ≡ recordW (now (ws .entry)) at level span ⌝ }
+{
+    if ws[at] < level {
+        ws[at] = level;
+        ws[at + 512] = span;
+    }
+}
+
+// What an accepted node keeps of the mutation.
+fn accept(ws: &mut [u32], x: usize, transitive: u32, level: u32, m: Mutation)
+    requires { ⌜ (x < 512) × (LEAST ≤ length (now ws)) ⌝ }
+    ensures { λ _. ⌜ now (ws .exit) ≡ acceptW (now (ws .entry)) x transitive level m ⌝ }
+{
+    first(ws, REASON + x, m.reason);
+    raise(ws, LAST + x, m.index);
+    raise(ws, END + x, m.end.0);
+    if transitive == 1 {
+        record_kind(ws, TKIND + x, level, m.span);
+    } else {
+        record_kind(ws, LKIND + x, level, m.span);
+    }
+}
+
+// A function node hands over its function, whose diagnostics the caller appends.
+pub fn append_function_errors(ws: &mut [u32], x: usize, hand: usize) -> usize
+    requires { ⌜ (x < 512) × ((LEAST ≤ length (now ws)) × (hand ≤ MUTATIONS)) ⌝ }
+    ensures { λ r. ⌜ Pushed (now (ws .entry)) hand (functionW (getD (now (ws .entry)) (VALUE + x) 0)) (now (ws .exit)) r ⌝ }
+{
+    let v = ws[VALUE + x];
+    if v < 3 {
+        return hand;
+    }
+    ws[hand] = v - 3;
+    hand + 1
+}
+
+// A node without a record hands over its function, if errors are recorded.
+fn record_errors(ws: &mut [u32], x: usize, errors: bool, hand: usize) -> usize
+    requires { ⌜ (x < 512) × ((LEAST ≤ length (now ws)) × (hand ≤ MUTATIONS)) ⌝ }
+    ensures { λ r. ⌜ Pushed (now (ws .entry)) hand (handW (now (ws .entry)) (getD (now (ws .entry)) (VALUE + x) 0) x errors) (now (ws .exit)) r ⌝ }
+{
+    if errors {
+        if ws[LKIND + x] == 0 {
+            if ws[TKIND + x] == 0 {
+                return append_function_errors(ws, x, hand);
+            }
+        }
+    }
+    hand
+}
+
+// Takes the last entry pushed.
+fn step(ws: &mut [u32], top: usize, hand: usize, m: Mutation) -> Next
+    requires { ⌜ Ready (now ws) top hand ⌝ }
+    requires { ⌜ Callable m ⌝ }
+    requires { ⌜ QUEUE < top ⌝ }
+    ensures { λ r. ⌜ Stepped m (now (ws .entry)) top hand (now (ws .exit)) (r .top) (r .hand) ⌝ }
+{
+    let t = top - 1;
+    let e = ws[t];
+    let x = (e % 512) as usize;
+    let kind = e / 2048 % 2;
+    if kind < ws[SEEN + x] {
+        return Next { top: t, hand: hand };
+    }
+    ws[SEEN + x] = kind + 1;
+    if ws[VALUE + x] == 0 {
+        return Next { top: t, hand: hand };
+    }
+    let transitive = e / 512 % 2;
+    let index = m.index;
+    let h = record_errors(ws, x, m.should_record_errors, hand);
+    accept(ws, x, transitive, kind + 1, m);
+    let r = push_all(ws, x, e / 1024 % 2, index, transitive, kind, t);
+    Next { top: r, hand: h }
+}
+
+// Takes entries until none is left.
+fn walk(ws: &mut [u32], top: usize, hand: usize, m: Mutation) -> Taken
+    requires { ⌜ Ready (now ws) top hand ⌝ }
+    requires { ⌜ Callable m ⌝ }
+    ensures { λ r. ⌜ Walked m (now (ws .entry)) top hand (now (ws .exit)) (r .count) (r .hand) ⌝ }
+{
+    let mut t = top;
+    let mut h = hand;
+    let mut taken: u32 = 0;
+    while QUEUE < t {
+        let r = step(ws, t, h, m);
+        t = r.top;
+        h = r.hand;
+        taken += 1;
+    }
+    Taken {
+        count: taken,
+        hand: h,
+    }
+}
+
+fn bit_of(b: bool) -> u32
+    ensures { λ r. ⌜ r ≡ bit b ⌝ }
+{
+    if b { 1 } else { 0 }
+}
+
+fn kind_bit(k: MutationKind) -> u32
+    ensures { λ r. ⌜ r ≡ kindBit k ⌝ }
+{
+    match k {
+        MutationKind::Conditional => 0,
+        MutationKind::Definite => 1,
+    }
+}
+
+// The walk of one mutation: the entries taken, and the functions handed over from `hand` on.
+pub fn mutate(ws: &mut [u32], hand: usize, m: Mutation) -> Taken
+    requires { ⌜ Indexed (now ws) ⌝ }
+    requires { ⌜ Handing (now ws) hand ⌝ }
+    requires { ⌜ Callable m ⌝ }
+    ensures { λ r. ⌜ Mutated m (now (ws .entry)) hand (now (ws .exit)) (r .count) (r .hand) ⌝ }
+{
+    clear(ws, SEEN, 512);
+    let kind = m.kind;
+    ws[QUEUE] = entry(m.start.0, bit_of(m.transitive), 0, kind_bit(kind));
+    walk(ws, QUEUE + 1, hand, m)
+}
+
+fn kind_of(b: u32) -> MutationKind
+    ensures { λ r. ⌜ kindSays r ≡ kindOf b ⌝ }
+{
+    if b == 0 {
+        MutationKind::Conditional
+    } else {
+        MutationKind::Definite
+    }
+}
+
+// The pending mutation of three words, as `mutate` is called with it.
+fn pending_mutation(w: u32, order: u32, span: u32, errors: bool) -> Mutation
+    requires { ⌜ order ≤ mostOrder ⌝ }
+    ensures { λ r. ⌜ Made w order span errors r ⌝ }
+{
+    let kind = kind_of(w / 1024 % 2);
+    Mutation {
+        index: w / 4096,
+        start: IdentifierId(w % 512),
+        end: EvaluationOrder(order + 1),
+        transitive: w / 512 % 2 == 1,
+        kind: kind,
+        span: span,
+        reason: w / 2048 % 2,
+        should_record_errors: errors,
+    }
+}
+
+// Process mutations: the pending ones in order. The entries that each walk took stay where its span was; returned is where the functions handed over end.
+pub fn process_mutations(ws: &mut [u32], count: usize, should_record_errors: bool) -> usize
+    requires { ⌜ Indexed (now ws) ⌝ }
+    requires { ⌜ Pending (now ws) count ⌝ }
+    ensures { λ r. ⌜ Processed «should_record_errors» (now (ws .entry)) count (now (ws .exit)) r ⌝ }
+{
+    let mut i = 0;
+    let mut hand = HANDED;
+    while i < count {
+        let at = MUTATIONS + 3 * i;
+        let m = pending_mutation(ws[at], ws[at + 1], ws[at + 2], should_record_errors);
+        let r = mutate(ws, hand, m);
+        ws[at + 2] = r.count;
+        hand = r.hand;
+        i += 1;
+    }
+    hand
+}

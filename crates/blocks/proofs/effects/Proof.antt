@@ -1,0 +1,125 @@
+use Rattle.blocks.proofs.JudgeLaws.{judge-got, judge-refused, times-next, times-stop, times-done, section-got, section-refused}
+use Rattle.blocks.specs.Says.{totalsAre}
+use Rattle.blocks.specs.Judging.{judge, tellEffect}
+use Rattle.hir.specs.Says.{wordSays, effectSays}
+use Rattle.model.specs.Sections.{effect, effects}
+use Rattle.model.specs.Reading.{times}
+use Rattle.model.specs.Lists.{each}
+use native.Mathlib.Omega.{arith}
+use mathlib.Core.Path.{_≡_, _∙_, sym, refl}
+use borrow.Author.Needs.{needs}
+use Rattle.hir.proofs.Answers.{says}
+use Rattle.blocks.proofs.effects.Statement.{statement}
+use Rattle.blocks.proofs.effects.Tie as tie
+use Rattle.blocks.proofs.effects.Reads as reads
+use Rattle.blocks.proofs.effects.Lts as lts
+use Rattle.blocks.proofs.Totals.effect.Reads as Totals-effect-reads
+use Rattle.effects.proofs.effect.Reads as effect-reads
+use Rattle.hir.proofs.Cursor.count.Reads as count-reads
+
+abbrev Inv-loop : tie.InvT-loop
+Inv-loop s n m terminal left₀ c₀ t₀ left c t = judge (times left₀ (effect n m)) (each (tellEffect terminal)) (totalsAre t₀) s (c₀ .at)
+    ≡ judge (times left (effect n m)) (each (tellEffect terminal)) (totalsAre t) s (c .at)
+
+abbrev μ-loop : tie.MeasureT-loop
+μ-loop s n m terminal left₀ c₀ t₀ left c t = left
+
+-- src/lib.rt:47:11
+count-requires : tie.Need-count-requires Inv-loop μ-loop
+count-requires c κs = tt
+
+-- src/lib.rt:48:23
+enum-known-count : tie.Need-enum-known-count Inv-loop μ-loop
+enum-known-count c = search needs
+
+-- src/lib.rt:52:27
+enum-known-k1 : tie.Need-enum-known-k1 Inv-loop μ-loop
+enum-known-k1 c = search needs
+
+-- src/lib.rt:53:13
+returns : tie.Need-returns Inv-loop μ-loop
+unfolding effects
+returns c =
+    let b3 = c .before .before .before in
+    sym (section-refused _ _ _ _ _ _ _ (says wordSays (c .before .k1 .given .1) (b3 .count .ensures)))
+
+-- src/lib.rt:57:5
+loop-holds : tie.Need-loop-holds Inv-loop μ-loop
+loop-holds c = refl
+
+-- src/lib.rt:58:15
+effect-requires : tie.Need-effect-requires Inv-loop μ-loop
+effect-requires c κs = tt
+
+-- src/lib.rt:59:29
+enum-known-e : tie.Need-enum-known-e Inv-loop μ-loop
+enum-known-e c = search needs
+
+-- src/lib.rt:61:17
+effect-requires-2 : tie.Need-effect-requires-2 Inv-loop μ-loop
+effect-requires-2 c κs = tt
+
+-- src/lib.rt:64:33
+enum-known-k2 : tie.Need-enum-known-k2 Inv-loop μ-loop
+enum-known-k2 c = search needs
+
+-- src/lib.rt:65:17
+returns-2 : tie.Need-returns-2 Inv-loop μ-loop
+unfolding effects
+returns-2 c =
+    let b3 = c .before .before .before in
+    let b4 = b3 .before in
+    let b5 = b4 .before in
+    let b7 = b5 .before .before in
+    let b9 = b7 .before .before in
+    sym (section-got _ _ _ _ _ _ _ _ (says wordSays (b7 .count2 .given .1) (b9 .count .ensures))
+    ∙ b5 .loop .inv
+    ∙ times-stop _ _ _ _ _ _ _ (b4 .loop-test .taken) (judge-refused _ _ _ _ _ _ (says effectSays (c .before .k2 .given .1) (b3 .effect .ensures))))
+
+-- src/lib.rt:68:9
+sub-left : tie.Need-sub-left Inv-loop μ-loop
+sub-left c = omega arith
+
+-- src/lib.rt:57:5
+loop-less : tie.Need-loop-less Inv-loop μ-loop
+loop-less c = omega arith
+
+-- src/lib.rt:57:5
+loop-again : tie.Need-loop-again Inv-loop μ-loop
+loop-again c =
+    let b4 = c .before .before .before .before in
+    let b5 = b4 .before in
+    let b6 = b5 .before in
+    rw (c .effect2 .ensures) (b6 .loop .inv
+    ∙ times-next _ _ _ _ _ _ _ _ (b5 .loop-test .taken) (judge-got _ _ _ _ _ _ _ (says effectSays (c .before .before .e .given .1) (b4 .effect .ensures))))
+
+-- src/lib.rt:35:1
+returns-3 : tie.Need-returns-3 Inv-loop μ-loop
+unfolding effects
+returns-3 c =
+    let b3 = c .before .before .before in
+    let b5 = b3 .before .before in
+    sym (section-got _ _ _ _ _ _ _ _ (says wordSays (b3 .count2 .given .1) (b5 .count .ensures))
+    ∙ c .before .loop .inv
+    ∙ times-done _ _ _ _ _ _ (c .loop-test .left))
+
+pub effects-spec : {M : Type 1} → statement M
+effects-spec =
+    tie.close
+    (tie.spec
+    Inv-loop
+    μ-loop
+    count-requires
+    enum-known-count
+    enum-known-k1
+    returns
+    loop-holds
+    effect-requires
+    enum-known-e
+    effect-requires-2
+    enum-known-k2
+    returns-2
+    sub-left
+    loop-less
+    loop-again
+    returns-3)

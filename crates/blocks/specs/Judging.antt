@@ -1,0 +1,99 @@
+-- Reading that keeps no tree: what was read is told to running totals as it comes, and only they go on.
+-- Refusal 8 asks whether a total is over its limit, so a total stops one above it.
+use Prim.Native.Nat.{ℕ, _+_}
+use mathlib.Core.Bool.{Bool, true, false}
+use mathlib.Core.List.{List, []}
+use lib.Dec.{ltb}
+use Rattle.model.specs.Lists.{pick, each}
+use Rattle.model.specs.Sheet.{EffectKind, Effect, BlockId, Operand, Phi, Instruction, Terminal, Other, Return, MaybeThrow, Block}
+use Rattle.model.specs.Effects.{Role, relation, mutation, render, diagnosis, nothing, rowOf, isAlias}
+use Rattle.model.specs.Reading.{Position, Result, got, refused, Read, andThen, _>>=_, count, numbered}
+use Rattle.model.specs.Limits.{mostBlocks}
+use Rattle.model.specs.Sections.{block}
+use Rattle.model.specs.Totals.{Totals}
+
+module _ {A B : Type 0} where
+  -- the same position or refusal, with another value
+  abbrev pub mapResult : (A → B) → Result A → Result B
+  mapResult f (got a c) = got (f a) c
+  mapResult f (refused k) = refused k
+
+  -- a part is read, and told to what was known before
+  unfoldable pub judge : Read A → (A → B → B) → B → Read B
+  judge f tell b ws c = mapResult (λ (a : A). tell a b) (f ws c)
+
+-- one more, but no more than `stop`
+abbrev pub bump : ℕ → ℕ → ℕ
+bump stop x = pick (ltb x stop) (x + 1) x
+
+-- one above each limit of refusal 8
+abbrev pub relationStop : ℕ
+relationStop = 1025
+
+-- the same for mutations
+abbrev pub mutationStop : ℕ
+mutationStop = 513
+
+-- the same for renders
+abbrev pub renderStop : ℕ
+renderStop = 257
+
+-- one more relation effect
+unfoldable pub withRelation : Totals → Totals
+withRelation t = record { relations = bump relationStop (t .relations); mutations = t .mutations; renders = t .renders }
+
+-- one more mutation
+unfoldable pub withMutation : Totals → Totals
+withMutation t = record { relations = t .relations; mutations = bump mutationStop (t .mutations); renders = t .renders }
+
+-- one more render
+unfoldable pub withRender : Totals → Totals
+withRender t = record { relations = t .relations; mutations = t .mutations; renders = bump renderStop (t .renders) }
+
+-- an effect of an instruction, by what it is for
+abbrev pub tellRole : Role → Totals → Totals
+tellRole relation t = withRelation t
+tellRole mutation t = withMutation t
+tellRole render t = withRender t
+tellRole diagnosis t = t
+tellRole nothing t = t
+
+-- an effect of a terminal counts if it is an alias
+unfoldable pub tellKind : Bool → EffectKind → Totals → Totals
+tellKind terminal k t = pick terminal (pick (isAlias k) (withRelation t) t) (tellRole (rowOf k .role) t)
+
+-- an effect, by its kind
+abbrev pub tellEffect : Bool → Effect → Totals → Totals
+tellEffect terminal e t = tellKind terminal (e .kind) t
+
+-- a phi operand is a relation effect
+abbrev pub tellOperand : Operand → Totals → Totals
+tellOperand o t = withRelation t
+
+-- a phi: its operands
+abbrev pub tellPhi : Phi → Totals → Totals
+tellPhi p t = each tellOperand (p .operands) t
+
+-- an instruction: its effects
+abbrev pub tellInstruction : Instruction → Totals → Totals
+tellInstruction i t = each (tellEffect false) (i .effects) t
+
+-- a terminal: the Return value is a relation effect, then its effects
+abbrev pub tellTerminal : Terminal → Totals → Totals
+tellTerminal (Other o) t = t
+tellTerminal (Return o p l) t = each (tellEffect true) l (withRelation t)
+tellTerminal (MaybeThrow o l) t = each (tellEffect true) l t
+
+-- a block: phis, instructions, terminal
+unfoldable pub tellBlock : Block → Totals → Totals
+tellBlock b t = tellTerminal (b .terminal) (each tellInstruction (b .instructions) (each tellPhi (b .phis) t))
+
+-- before the first block
+abbrev pub noTotals : Totals
+noTotals = record { relations = 0; mutations = 0; renders = 0 }
+
+-- "Blocks, at most 256"
+unfoldable pub blocksOf : ℕ → ℕ → Read (List Block)
+blocksOf n m = do
+  k ← count mostBlocks
+  numbered k [] (block n m)

@@ -1,0 +1,124 @@
+// Phis, whose operands name no predecessor twice.
+ghost use mathlib.Core.Path.{_≡_};
+ghost use mathlib.Core.List.{[]};
+ghost use Prim.Native.Nat.{_≤_};
+ghost use lib.ListN.{length, drop};
+ghost use Rattle.model.specs.Limits.{mostCount};
+ghost use Rattle.model.specs.Lists.{each, among};
+ghost use Rattle.model.specs.Reading.{numbered, counted};
+ghost use Rattle.model.specs.Sections.{operand, phi};
+ghost use Rattle.blocks.specs.Judging.{judge, tellOperand, tellPhi};
+ghost use Rattle.blocks.specs.Says.{totalsAre, totalsSays};
+use crate::Totals;
+use crate::TotalsStep;
+use hir::BlockStep;
+use hir::Cursor;
+use hir::PlaceStep;
+use hir::WordStep;
+
+// Whether a number is among those from a position on. Every one is looked at, so that many are compared at once.
+pub fn listed(numbers: &[u32], from: usize, number: u32) -> bool
+    requires { ⌜ from ≤ length (now numbers) ⌝ }
+    ensures { λ r. ⌜ r ≡ among number (drop from (now (numbers .entry))) ⌝ }
+{
+    let mut found = false;
+    let mut i = numbers.len();
+    while from < i {
+        i -= 1;
+        found = (number == numbers[i]) | found;
+    }
+    found
+}
+
+// `count` operands: a predecessor's number that none before had, and a place. The numbers are kept in the lent slice, the last one first.
+fn operands(
+    start: Cursor,
+    s: &[u32],
+    n: u32,
+    count: u32,
+    numbers: &mut [u32],
+    totals: Totals,
+) -> TotalsStep
+    requires { ⌜ count ≤ length (now numbers) ⌝ }
+    ensures { λ r. ⌜ totalsSays r ≡ judge (numbered count [] (operand n)) (each tellOperand) (totalsAre totals) (now (s .entry)) (start .at) ⌝ }
+{
+    let mut left = count;
+    let mut c = start;
+    let mut t = totals;
+    let mut free = numbers.len();
+    while 0 < left {
+        let number: u32;
+        let c1: Cursor;
+        match c.block_number(s) {
+            BlockStep::Got(b, d1) => {
+                number = b.0;
+                c1 = d1;
+            }
+            BlockStep::Refused(k1) => {
+                return TotalsStep::Refused(k1);
+            }
+        }
+        if listed(numbers, free, number) {
+            return TotalsStep::Refused(6);
+        }
+        free -= 1;
+        numbers[free] = number;
+        match c1.place(s, n) {
+            PlaceStep::Got(_, d2) => {
+                t = t.relation();
+                c = d2;
+            }
+            PlaceStep::Refused(k2) => {
+                return TotalsStep::Refused(k2);
+            }
+        }
+        left -= 1;
+    }
+    TotalsStep::Got(t, c)
+}
+
+// A place, an operand count and the operands.
+pub fn phi(c: Cursor, s: &[u32], n: u32, numbers: &mut [u32], totals: Totals) -> TotalsStep
+    requires { ⌜ mostCount ≤ length (now numbers) ⌝ }
+    ensures { λ r. ⌜ totalsSays r ≡ judge (phi n) tellPhi (totalsAre totals) (now (s .entry)) (c .at) ⌝ }
+{
+    match c.place(s, n) {
+        PlaceStep::Got(_, c1) => match c1.count(s, 1024) {
+            WordStep::Got(count, c2) => operands(c2, s, n, count, numbers, totals),
+            WordStep::Refused(k2) => TotalsStep::Refused(k2),
+        },
+        PlaceStep::Refused(k1) => TotalsStep::Refused(k1),
+    }
+}
+
+// A phi count and the phis.
+pub fn phis(start: Cursor, s: &[u32], n: u32, numbers: &mut [u32], totals: Totals) -> TotalsStep
+    requires { ⌜ mostCount ≤ length (now numbers) ⌝ }
+    ensures { λ r. ⌜ totalsSays r ≡ judge (counted mostCount (phi n)) (each tellPhi) (totalsAre totals) (now (s .entry)) (start .at) ⌝ }
+{
+    let mut left: u32;
+    let mut c: Cursor;
+    match start.count(s, 1024) {
+        WordStep::Got(count, d) => {
+            left = count;
+            c = d;
+        }
+        WordStep::Refused(k1) => {
+            return TotalsStep::Refused(k1);
+        }
+    }
+    let mut t = totals;
+    while 0 < left {
+        match phi(c, s, n, numbers, t) {
+            TotalsStep::Got(u, d2) => {
+                t = u;
+                c = d2;
+            }
+            TotalsStep::Refused(k2) => {
+                return TotalsStep::Refused(k2);
+            }
+        }
+        left -= 1;
+    }
+    TotalsStep::Got(t, c)
+}

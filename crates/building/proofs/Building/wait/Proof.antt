@@ -1,0 +1,31 @@
+use native.Mathlib.Omega.{arith}
+use Rattle.building.proofs.Stages.{waited}
+use borrow.Author.Needs.{needs}
+use Rattle.building.proofs.Building.wait.Statement.{statement}
+use Rattle.building.proofs.Building.wait.Tie as tie
+use Rattle.building.proofs.Building.wait.Reads as reads
+use Rattle.building.proofs.Building.wait.Lts as lts
+use Rattle.building.proofs.Building.index.Reads as index-reads
+use Rattle.building.proofs.waiting.wait.Reads as wait-reads
+
+index-requires : tie.Need-index-requires
+index-requires c κs = search needs
+
+wait-requires : tie.Need-wait-requires
+wait-requires c κs = search needs
+
+add-self : tie.Need-add-self
+add-self c = omega arith
+
+same-length : tie.Need-same-length
+same-length c = omega arith
+
+returns : tie.Need-returns
+returns c =
+    let b3 = c .before .before .before in
+    let b5 = b3 .before .before in
+    let b8 = b5 .before .before .before in
+    waited _ _ _ _ _ _ _ (b8 .pre .0) (b8 .pre .1 .0) _ (b5 .index .ensures) (b3 .wait .ensures)
+
+pub wait-spec : {M : Type 1} → statement M
+wait-spec = tie.close (tie.spec index-requires wait-requires add-self same-length returns)

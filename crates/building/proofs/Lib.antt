@@ -1,0 +1,13 @@
+pub mod Words
+pub mod Graphs
+pub mod Loops
+pub mod Clean
+pub mod Writes
+pub mod Steps
+pub mod LayOut
+pub mod Operands
+pub mod Counts
+pub mod Pushes
+pub mod Stages
+pub mod Beside
+pub mod Ends

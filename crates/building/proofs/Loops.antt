@@ -1,0 +1,136 @@
+-- The loops over a log.
+use Prim.Native.Nat.{ℕ, zero, suc, _+_, _-_, _*_, _/_, _%_, _≤_, _<_}
+use native.Mathlib.Omega.{arith}
+use native.Mathlib.Numerals.{add-one}
+use native.Mathlib.Nat.{add-zero, add-suc}
+use mathlib.Core.Bool.{Bool, true, false}
+use mathlib.Core.List.{List, [], _∷_, _++_, append-assoc, append-nil}
+use mathlib.Core.Path.{_≡_, refl, sym, ap, subst, _∙_}
+use lib.ListN.{length, getD, set, take, drop, length-set}
+use lib.Seq.{slice, slice-cons, slice-empty, take-set-le, drop-set-lt, getD-drop, append-snoc}
+use lib.Dec.{eqb}
+use borrow.Author.Tests.{eq-eqb, ne-eqb}
+use Rattle.model.specs.Lists.{pick}
+use Rattle.rows.specs.Rows.{Kept}
+use Rattle.rows.proofs.Parts.{drop-more, drop-word, slice-push, kept-none, kept-set}
+use Rattle.building.specs.Logs.{ownerW, without, anyP}
+use Rattle.building.specs.Held.{Left}
+
+-- ---- a test of every word: what is found and what is left to test decide as the whole does
+pub record Testing (test : ℕ → Bool) (at : ℕ) (ws : List ℕ) (n : ℕ) (found : Bool) (i : ℕ) : Type 0 where
+  pub mid : i ≤ n
+  pub rest : pick found true (anyP test (slice (at + i) (at + n) ws)) ≡ anyP test (slice at (at + n) ws)
+
+pick-true : (b : Bool) → pick b true true ≡ true
+pick-true true = refl
+pick-true false = refl
+
+pick-self : (b : Bool) → pick b true false ≡ b
+pick-self true = refl
+pick-self false = refl
+
+module _ (test : ℕ → Bool) (at : ℕ) (ws : List ℕ) (n : ℕ) (found : Bool) (i : ℕ) (size : at + n ≤ length ws) where
+  pub test-start : Testing test at ws n false 0
+  test-start = record { mid = omega arith; rest = ap (λ (j : ℕ). anyP test (slice j (at + n) ws)) (add-zero at) }
+
+  module _ (c : Testing test at ws n found i) (h : i < n) where
+    next : slice (at + i) (at + n) ws ≡ getD ws (at + i) 0 ∷ slice (at + (i + 1)) (at + n) ws
+    next =
+        let q : at + (i + 1) ≡ suc (at + i) = omega arith in
+        slice-cons (at + i) (at + n) ws 0 (omega arith) size ∙ ap (λ (j : ℕ). getD ws (at + i) 0 ∷ slice j (at + n) ws) (sym q)
+
+    hit : test (getD ws (at + i) 0) ≡ true → anyP test (slice (at + i) (at + n) ws) ≡ true
+    unfolding anyP
+    hit e = rw (next, e)
+
+    passed : test (getD ws (at + i) 0) ≡ false → anyP test (slice (at + i) (at + n) ws) ≡ anyP test (slice (at + (i + 1)) (at + n) ws)
+    unfolding anyP
+    passed e = rw (next, e)
+
+    pub test-found : test (getD ws (at + i) 0) ≡ true → Testing test at ws n true (i + 1)
+    test-found e = record { mid = omega arith; rest = sym (pick-true found) ∙ ap (pick found true) (sym (hit e)) ∙ c .rest }
+
+    pub test-turn : test (getD ws (at + i) 0) ≡ false → Testing test at ws n found (i + 1)
+    test-turn e = record { mid = omega arith; rest = ap (pick found true) (sym (passed e)) ∙ c .rest }
+
+  none-there : i ≡ n → anyP test (slice (at + i) (at + n) ws) ≡ false
+  unfolding anyP
+  none-there q = rw (q, slice-empty (at + n) ws)
+
+  pub test-end : Testing test at ws n found i → n ≤ i → found ≡ anyP test (slice at (at + n) ws)
+  test-end c h = sym (pick-self found) ∙ ap (pick found true) (sym (none-there (omega (arith, c .mid)))) ∙ c .rest
+
+-- ---- taking out the words of x
+pub record Leaving (ws₀ : List ℕ) (t at n x : ℕ) (ws : List ℕ) (i k : ℕ) : Type 0 where
+  pub fits : at + n ≤ length ws₀
+  pub mid : i ≤ n
+  pub low : k ≤ i
+  pub kept : Kept at (at + n) ws₀ ws
+  pub ahead : drop (at + i) ws ≡ drop (at + i) ws₀
+  pub done : slice at (at + k) ws ++ without t x (slice (at + i) (at + n) ws₀) ≡ without t x (slice at (at + n) ws₀)
+
+pub leave-start : (ws : List ℕ) (t at n x : ℕ) → at + n ≤ length ws → Leaving ws t at n x ws 0 0
+leave-start ws t at n x h = record {
+  fits = h;
+  mid = omega arith;
+  low = omega arith;
+  kept = kept-none at (at + n) ws;
+  ahead = refl;
+  done = rw (add-zero at, slice-empty at ws);
+}
+
+module _ (ws₀ : List ℕ) (t at n x : ℕ) (ws : List ℕ) (i k : ℕ) (c : Leaving ws₀ t at n x ws i k) (h : i < n) where
+  word-is : getD ws (at + i) 0 ≡ getD ws₀ (at + i) 0
+  word-is = drop-word (at + i) (at + i) ws₀ ws (omega arith) (c .ahead)
+
+  front : slice (at + i) (at + n) ws₀ ≡ getD ws (at + i) 0 ∷ slice (at + (i + 1)) (at + n) ws₀
+  front =
+      let q : at + (i + 1) ≡ suc (at + i) = omega arith in
+      slice-cons (at + i) (at + n) ws₀ 0 (omega arith) (c .fits) ∙ ap (λ (j : ℕ). getD ws₀ (at + i) 0 ∷ slice j (at + n) ws₀) (sym q)
+      ∙ ap (λ (v : ℕ). v ∷ slice (at + (i + 1)) (at + n) ws₀) (sym word-is)
+
+  later : drop (at + (i + 1)) ws ≡ drop (at + (i + 1)) ws₀
+  later = drop-more (at + i) (at + (i + 1)) ws ws₀ (omega arith) (c .ahead)
+
+  pub leave-drop : ownerW t (getD ws (at + i) 0) ≡ x → Leaving ws₀ t at n x ws (i + 1) k
+  leave-drop e = record {
+    fits = c .fits;
+    mid = omega arith;
+    low = omega (arith, c .low);
+    kept = c .kept;
+    ahead = later;
+    done = ap (λ (l : List ℕ). slice at (at + k) ws ++ l) (sym gone) ∙ c .done;
+  }
+    where
+      gone : without t x (slice (at + i) (at + n) ws₀) ≡ without t x (slice (at + (i + 1)) (at + n) ws₀)
+      gone = unfold without in rw (front, eq-eqb (ownerW t (getD ws (at + i) 0)) x e)
+
+  pub leave-keep : (w : ℕ) → w ≡ getD ws (at + i) 0 → (ownerW t w ≡ x → ⊥) → Leaving ws₀ t at n x (set ws (at + k) w) (i + 1) (k + 1)
+  leave-keep w v e = record {
+    fits = c .fits;
+    mid = omega arith;
+    low = omega (arith, c .low);
+    kept = kept-set (c .kept) (at + k) w (omega arith) (omega (arith, c .low));
+    ahead = drop-set-lt (at + (i + 1)) ws (at + k) w (omega (arith, c .low)) ∙ later;
+    done =
+        ap (λ (l : List ℕ). l ++ without t x (slice (at + (i + 1)) (at + n) ws₀)) more
+        ∙ append-snoc (slice at (at + k) ws) w (without t x (slice (at + (i + 1)) (at + n) ws₀))
+        ∙ ap (λ (l : List ℕ). slice at (at + k) ws ++ l) (sym stay) ∙ c .done;
+  }
+    where
+      more : slice at (at + (k + 1)) (set ws (at + k) w) ≡ slice at (at + k) ws ++ (w ∷ [])
+      more = slice-push at k w ws (omega (arith, c .low, c .fits, c .kept .same))
+
+      stay : without t x (slice (at + i) (at + n) ws₀) ≡ w ∷ without t x (slice (at + (i + 1)) (at + n) ws₀)
+      stay = unfold without in rw (front, sym v, ne-eqb (ownerW t w) x e)
+
+none-left : (ws₀ : List ℕ) (t at n x i : ℕ) → i ≡ n → without t x (slice (at + i) (at + n) ws₀) ≡ []
+unfolding without
+none-left ws₀ t at n x i q = rw (q, slice-empty (at + n) ws₀)
+
+pub leave-end : (ws₀ : List ℕ) (t at n x : ℕ) (ws : List ℕ) (i k : ℕ) → Leaving ws₀ t at n x ws i k → n ≤ i → Left t at n x ws₀ ws k
+leave-end ws₀ t at n x ws i k c h = record {
+  log = sym (append-nil (slice at (at + k) ws)) ∙ ap (λ (l : List ℕ). slice at (at + k) ws ++ l) (sym (none-left ws₀ t at n x i (omega (arith, c .mid)))) ∙ c .done;
+  kept = c .kept;
+  few = omega (arith, c .low, c .mid);
+}

@@ -1,0 +1,70 @@
+use Rattle.rows.specs.Layout.{SEEN}
+use mathlib.Core.Bool.{false}
+use mathlib.Core.Path.{sym, _∙_}
+use Prim.Native.Nat.{_-_}
+use lib.Dec.{eqb}
+use borrow.Author.Tests.{eq-eqb, ne-eqb}
+use native.Mathlib.Omega.{arith}
+use Rattle.building.proofs.Loops.{Testing, test-start, test-found, test-turn, test-end}
+use Rattle.building.proofs.Pushes.{come-among}
+use Rattle.building.proofs.pending.has_come.Statement.{statement}
+use Rattle.building.proofs.pending.has_come.Tie as tie
+use Rattle.building.proofs.pending.has_come.Reads as reads
+use Rattle.building.proofs.pending.has_come.Lts as lts
+
+abbrev Inv-loop : tie.InvT-loop
+Inv-loop ws count block found₀ i₀ found i = Testing (eqb block) SEEN ws count found i
+
+abbrev μ-loop : tie.MeasureT-loop
+μ-loop ws count block found₀ i₀ found i = count - i
+
+loop-holds : tie.Need-loop-holds Inv-loop μ-loop
+loop-holds c = test-start _ _ _ _ false 0 (omega arith)
+
+add-number : tie.Need-add-number Inv-loop μ-loop
+add-number c = omega arith
+
+mul-number : tie.Need-mul-number Inv-loop μ-loop
+mul-number c = omega arith
+
+shared-slice-read-number : tie.Need-shared-slice-read-number Inv-loop μ-loop
+shared-slice-read-number c = omega arith
+
+add-i : tie.Need-add-i Inv-loop μ-loop
+add-i c = omega arith
+
+loop-less : tie.Need-loop-less Inv-loop μ-loop
+loop-less c = omega arith
+
+loop-again : tie.Need-loop-again Inv-loop μ-loop
+loop-again c =
+    let b3 = c .before .before .before in
+    test-found _ _ _ _ _ _ (omega arith) (b3 .loop .inv) (c .before .before .loop-test .taken) (eq-eqb _ _ (sym (c .if1 .taken)))
+
+loop-less-2 : tie.Need-loop-less-2 Inv-loop μ-loop
+loop-less-2 c = omega arith
+
+loop-again-2 : tie.Need-loop-again-2 Inv-loop μ-loop
+loop-again-2 c =
+    let b3 = c .before .before .before in
+    test-turn _ _ _ _ _ _ (omega arith) (b3 .loop .inv) (c .before .before .loop-test .taken) (ne-eqb _ _ (λ p. c .if1 .left (sym p)))
+
+returns : tie.Need-returns Inv-loop μ-loop
+returns c = test-end _ _ _ _ _ _ (omega arith) (c .before .loop .inv) (c .loop-test .left) ∙ come-among _ _ _ (omega arith)
+
+pub has-come-spec : {M : Type 1} → statement M
+has-come-spec =
+    tie.close
+    (tie.spec
+    Inv-loop
+    μ-loop
+    loop-holds
+    add-number
+    mul-number
+    shared-slice-read-number
+    add-i
+    loop-less
+    loop-again
+    loop-less-2
+    loop-again-2
+    returns)

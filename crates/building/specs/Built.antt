@@ -1,0 +1,124 @@
+-- The building so far in the lent workspace, by its counts; and what each step promises: what document 01 says of it.
+use Prim.Native.Nat.{ℕ, zero, suc, _+_, _*_, _≤_, _<_}
+use mathlib.Core.Bool.{false}
+use mathlib.Core.List.{List, [], _∷_, _++_}
+use mathlib.Core.Path.{_≡_}
+use lib.ListN.{length, getD, take, drop}
+use Rattle.model.specs.Limits.{mostIdentifiers}
+use Rattle.model.specs.Sheet.{BlockId, Place}
+use Rattle.model.specs.Graph.{Value, object, phi, function}
+use Rattle.model.specs.Mutation.{Mutation, RenderOf}
+use Rattle.model.specs.Built.{Built}
+use Rattle.model.specs.Building.{noNodes}
+use Rattle.model.specs.Size as size
+use Rattle.rows.specs.Layout.{LEAST, SEEN, VALUE, FBOUND, QUEUE, MUTATIONS, RENDERS, FUNCTIONS}
+use Rattle.rows.specs.Rows.{rowsOf, fb, bb, Indexed, Kept}
+use Rattle.rows.specs.Graph.{graphOfRows}
+use Rattle.rows.specs.Pending.{mutationsOf, rendersOf}
+use Rattle.building.specs.declared.Building.{Building}
+use Rattle.building.specs.declared.NodeValue.{NodeValue}
+use Rattle.building.specs.declared.NodeValue.the-variants.{Object, Phi, Function}
+use Rattle.building.specs.Logs.{Clean}
+use Rattle.building.specs.Held.{logsOf, graphOf, waitingOf}
+
+-- a node's value as the definitions have it
+abbrev pub valueIs : NodeValue → Value
+valueIs Object = object
+valueIs Phi = phi
+valueIs (Function f) = function (f .0)
+
+-- an inner function's number is below 64
+abbrev pub FunctionBelow : NodeValue → Type 0
+FunctionBelow Object = Unit {0}
+FunctionBelow Phi = Unit {0}
+FunctionBelow (Function f) = f .0 < 64
+
+-- a place of which only the identifier and the span matter
+abbrev pub placeAt : ℕ → ℕ → Place
+placeAt x span = record { identifier = x; effect = 0; reactive = false; span = span }
+
+-- the first n of the blocks that have come, the last one first
+unfoldable pub comeOf : List ℕ → ℕ → List BlockId
+comeOf ws zero = []
+comeOf ws (suc n) = getD ws (SEEN + n) 0 ∷ comeOf ws n
+
+-- the running index: each relation effect, mutation and render has taken one
+abbrev pub indexOf : Building → ℕ
+indexOf b = b .relations + b .mutations + b .renders
+
+-- the building so far
+unfoldable pub builtOf : List ℕ → Building → Built
+builtOf ws b = record {
+  graph = graphOf ws (b .held);
+  index = indexOf b;
+  come = comeOf ws (b .come);
+  waiting = waitingOf ws (b .held);
+  mutations = mutationsOf ws (b .mutations);
+  renders = rendersOf ws (b .renders);
+}
+
+-- what building keeps true: a missing node holds no word, and no count is above its limit
+pub record Sound (ws : List ℕ) (b : Building) : Type 0 where
+  pub size : LEAST ≤ length ws
+  pub clean : Clean (logsOf ws (b .held))
+  pub edges : b .held .edges + b .held .waiting ≤ b .relations
+  pub entries : b .held .entries + b .held .waiting ≤ b .relations
+  pub relations : b .relations ≤ 1024
+  pub mutations : b .mutations ≤ 512
+  pub renders : b .renders ≤ 256
+  pub come : b .come ≤ 256
+
+-- a step of the definition, in which d relation effects, m mutations, n renders and k blocks come; the words before SEEN and from FUNCTIONS on stay
+pub record Steps (f : Built → Built) (d m n k : ℕ) (ws : List ℕ) (b : Building) (ws′ : List ℕ) (r : Building) : Type 0 where
+  pub built : builtOf ws′ r ≡ f (builtOf ws b)
+  pub sound : Sound ws′ r
+  pub relations : r .relations ≡ b .relations + d
+  pub mutations : r .mutations ≡ b .mutations + m
+  pub renders : r .renders ≡ b .renders + n
+  pub come : r .come ≡ b .come + k
+  pub low : take SEEN ws′ ≡ take SEEN ws
+  pub high : drop FUNCTIONS ws′ ≡ drop FUNCTIONS ws
+  pub same : length ws′ ≡ length ws
+
+-- nothing is built: no identifier has a node
+abbrev pub nothing : Built
+nothing = record { graph = noNodes mostIdentifiers; index = 0; come = []; waiting = []; mutations = []; renders = [] }
+
+-- the start of building
+pub record Starts (ws ws′ : List ℕ) (r : Building) : Type 0 where
+  pub built : builtOf ws′ r ≡ nothing
+  pub sound : Sound ws′ r
+  pub relations : r .relations ≡ 0
+  pub mutations : r .mutations ≡ 0
+  pub renders : r .renders ≡ 0
+  pub come : r .come ≡ 0
+  pub low : take VALUE ws′ ≡ take VALUE ws
+  pub high : drop FBOUND ws′ ≡ drop FBOUND ws
+  pub same : length ws′ ≡ length ws
+
+-- the end of building: the rows hold the graph that was built and as many edges and entries, and the mutations and renders stay
+pub record LaysOut (ws : List ℕ) (b : Building) (ws′ : List ℕ) : Type 0 where
+  pub indexed : Indexed ws′
+  pub graph : graphOfRows (rowsOf ws′) ≡ builtOf ws b .graph
+  pub edges : fb (rowsOf ws′) 512 ≡ size.edges (builtOf ws b .graph)
+  pub entries : bb (rowsOf ws′) 2048 ≡ size.entries (builtOf ws b .graph)
+  pub mutations : mutationsOf ws′ (b .mutations) ≡ builtOf ws b .mutations
+  pub renders : rendersOf ws′ (b .renders) ≡ builtOf ws b .renders
+  pub low : take FBOUND ws′ ≡ take FBOUND ws
+  pub high : drop QUEUE ws′ ≡ drop QUEUE ws
+  pub same : length ws′ ≡ length ws
+
+-- one mutation more
+pub record PushesMutation (m : Mutation) (ws : List ℕ) (n : ℕ) (ws′ : List ℕ) : Type 0 where
+  pub mutations : mutationsOf ws′ (n + 1) ≡ mutationsOf ws n ++ (m ∷ [])
+  pub kept : Kept (MUTATIONS + 3 * n) (MUTATIONS + 3 * n + 3) ws ws′
+
+-- one render more
+pub record PushesRender (m : RenderOf) (ws : List ℕ) (n : ℕ) (ws′ : List ℕ) : Type 0 where
+  pub renders : rendersOf ws′ (n + 1) ≡ rendersOf ws n ++ (m ∷ [])
+  pub kept : Kept (RENDERS + n) (RENDERS + n + 1) ws ws′
+
+-- one block more has come
+pub record PushesBlock (block : ℕ) (ws : List ℕ) (n : ℕ) (ws′ : List ℕ) : Type 0 where
+  pub come : comeOf ws′ (n + 1) ≡ block ∷ comeOf ws n
+  pub kept : Kept (SEEN + n) (SEEN + n + 1) ws ws′

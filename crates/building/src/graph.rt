@@ -1,0 +1,95 @@
+// The alias graph: nodes are created, and relations stored.
+use crate::Held;
+use crate::logs::add_edge;
+use crate::logs::add_entry;
+use crate::logs::leave;
+use crate::logs::pack;
+use rows::BBOUND;
+use rows::EDGES;
+use rows::ENTRIES;
+use rows::FBOUND;
+use rows::VALUE;
+ghost use mathlib.Core.Path.{_≡_};
+ghost use Prim.Native.Nat.{ℕ, _+_, _*_, _≤_, _<_};
+ghost use lib.ListN.{length, getD, set};
+ghost use Rattle.model.specs.Graph.{create, relate, createFrom};
+ghost use Rattle.model.specs.Graph.{assign as assignEffect};
+ghost use Rattle.rows.specs.Graph.{valueOf, relationOf};
+ghost use Rattle.building.specs.Held.{Room, Builds, Laid};
+
+// Creates the node of x, in place of the one that was there: that one's own words leave the logs. A missing node holds none.
+pub fn create(ws: &mut [u32], h: Held, x: u32, value: u32) -> Held
+    requires { ⌜ Room 0 0 (now ws) h ⌝ }
+    requires { ⌜ (x < 512) × (0 < value) ⌝ }
+    ensures { λ r. ⌜ Builds (create x (valueOf value)) 0 0 (now (ws .entry)) h (now (ws .exit)) r ⌝ }
+{
+    if ws[VALUE + x as usize] == 0 {
+        ws[VALUE + x as usize] = value;
+        return h;
+    }
+    let edges = leave(ws, 0, EDGES, h.edges, x);
+    let entries = leave(ws, 1, ENTRIES, h.entries, x);
+    ws[VALUE + x as usize] = value;
+    let waiting = h.waiting;
+    Held {
+        edges,
+        entries,
+        waiting,
+    }
+}
+
+// Stores a relation in the list of this number: skipped if either node is missing.
+pub fn store(ws: &mut [u32], h: Held, list: u32, index: u32, from: u32, into: u32) -> Held
+    requires { ⌜ Room 1 1 (now ws) h ⌝ }
+    requires { ⌜ (from < 512) × ((into < 512) × ((list < 4) × (index < 4096))) ⌝ }
+    ensures { λ r. ⌜ Builds (relate (relationOf list) index from into) 1 1 (now (ws .entry)) h (now (ws .exit)) r ⌝ }
+{
+    if ws[VALUE + from as usize] == 0 {
+        return h;
+    }
+    if ws[VALUE + into as usize] == 0 {
+        return h;
+    }
+    let w = pack(from, into, list, index);
+    let g = add_edge(ws, h, w);
+    add_entry(ws, g, w)
+}
+
+// An Assign effect first creates a missing "into".
+pub fn assign(ws: &mut [u32], h: Held, index: u32, from: u32, into: u32) -> Held
+    requires { ⌜ Room 1 1 (now ws) h ⌝ }
+    requires { ⌜ (from < 512) × ((into < 512) × (index < 4096)) ⌝ }
+    ensures { λ r. ⌜ Builds (assignEffect index from into) 1 1 (now (ws .entry)) h (now (ws .exit)) r ⌝ }
+{
+    if ws[VALUE + into as usize] == 0 {
+        let g = create(ws, h, into, 1);
+        return store(ws, g, 1, index, from, into);
+    }
+    store(ws, h, 1, index, from, into)
+}
+
+// CreateFrom always creates "into"; its entry is stored even if "from" has no node.
+pub fn create_from(ws: &mut [u32], h: Held, index: u32, from: u32, into: u32) -> Held
+    requires { ⌜ Room 1 1 (now ws) h ⌝ }
+    requires { ⌜ (from < 512) × ((into < 512) × (index < 4096)) ⌝ }
+    ensures { λ r. ⌜ Builds (createFrom index from into) 1 1 (now (ws .entry)) h (now (ws .exit)) r ⌝ }
+{
+    let g = create(ws, h, into, 1);
+    let w = pack(from, into, 0, index);
+    if ws[VALUE + from as usize] == 0 {
+        return add_entry(ws, g, w);
+    }
+    let k = add_edge(ws, g, w);
+    add_entry(ws, k, w)
+}
+
+// Lays the two logs out in rows, for the walks.
+pub fn lay_out(ws: &mut [u32], h: Held)
+    requires { ⌜ Room 0 0 (now ws) h ⌝ }
+    ensures { λ _. ⌜ Laid (now (ws .entry)) h (now (ws .exit)) ⌝ }
+{
+    let edges = h.edges;
+    let entries = h.entries;
+    rows::sort(ws, 0, FBOUND, 512, EDGES, edges);
+    rows::sort(ws, 1, BBOUND, 2048, ENTRIES, entries);
+}

@@ -1,0 +1,305 @@
+// Building, up to the original's second loop over the blocks: the alias graph, the phi operands that wait, and the mutations and renders to come.
+// All of it lies in the lent workspace; a `Building` has the counts.
+use hir::BlockId;
+use hir::EvaluationOrder;
+use hir::FunctionId;
+use hir::IdentifierId;
+use pending::PendingMutation;
+use rows::VALUE;
+ghost use mathlib.Core.Path.{_≡_};
+ghost use Prim.Native.Nat.{ℕ, _+_, _≤_, _<_};
+ghost use lib.ListN.{length};
+ghost use lib.Dec.{eqb};
+ghost use Rattle.model.specs.Lists.{among};
+ghost use Rattle.model.specs.Mutation.{reasonOf};
+ghost use Rattle.model.specs.Graph.{create, relate, createFrom, intoAliases, intoMaybeAliases, intoCaptures};
+ghost use Rattle.model.specs.Graph.{assign as assignEffect};
+ghost use Rattle.model.specs.Built.{changed, related, waits, mutates, comes};
+ghost use Rattle.model.specs.Built.{renders as rendersPlace};
+ghost use Rattle.model.specs.Building.{operand, wake};
+ghost use Rattle.rows.specs.Layout.{LEAST};
+ghost use Rattle.rows.specs.Graph.{valueOf, relationOf};
+ghost use Rattle.rows.specs.Pending.{kindOf};
+ghost use Rattle.building.specs.Built.{valueIs, FunctionBelow, placeAt, indexOf, builtOf, Sound, Steps, LaysOut, Starts};
+
+mod graph;
+mod logs;
+mod pending;
+mod waiting;
+
+// How many forward edges and entries are held, and how many phi operands wait.
+pub struct Held {
+    pub edges: usize,
+    pub entries: usize,
+    pub waiting: usize,
+}
+
+// The counts of the building so far: also the blocks that have come, and the relation effects, mutations and renders.
+pub struct Building {
+    pub held: Held,
+    pub come: usize,
+    pub relations: usize,
+    pub mutations: usize,
+    pub renders: usize,
+}
+
+// What a node stands for.
+pub enum NodeValue {
+    Object,
+    Phi,
+    Function(FunctionId),
+}
+
+// The word of a value.
+fn value_word(value: NodeValue) -> u32
+    requires { ⌜ FunctionBelow value ⌝ }
+    ensures { λ r. ⌜ (0 < r) × (valueOf r ≡ valueIs value) ⌝ }
+{
+    match value {
+        NodeValue::Object => 1,
+        NodeValue::Phi => 2,
+        NodeValue::Function(f) => f.0 + 3,
+    }
+}
+
+impl Building {
+    // The running index.
+    fn index(self) -> u32
+        requires { ⌜ (self .relations ≤ 1024) × ((self .mutations ≤ 512) × (self .renders ≤ 256)) ⌝ }
+        ensures { λ r. ⌜ r ≡ indexOf self ⌝ }
+    {
+        (self.relations + self.mutations + self.renders) as u32
+    }
+
+    // A node for `place`, in place of the one that it had: that one's own relations are dropped.
+    pub fn create(mut self, ws: &mut [u32], place: IdentifierId, value: NodeValue) -> Building
+        requires { ⌜ Sound (now ws) self ⌝ }
+        requires { ⌜ (place .0 < 512) × FunctionBelow value ⌝ }
+        ensures { λ r. ⌜ Steps (changed (create (place .0) (valueIs value))) 0 0 0 0 (now (ws .entry)) self (now (ws .exit)) r ⌝ }
+    {
+        let held = self.held;
+        let word = value_word(value);
+        self.held = graph::create(ws, held, place.0, word);
+        self
+    }
+
+    // A relation in the list of this number, skipped if either node is missing.
+    fn relate(
+        mut self,
+        ws: &mut [u32],
+        list: u32,
+        from: IdentifierId,
+        into: IdentifierId,
+    ) -> Building
+        requires { ⌜ Sound (now ws) self ⌝ }
+        requires { ⌜ (self .relations < 1024) × ((from .0 < 512) × ((into .0 < 512) × (list < 4))) ⌝ }
+        ensures { λ r. ⌜ Steps (related (λ (i : ℕ). relate (relationOf list) i (from .0) (into .0))) 1 0 0 0 (now (ws .entry)) self (now (ws .exit)) r ⌝ }
+    {
+        let held = self.held;
+        let index = self.index();
+        self.held = graph::store(ws, held, list, index, from.0, into.0);
+        self.relations += 1;
+        self
+    }
+
+    // "from" is captured in "into".
+    pub fn capture(self, ws: &mut [u32], from: IdentifierId, into: IdentifierId) -> Building
+        requires { ⌜ Sound (now ws) self ⌝ }
+        requires { ⌜ (self .relations < 1024) × ((from .0 < 512) × (into .0 < 512)) ⌝ }
+        ensures { λ r. ⌜ Steps (related (λ (i : ℕ). relate intoCaptures i (from .0) (into .0))) 1 0 0 0 (now (ws .entry)) self (now (ws .exit)) r ⌝ }
+    {
+        self.relate(ws, 3, from, into)
+    }
+
+    // "into" is an alias of "from".
+    pub fn assign(self, ws: &mut [u32], from: IdentifierId, into: IdentifierId) -> Building
+        requires { ⌜ Sound (now ws) self ⌝ }
+        requires { ⌜ (self .relations < 1024) × ((from .0 < 512) × (into .0 < 512)) ⌝ }
+        ensures { λ r. ⌜ Steps (related (λ (i : ℕ). relate intoAliases i (from .0) (into .0))) 1 0 0 0 (now (ws .entry)) self (now (ws .exit)) r ⌝ }
+    {
+        self.relate(ws, 1, from, into)
+    }
+
+    // "into" may be an alias of "from".
+    pub fn maybe_alias(self, ws: &mut [u32], from: IdentifierId, into: IdentifierId) -> Building
+        requires { ⌜ Sound (now ws) self ⌝ }
+        requires { ⌜ (self .relations < 1024) × ((from .0 < 512) × (into .0 < 512)) ⌝ }
+        ensures { λ r. ⌜ Steps (related (λ (i : ℕ). relate intoMaybeAliases i (from .0) (into .0))) 1 0 0 0 (now (ws .entry)) self (now (ws .exit)) r ⌝ }
+    {
+        self.relate(ws, 2, from, into)
+    }
+
+    // An Assign effect: as `assign`, but a missing "into" is created first.
+    pub fn assign_effect(
+        mut self,
+        ws: &mut [u32],
+        from: IdentifierId,
+        into: IdentifierId,
+    ) -> Building
+        requires { ⌜ Sound (now ws) self ⌝ }
+        requires { ⌜ (self .relations < 1024) × ((from .0 < 512) × (into .0 < 512)) ⌝ }
+        ensures { λ r. ⌜ Steps (related (λ (i : ℕ). assignEffect i (from .0) (into .0))) 1 0 0 0 (now (ws .entry)) self (now (ws .exit)) r ⌝ }
+    {
+        let held = self.held;
+        let index = self.index();
+        self.held = graph::assign(ws, held, index, from.0, into.0);
+        self.relations += 1;
+        self
+    }
+
+    // "into" is created from "from", always; its entry is stored even if "from" has no node.
+    pub fn create_from(mut self, ws: &mut [u32], from: IdentifierId, into: IdentifierId) -> Building
+        requires { ⌜ Sound (now ws) self ⌝ }
+        requires { ⌜ (self .relations < 1024) × ((from .0 < 512) × (into .0 < 512)) ⌝ }
+        ensures { λ r. ⌜ Steps (related (λ (i : ℕ). createFrom i (from .0) (into .0))) 1 0 0 0 (now (ws .entry)) self (now (ws .exit)) r ⌝ }
+    {
+        let held = self.held;
+        let index = self.index();
+        self.held = graph::create_from(ws, held, index, from.0, into.0);
+        self.relations += 1;
+        self
+    }
+
+    // A phi operand waits for the end of the block `predecessor`, with its index.
+    fn wait(
+        mut self,
+        ws: &mut [u32],
+        predecessor: BlockId,
+        from: IdentifierId,
+        into: IdentifierId,
+    ) -> Building
+        requires { ⌜ Sound (now ws) self ⌝ }
+        requires { ⌜ (self .relations < 1024) × ((from .0 < 512) × (into .0 < 512)) ⌝ }
+        ensures { λ r. ⌜ Steps (waits (predecessor .0) (from .0) (into .0)) 1 0 0 0 (now (ws .entry)) self (now (ws .exit)) r ⌝ }
+    {
+        let held = self.held;
+        let index = self.index();
+        self.held = waiting::wait(ws, held, predecessor.0, index, from.0, into.0);
+        self.relations += 1;
+        self
+    }
+
+    // A phi operand: "from" is assigned to the phi, or waits for a block that has not come.
+    pub fn operand(
+        self,
+        ws: &mut [u32],
+        predecessor: BlockId,
+        from: IdentifierId,
+        into: IdentifierId,
+    ) -> Building
+        requires { ⌜ Sound (now ws) self ⌝ }
+        requires { ⌜ (self .relations < 1024) × ((from .0 < 512) × (into .0 < 512)) ⌝ }
+        ensures { λ r. ⌜ Steps (operand (placeAt (into .0) 0) (record { predecessor = predecessor .0; place = placeAt (from .0) 0 })) 1 0 0 0 (now (ws .entry)) self (now (ws .exit)) r ⌝ }
+    {
+        if self.block_has_come(ws, predecessor) {
+            return self.assign(ws, from, into);
+        }
+        self.wait(ws, predecessor, from, into)
+    }
+
+    // The end of a block, before its terminal: what waits for it is stored.
+    pub fn wake(mut self, ws: &mut [u32], block: BlockId) -> Building
+        requires { ⌜ Sound (now ws) self ⌝ }
+        ensures { λ r. ⌜ Steps (wake (block .0)) 0 0 0 0 (now (ws .entry)) self (now (ws .exit)) r ⌝ }
+    {
+        let held = self.held;
+        self.held = waiting::wake(ws, held, block.0);
+        self
+    }
+
+    // A block has come.
+    pub fn seen_block(mut self, ws: &mut [u32], block: BlockId) -> Building
+        requires { ⌜ Sound (now ws) self ⌝ }
+        requires { ⌜ self .come < 256 ⌝ }
+        ensures { λ r. ⌜ Steps (comes (block .0)) 0 0 0 1 (now (ws .entry)) self (now (ws .exit)) r ⌝ }
+    {
+        let come = self.come;
+        pending::push_block(ws, come, block.0);
+        self.come += 1;
+        self
+    }
+
+    // Has the block come?
+    pub fn block_has_come(self, ws: &[u32], block: BlockId) -> bool
+        requires { ⌜ Sound (now ws) self ⌝ }
+        ensures { λ r. ⌜ r ≡ among (block .0) (builtOf (now (ws .entry)) self .come) ⌝ }
+    {
+        let come = self.come;
+        pending::has_come(ws, come, block.0)
+    }
+
+    // A mutation of `place`, to come after building. Its level is 0 for Conditional and 1 for Definite, its reason 0 for none.
+    pub fn push_mutation(
+        mut self,
+        ws: &mut [u32],
+        place: IdentifierId,
+        span: u32,
+        order: EvaluationOrder,
+        transitive: u32,
+        level: u32,
+        reason: u32,
+    ) -> Building
+        requires { ⌜ Sound (now ws) self ⌝ }
+        requires { ⌜ (self .mutations < 512) × ((place .0 < 512) × ((transitive < 2) × ((level < 2) × (reason < 2)))) ⌝ }
+        ensures { λ r. ⌜ Steps (mutates (eqb transitive 1) (kindOf level) (reasonOf reason) (order .0) (placeAt (place .0) span)) 0 1 0 0 (now (ws .entry)) self (now (ws .exit)) r ⌝ }
+    {
+        let count = self.mutations;
+        let index = self.index();
+        pending::push_mutation(
+            ws,
+            count,
+            PendingMutation {
+                index,
+                order: order.0,
+                transitive,
+                level,
+                identifier: place.0,
+                span,
+                reason,
+            },
+        );
+        self.mutations += 1;
+        self
+    }
+
+    // A render of `place`, to come after building.
+    pub fn push_render(mut self, ws: &mut [u32], place: IdentifierId) -> Building
+        requires { ⌜ Sound (now ws) self ⌝ }
+        requires { ⌜ (self .renders < 256) × (place .0 < 512) ⌝ }
+        ensures { λ r. ⌜ Steps (rendersPlace (placeAt (place .0) 0)) 0 0 1 0 (now (ws .entry)) self (now (ws .exit)) r ⌝ }
+    {
+        let count = self.renders;
+        let index = self.index();
+        pending::push_render(ws, count, index, place.0);
+        self.renders += 1;
+        self
+    }
+
+    // The end of building: lays the graph out in rows, for the walks.
+    pub fn lay_out(self, ws: &mut [u32])
+        requires { ⌜ Sound (now ws) self ⌝ }
+        ensures { λ _. ⌜ LaysOut (now (ws .entry)) self (now (ws .exit)) ⌝ }
+    {
+        let held = self.held;
+        graph::lay_out(ws, held);
+    }
+}
+
+// The start of building: no identifier has a node.
+pub fn start(ws: &mut [u32]) -> Building
+    requires { ⌜ LEAST ≤ length (now ws) ⌝ }
+    ensures { λ r. ⌜ Starts (now (ws .entry)) (now (ws .exit)) r ⌝ }
+{
+    rows::clear(ws, VALUE, 512);
+    Building {
+        held: Held {
+            edges: 0,
+            entries: 0,
+            waiting: 0,
+        },
+        come: 0,
+        relations: 0,
+        mutations: 0,
+        renders: 0,
+    }
+}

@@ -1,0 +1,101 @@
+// The two logs, word by word.
+use crate::Held;
+use rows::EDGES;
+use rows::ENTRIES;
+ghost use mathlib.Core.Path.{_≡_};
+ghost use mathlib.Core.Bool.{true};
+ghost use mathlib.Core.List.{List};
+ghost use Prim.Native.Nat.{ℕ, _+_, _*_, _/_, _%_, _≤_, _<_};
+ghost use lib.ListN.{length, getD, set};
+ghost use lib.Seq.{slice};
+ghost use Rattle.model.specs.Graph.{hasNode};
+ghost use Rattle.rows.specs.Layout.{LEAST, ENTRIES};
+ghost use Rattle.building.specs.Logs.{packW, ownerW, anyW, edgeG, entryG};
+ghost use Rattle.building.specs.Held.{graphOf, Room, Builds, Left};
+
+// A log word.
+pub fn pack(from: u32, into: u32, list: u32, index: u32) -> u32
+    requires { ⌜ (from < 512) × ((into < 512) × ((list < 4) × (index < 4096))) ⌝ }
+    ensures { λ r. ⌜ r ≡ packW from into list index ⌝ }
+{
+    from + 512 * into + 262144 * list + 1048576 * index
+}
+
+// Who holds a word: "from" holds an edge, "into" an entry.
+fn owner(t: u32, w: u32) -> u32
+    ensures { λ r. ⌜ r ≡ ownerW t w ⌝ }
+{
+    if t == 0 { w % 512 } else { w / 512 % 512 }
+}
+
+// Is there an entry with the same from, into and list? Looks at every word, so that the loop is compiled to vectors.
+fn has_entry(ws: &[u32], n: usize, w: u32) -> bool
+    requires { ⌜ (LEAST ≤ length (now ws)) × (n ≤ 1024) ⌝ }
+    ensures { λ r. ⌜ r ≡ anyW w (slice ENTRIES (ENTRIES + n) (now (ws .entry))) ⌝ }
+{
+    let mut found = false;
+    let mut i = 0;
+    while i < n {
+        let v = ws[ENTRIES + i];
+        i += 1;
+        if v % 1048576 == w % 1048576 {
+            found = true;
+        }
+    }
+    found
+}
+
+// Takes the words that x holds out of a log; the others keep their order.
+pub fn leave(ws: &mut [u32], t: u32, at: usize, n: usize, x: u32) -> usize
+    requires { ⌜ at + n ≤ length (now ws) ⌝ }
+    ensures { λ r. ⌜ Left t at n x (now (ws .entry)) (now (ws .exit)) r ⌝ }
+{
+    let mut i = 0;
+    let mut k = 0;
+    while i < n {
+        let w = ws[at + i];
+        i += 1;
+        if owner(t, w) != x {
+            ws[at + k] = w;
+            k += 1;
+        }
+    }
+    k
+}
+
+// Stores the edge of a word, whose "from" has a node.
+pub fn add_edge(ws: &mut [u32], h: Held, w: u32) -> Held
+    requires { ⌜ Room 1 0 (now ws) h ⌝ }
+    requires { ⌜ hasNode (graphOf (now ws) h) (w % 512) ≡ true ⌝ }
+    ensures { λ r. ⌜ Builds (edgeG w) 1 0 (now (ws .entry)) h (now (ws .exit)) r ⌝ }
+{
+    let edges = h.edges;
+    let entries = h.entries;
+    let waiting = h.waiting;
+    ws[EDGES + edges] = w;
+    Held {
+        edges: edges + 1,
+        entries,
+        waiting,
+    }
+}
+
+// Stores the entry of a word, whose "into" has a node: once for each "from" and list.
+pub fn add_entry(ws: &mut [u32], h: Held, w: u32) -> Held
+    requires { ⌜ Room 0 1 (now ws) h ⌝ }
+    requires { ⌜ hasNode (graphOf (now ws) h) (w / 512 % 512) ≡ true ⌝ }
+    ensures { λ r. ⌜ Builds (entryG w) 0 1 (now (ws .entry)) h (now (ws .exit)) r ⌝ }
+{
+    let edges = h.edges;
+    let entries = h.entries;
+    let waiting = h.waiting;
+    if has_entry(ws, entries, w) {
+        return h;
+    }
+    ws[ENTRIES + entries] = w;
+    Held {
+        edges,
+        entries: entries + 1,
+        waiting,
+    }
+}

@@ -1,0 +1,28 @@
+-- How many words the parts of the answer have.
+use Prim.Native.Nat.{ℕ, zero, suc, _+_, _*_, _≤_}
+use native.Mathlib.Omega.{arith}
+use mathlib.Core.Path.{_≡_, refl, ap, _∙_}
+use mathlib.Core.Bool.{Bool, true, false, _||_}
+use mathlib.Core.List.{List, [], _∷_, _++_}
+use lib.ListN.{length, length-append}
+use Rattle.model.specs.Lists.{gather, listIf}
+use Rattle.model.specs.Sheet.{Effect, Diagnostic}
+use Rattle.model.specs.Effects.{Row, rowOf, isRender, isDiagnosis, diagnosticOf}
+use Rattle.model.specs.Answer.{diagnosticWords, effectWords}
+use Rattle.copies.specs.Words.{copyWords}
+use Rattle.copies.specs.declared.instructions.Section.{Section}
+use Rattle.copies.specs.declared.instructions.Section.the-variants.{Diagnostics, Effects}
+
+-- lists of one length
+pub gather-length : {A : Type 0} (w : A → List ℕ) (k : ℕ) → ((a : A) → length (w a) ≡ k) → (l : List A) → length (gather w l) ≡ k * length l
+gather-length w k e [] = omega arith
+gather-length w k e (a ∷ l) = omega (arith, length-append (w a) (gather w l), e a, gather-length w k e l)
+
+if-most : (b : Bool) (l : List ℕ) (k : ℕ) → length l ≤ k → length (listIf b l) ≤ k
+if-most true l k h = h
+if-most false l k h = omega arith
+
+pub copy-length : (s : Section) (e : Effect) → length (copyWords s e) ≤ 8
+unfolding copyWords
+copy-length Diagnostics e = if-most (isDiagnosis (rowOf (e .kind) .role)) (diagnosticWords (diagnosticOf e)) 8 (omega arith)
+copy-length Effects e = if-most (isDiagnosis (rowOf (e .kind) .role) || isRender (rowOf (e .kind) .role)) (effectWords e) 8 (omega arith)

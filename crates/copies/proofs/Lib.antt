@@ -1,0 +1,11 @@
+pub mod Gathers
+pub mod Lengths
+pub mod Loops
+pub mod Positions
+pub mod Copying
+pub mod Passing
+pub mod Nth
+pub mod Blocks
+pub mod Sections
+pub mod Errors
+pub mod Creates

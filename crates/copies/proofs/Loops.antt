@@ -1,0 +1,49 @@
+-- A loop that writes: what is left to write from here makes what was to be written from the start.
+use Prim.Native.Nat.{ℕ, zero, suc, _+_, _≤_, _<_}
+use native.Mathlib.Omega.{arith}
+use mathlib.Core.Path.{_≡_, refl, sym, ap, _∙_}
+use mathlib.Core.List.{List, [], _∷_, _++_}
+use lib.ListN.{length, drop, length-append}
+use lib.Seq.{sets}
+use Rattle.model.specs.Lists.{gather}
+use Rattle.rows.specs.Graph.{tab}
+use Rattle.rows.proofs.Parts.{sets-append}
+use Rattle.rows.proofs.Tables.{tab-drop, tab-end}
+use Rattle.writing.specs.Wrote.{Wrote}
+
+-- `rest` is left of `whole`
+pub record Leaves (whole rest a₀ : List ℕ) (at₀ : ℕ) (a : List ℕ) (at : ℕ) : Type 0 where
+  pub words : sets a at rest ≡ sets a₀ at₀ whole
+  pub next : at + length rest ≡ at₀ + length whole
+
+-- nothing was written yet
+pub leaves-all : (whole a : List ℕ) (at : ℕ) → Leaves whole whole a at a at
+leaves-all whole a at = record { words = refl; next = refl }
+
+-- the rest by another name
+pub leaves-as : {whole rest rest′ a₀ a : List ℕ} {at₀ at : ℕ} → Leaves whole rest a₀ at₀ a at → rest ≡ rest′ → Leaves whole rest′ a₀ at₀ a at
+leaves-as h e = record { words = rw (← e) (h .words); next = rw (← e) (h .next) }
+
+-- us were written
+pub leaves-then : {whole rest us rest′ a₀ a a′ : List ℕ} {at₀ at at′ : ℕ} → Leaves whole rest a₀ at₀ a at → Wrote us a at a′ at′ → rest ≡ us ++ rest′ → Leaves whole rest′ a₀ at₀ a′ at′
+leaves-then {whole} {rest} {us} {rest′} {a₀} {a} {a′} {at₀} {at} {at′} h k e = record {
+  words = ap (λ (l : List ℕ). sets l at′ rest′) (k .words) ∙ ap (λ (i : ℕ). sets (sets a at us) i rest′) (k .next) ∙ sets-append us rest′ a at
+      ∙ ap (sets a at) (sym e) ∙ h .words;
+  next = omega (arith, h .next, k .next, ap (λ (l : List ℕ). length l) e, length-append us rest′);
+}
+
+-- all were written
+pub leaves-none : {whole rest a₀ a : List ℕ} {at₀ at : ℕ} → Leaves whole rest a₀ at₀ a at → rest ≡ [] → Wrote whole a₀ at₀ a at
+leaves-none {whole} {rest} {a₀} {a} {at₀} {at} h e = record {
+  words = sym (ap (sets a at) e) ∙ h .words;
+  next = omega (arith, h .next, ap (λ (l : List ℕ). length l) e);
+}
+
+-- the elements of a table, one after another
+module _ {A : Type 0} (w : A → List ℕ) (n : ℕ) (f : ℕ → A) where
+  pub table-turn : {whole a₀ a a′ : List ℕ} {at₀ at at′ : ℕ} (i : ℕ) → Leaves whole (gather w (drop i (tab n f))) a₀ at₀ a at → i < n
+      → Wrote (w (f i)) a at a′ at′ → Leaves whole (gather w (drop (i + 1) (tab n f))) a₀ at₀ a′ at′
+  table-turn i h k v = leaves-then h v (ap (gather w) (tab-drop n f i k))
+
+  pub table-end : {whole a₀ a : List ℕ} {at₀ at : ℕ} (i : ℕ) → Leaves whole (gather w (drop i (tab n f))) a₀ at₀ a at → n ≤ i → Wrote whole a₀ at₀ a at
+  table-end i h k = leaves-none h (ap (gather w) (tab-end n f i k))

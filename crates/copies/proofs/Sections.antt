@@ -1,0 +1,63 @@
+-- What the two sections take of the effects of instructions is what document 01 says.
+use Prim.Native.Nat.{ℕ, _+_, _*_}
+use mathlib.Core.Path.{_≡_, refl, sym, ap, _∙_}
+use mathlib.Core.Bool.{Bool, true, false, _||_}
+use mathlib.Core.List.{List, [], _∷_, _++_, map}
+use lib.ListN.{length}
+use Rattle.model.specs.Lists.{gather, keep, listIf}
+use Rattle.model.specs.Sheet.{Effect, Diagnostic, Instruction, Block, Sheet}
+use Rattle.model.specs.Effects.{Role, Row, rowOf, isRender, isDiagnosis, diagnosticOf}
+use Rattle.model.specs.Totals.{instructionEffects}
+use Rattle.model.specs.Summary.{errors, copied, recorded}
+use Rattle.model.specs.Answer.{diagnosticWords, effectWords}
+use Rattle.copies.specs.Words.{copyWords, instructionWords, blockWords}
+use Rattle.copies.specs.declared.instructions.Section.{Section}
+use Rattle.copies.specs.declared.instructions.Section.the-variants.{Diagnostics, Effects}
+use Rattle.copies.proofs.Gathers.{gather-gather, gather-same, gather-keep, gather-map}
+use Rattle.copies.proofs.Lengths.{gather-length}
+
+-- neither section takes an effect that is no diagnosis and no render
+pub copy-none : (s : Section) (e : Effect) → isDiagnosis (rowOf (e .kind) .role) ≡ false → isRender (rowOf (e .kind) .role) ≡ false → copyWords s e ≡ []
+unfolding copyWords
+copy-none Diagnostics e p q = rw p
+copy-none Effects e p q = rw (p, q)
+
+-- block by block, or all effects of instructions at once
+pub blocks-words : (t : Section) (s : Sheet) → gather (blockWords t) (s .blocks) ≡ gather (copyWords t) (instructionEffects s)
+unfolding instructionEffects blockWords instructionWords
+blocks-words t s =
+    gather-same (λ (b : Block). gather (λ (i : Instruction). gather (copyWords t) (i .effects)) (b .instructions))
+    (λ (b : Block). gather (copyWords t) (gather (λ (i : Instruction). i .effects) (b .instructions)))
+    (λ b. sym (gather-gather (copyWords t) (λ (i : Instruction). i .effects) (b .instructions))) (s .blocks)
+    ∙ sym (gather-gather (copyWords t) (λ (b : Block). gather (λ (i : Instruction). i .effects) (b .instructions)) (s .blocks))
+
+-- "kinds 14 to 17 are copied to the effects"
+pub copied-words : (s : Sheet) → gather (blockWords Effects) (s .blocks) ≡ gather effectWords (copied s)
+unfolding copied copyWords
+copied-words s =
+    blocks-words Effects s
+    ∙ gather-keep (λ (e : Effect). isDiagnosis (rowOf (e .kind) .role) || isRender (rowOf (e .kind) .role)) effectWords (instructionEffects s)
+
+diagnoses : (s : Sheet) → gather (blockWords Diagnostics) (s .blocks) ≡ gather diagnosticWords (map diagnosticOf (keep (λ (e : Effect). isDiagnosis (rowOf (e .kind) .role)) (instructionEffects s)))
+unfolding copyWords
+diagnoses s =
+    blocks-words Diagnostics s
+    ∙ gather-keep (λ (e : Effect). isDiagnosis (rowOf (e .kind) .role)) (λ (e : Effect). diagnosticWords (diagnosticOf e)) (instructionEffects s)
+    ∙ sym (gather-map diagnosticWords diagnosticOf (keep (λ (e : Effect). isDiagnosis (rowOf (e .kind) .role)) (instructionEffects s)))
+
+-- "and the diagnostics of 14 to 16 recorded", if errors are
+pub recorded-words : (s : Sheet) → errors s ≡ true → gather (blockWords Diagnostics) (s .blocks) ≡ gather diagnosticWords (recorded s)
+unfolding recorded
+recorded-words s e = rw e (diagnoses s)
+
+pub recorded-none : (s : Sheet) → errors s ≡ false → recorded s ≡ []
+unfolding recorded
+recorded-none s e = rw e
+
+-- ---- how many records the words are
+pub effects-length : (l : List Effect) → length (gather effectWords l) ≡ 8 * length l
+effects-length l = gather-length effectWords 8 (λ e. refl) l
+
+pub diagnostics-same : (l : List Diagnostic) → gather diagnosticWords l ≡ l
+diagnostics-same [] = refl
+diagnostics-same (d ∷ l) = ap (λ (r : List Diagnostic). d ∷ r) (diagnostics-same l)

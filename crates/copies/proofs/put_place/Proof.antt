@@ -1,0 +1,41 @@
+use Rattle.writing.proofs.Writing.{wrote-then, wrote-as}
+use borrow.Author.Needs.{needs}
+use Rattle.copies.proofs.put_place.Statement.{statement}
+use Rattle.copies.proofs.put_place.Tie as tie
+use Rattle.copies.proofs.put_place.Reads as reads
+use Rattle.copies.proofs.put_place.Lts as lts
+use Rattle.hir.proofs.places.traits_word.Reads as traits-word-reads
+use Rattle.writing.proofs.put.Reads as put-reads
+
+-- src/lib.rt:31:9
+put-requires : tie.Need-put-requires
+put-requires c κs = search needs
+
+-- src/lib.rt:32:28
+traits-word-requires : tie.Need-traits-word-requires
+traits-word-requires c κs = search needs
+
+-- src/lib.rt:32:9
+put-requires-2 : tie.Need-put-requires-2
+put-requires-2 c κs = search needs
+
+-- src/lib.rt:33:5
+put-requires-3 : tie.Need-put-requires-3
+put-requires-3 c κs = search needs
+
+-- src/lib.rt:25:1
+same-length : tie.Need-same-length
+same-length c = search needs
+
+-- src/lib.rt:25:1
+returns : tie.Need-returns
+returns c =
+    let b6 = c .before .before .before .before .before .before in
+    let b7 = b6 .before in
+    let b11 = b7 .before .before .before .before in
+    wrote-as (wrote-then (b11 .put .ensures) (wrote-then (b6 .put2 .ensures) (c .before .before .put3 .ensures))) (rw (b7 .traits-word .ensures))
+
+pub put-place-spec : {M : Type 1} → statement M
+put-place-spec =
+    tie.close
+    (tie.spec put-requires traits-word-requires put-requires-2 put-requires-3 same-length returns)

@@ -1,0 +1,66 @@
+use Rattle.copies.proofs.Creates.{created}
+use borrow.Author.Needs.{needs}
+use Rattle.copies.proofs.returns.put_create_returns.Statement.{statement}
+use Rattle.copies.proofs.returns.put_create_returns.Tie as tie
+use Rattle.copies.proofs.returns.put_create_returns.Reads as reads
+use Rattle.copies.proofs.returns.put_create_returns.Lts as lts
+use Rattle.copies.proofs.put_effect.Reads as put-effect-reads
+use Rattle.copies.proofs.returns.type_at.Reads as type-at-reads
+use Rattle.copies.proofs.returns.value_kind.Reads as value-kind-reads
+use Rattle.hir.proofs.ValueKind.number.Reads as ValueKind-number-reads
+use Rattle.hir.proofs.ValueReason.number.Reads as ValueReason-number-reads
+
+-- src/returns.rt:67:28
+type-at-requires : tie.Need-type-at-requires
+type-at-requires c κs = search needs
+
+-- src/returns.rt:67:9
+value-kind-requires : tie.Need-value-kind-requires
+value-kind-requires c κs = search needs
+
+-- src/returns.rt:78:20
+number-requires : tie.Need-number-requires
+number-requires c κs = search needs
+
+-- src/returns.rt:78:16
+mul-t15 : tie.Need-mul-t15
+mul-t15 c = search needs
+
+-- src/returns.rt:78:38
+number-requires-2 : tie.Need-number-requires-2
+number-requires-2 c κs = search needs
+
+-- src/returns.rt:78:16
+add-t17 : tie.Need-add-t17
+add-t17 c = search needs
+
+-- src/returns.rt:80:5
+put-effect-requires : tie.Need-put-effect-requires
+put-effect-requires c κs = search needs
+
+-- src/returns.rt:57:1
+same-length : tie.Need-same-length
+same-length c = search needs
+
+-- src/returns.rt:57:1
+returns : tie.Need-returns
+returns c =
+    let b4 = c .before .before .before .before in
+    let b5 = b4 .before in
+    let b6 = b5 .before in
+    let b7 = b6 .before in
+    created _ _ _ _ _ _ _ (b5 .number .ensures) (b4 .number2 .ensures) (b6 .value-kind .ensures) (b7 .type-at .ensures) (c .before .before .put-effect .ensures)
+
+pub put-create-returns-spec : {M : Type 1} → statement M
+put-create-returns-spec =
+    tie.close
+    (tie.spec
+    type-at-requires
+    value-kind-requires
+    number-requires
+    mul-t15
+    number-requires-2
+    add-t17
+    put-effect-requires
+    same-length
+    returns)

@@ -1,0 +1,214 @@
+// The effects of instructions in the answer: those that are copied, and the diagnostics among them.
+ghost use Prim.Native.Nat.{ℕ, _+_, _*_, _≤_};
+ghost use mathlib.Core.List.{List, []};
+ghost use Rattle.model.specs.Lists.{gather};
+ghost use Rattle.model.specs.Limits.{mostCount};
+ghost use Rattle.model.specs.Reading.{counted, numbered};
+ghost use Rattle.model.specs.Sections.{effect, effects, instruction, block};
+ghost use Rattle.hir.specs.Says.{effectIs};
+ghost use Rattle.writing.specs.Wrote.{Wrote, farthest};
+ghost use Rattle.copies.specs.Copies.{Copies};
+ghost use Rattle.copies.specs.Words.{copyWords, instructionWords, blockWords};
+use crate::Copied;
+use crate::past::past_phis;
+use crate::past::past_terminal;
+use crate::put_effect;
+use effects::Role;
+use effects::effect;
+use effects::role_of;
+use hir::AliasingEffect;
+use hir::BlockStep;
+use hir::Cursor;
+use hir::EffectStep;
+use hir::OrderStep;
+use hir::WordStep;
+use writing::put;
+
+// The section that effects of instructions are copied to.
+pub enum Section {
+    Diagnostics,
+    Effects,
+}
+
+// What the section takes of an effect.
+pub fn put_copy(answer: &mut [u32], at: usize, section: Section, e: AliasingEffect) -> usize
+    requires { ⌜ at + 8 ≤ farthest ⌝ }
+    ensures { λ r. ⌜ Wrote (copyWords section (effectIs e)) (now (answer .entry)) at (now (answer .exit)) r ⌝ }
+{
+    let kind = e.kind;
+    let role = role_of(kind);
+    match role {
+        Role::Diagnosis => match section {
+            Section::Diagnostics => put(answer, at, e.extra),
+            Section::Effects => put_effect(answer, at, e),
+        },
+        Role::Render => match section {
+            Section::Diagnostics => at,
+            Section::Effects => put_effect(answer, at, e),
+        },
+        Role::Relation => at,
+        Role::Mutation => at,
+        Role::Nothing => at,
+    }
+}
+
+// One effect.
+pub fn copy_effect(
+    sheet: &[u32],
+    c: Cursor,
+    n: u32,
+    m: u32,
+    section: Section,
+    answer: &mut [u32],
+    at: usize,
+) -> Copied
+    requires { ⌜ at + 8 ≤ farthest ⌝ }
+    ensures { λ r. ⌜ Copies (effect n m (now (sheet .entry)) (c .at)) (copyWords section) 8 (now (answer .entry)) at (now (answer .exit)) (r .at) (r .next .at) ⌝ }
+{
+    match effect(c, sheet, n, m) {
+        EffectStep::Got(e, next) => {
+            let to = put_copy(answer, at, section, e);
+            Copied { at: to, next }
+        }
+        EffectStep::Refused(_) => Copied { at, next: c },
+    }
+}
+
+// An instruction: its order, an effect count and the effects.
+pub fn copy_instruction(
+    sheet: &[u32],
+    c: Cursor,
+    n: u32,
+    m: u32,
+    section: Section,
+    answer: &mut [u32],
+    at: usize,
+) -> Copied
+    requires { ⌜ at + 8192 ≤ farthest ⌝ }
+    ensures { λ r. ⌜ Copies (instruction n m (now (sheet .entry)) (c .at)) (instructionWords section) 8192 (now (answer .entry)) at (now (answer .exit)) (r .at) (r .next .at) ⌝ }
+{
+    match c.order(sheet) {
+        OrderStep::Got(_, d) => copy_list(sheet, d, n, m, section, answer, at),
+        OrderStep::Refused(_) => Copied { at, next: c },
+    }
+}
+
+// An effect count and the effects.
+fn copy_list(
+    sheet: &[u32],
+    c: Cursor,
+    n: u32,
+    m: u32,
+    section: Section,
+    answer: &mut [u32],
+    at: usize,
+) -> Copied
+    requires { ⌜ at + 8192 ≤ farthest ⌝ }
+    ensures { λ r. ⌜ Copies (effects n m (now (sheet .entry)) (c .at)) (gather (copyWords section)) 8192 (now (answer .entry)) at (now (answer .exit)) (r .at) (r .next .at) ⌝ }
+{
+    let mut left: u32;
+    let mut next: Cursor;
+    match c.count(sheet, 1024) {
+        WordStep::Got(k, d) => {
+            left = k;
+            next = d;
+        }
+        WordStep::Refused(_) => {
+            return Copied { at, next: c };
+        }
+    }
+    let mut to = at;
+    while 0 < left {
+        let r = copy_effect(sheet, next, n, m, section, answer, to);
+        to = r.at;
+        next = r.next;
+        left -= 1;
+    }
+    Copied { at: to, next }
+}
+
+// An instruction count and the instructions.
+fn copy_instructions(
+    sheet: &[u32],
+    c: Cursor,
+    n: u32,
+    m: u32,
+    section: Section,
+    answer: &mut [u32],
+    at: usize,
+) -> Copied
+    requires { ⌜ at + 8388608 ≤ farthest ⌝ }
+    ensures { λ r. ⌜ Copies (counted mostCount (instruction n m) (now (sheet .entry)) (c .at)) (gather (instructionWords section)) 8388608 (now (answer .entry)) at (now (answer .exit)) (r .at) (r .next .at) ⌝ }
+{
+    let mut left: u32;
+    let mut next: Cursor;
+    match c.count(sheet, 1024) {
+        WordStep::Got(k, d) => {
+            left = k;
+            next = d;
+        }
+        WordStep::Refused(_) => {
+            return Copied { at, next: c };
+        }
+    }
+    let mut to = at;
+    while 0 < left {
+        let r = copy_instruction(sheet, next, n, m, section, answer, to);
+        to = r.at;
+        next = r.next;
+        left -= 1;
+    }
+    Copied { at: to, next }
+}
+
+// A block after its number.
+fn copy_block(
+    sheet: &[u32],
+    c: Cursor,
+    n: u32,
+    m: u32,
+    section: Section,
+    answer: &mut [u32],
+    at: usize,
+) -> Copied
+    requires { ⌜ at + 8388608 ≤ farthest ⌝ }
+    ensures { λ r. ⌜ ((b : ℕ) → Copies (block n m b (now (sheet .entry)) (c .at)) (blockWords section) 8388608 (now (answer .entry)) at (now (answer .exit)) (r .at) (r .next .at)) ⌝ }
+{
+    let inside = past_phis(sheet, c);
+    let r = copy_instructions(sheet, inside, n, m, section, answer, at);
+    let next = past_terminal(sheet, r.next);
+    Copied { at: r.at, next }
+}
+
+// The effects of the instructions of `count` blocks.
+pub fn copy_effects(
+    sheet: &[u32],
+    c: Cursor,
+    count: u32,
+    n: u32,
+    m: u32,
+    section: Section,
+    answer: &mut [u32],
+    at: usize,
+) -> Copied
+    requires { ⌜ (count ≤ 256) × (at + 2147483648 ≤ farthest) ⌝ }
+    ensures { λ r. ⌜ Copies (numbered count [] (block n m) (now (sheet .entry)) (c .at)) (gather (blockWords section)) 2147483648 (now (answer .entry)) at (now (answer .exit)) (r .at) (r .next .at) ⌝ }
+{
+    let mut left = count;
+    let mut next = c;
+    let mut to = at;
+    while 0 < left {
+        match next.block_number(sheet) {
+            BlockStep::Got(_, d) => {
+                let r = copy_block(sheet, d, n, m, section, answer, to);
+                to = r.at;
+                next = r.next;
+            }
+            BlockStep::Refused(_) => {
+                return Copied { at: to, next };
+            }
+        }
+        left -= 1;
+    }
+    Copied { at: to, next }
+}

@@ -1,0 +1,48 @@
+// What the answer takes over from the sheet: places and effects in words, the effects and the diagnostics of instructions, the diagnostics of inner functions, and Create for returns.
+ghost use mathlib.Core.Path.{_≡_};
+ghost use Prim.Native.Nat.{ℕ, _+_, _≤_};
+ghost use Rattle.model.specs.Answer.{placeWords, effectWords};
+ghost use Rattle.hir.specs.Says.{placeIs, effectIs};
+ghost use Rattle.writing.specs.Wrote.{Wrote, farthest};
+use hir::AliasingEffect;
+use hir::Cursor;
+use hir::Place;
+use hir::places::traits_word;
+use writing::put;
+
+pub mod functions;
+pub mod instructions;
+pub mod past;
+pub mod returns;
+
+// Where the answer and the reading stand after a part of the sheet was copied.
+pub struct Copied {
+    pub at: usize,
+    pub next: Cursor,
+}
+
+// A place in words.
+pub fn put_place(answer: &mut [u32], at: usize, p: Place) -> usize
+    requires { ⌜ at + 3 ≤ farthest ⌝ }
+    ensures { λ r. ⌜ Wrote (placeWords (placeIs p)) (now (answer .entry)) at (now (answer .exit)) r ⌝ }
+{
+    let identifier = p.identifier;
+    let effect = p.effect;
+    let a = put(answer, at, identifier.0);
+    let b = put(answer, a, traits_word(effect, p.reactive));
+    put(answer, b, p.span)
+}
+
+// An effect in words.
+pub fn put_effect(answer: &mut [u32], at: usize, e: AliasingEffect) -> usize
+    requires { ⌜ at + 8 ≤ farthest ⌝ }
+    ensures { λ r. ⌜ Wrote (effectWords (effectIs e)) (now (answer .entry)) at (now (answer .exit)) r ⌝ }
+{
+    let kind = e.kind;
+    let first = e.first;
+    let second = e.second;
+    let a = put(answer, at, kind.number());
+    let b = put_place(answer, a, first);
+    let c = put_place(answer, b, second);
+    put(answer, c, e.extra)
+}

@@ -1,0 +1,81 @@
+// Create for returns.
+ghost use mathlib.Core.Path.{_≡_};
+ghost use Prim.Native.Nat.{ℕ, _+_, _≤_, _<_};
+ghost use Rattle.hir.specs.Numbers.{typeSays, valueNumber};
+ghost use Rattle.model.specs.Summary.{valueKind};
+ghost use Rattle.hir.specs.Says.{placeIs};
+ghost use Rattle.writing.specs.Wrote.{farthest};
+ghost use Rattle.copies.specs.Returns.{TypeAt, Created};
+use crate::put_effect;
+use hir::AliasingEffect;
+use hir::Cursor;
+use hir::Effect;
+use hir::EffectKind;
+use hir::IdentifierId;
+use hir::IdentifierStep;
+use hir::IdentifierType;
+use hir::Place;
+use hir::ValueKind;
+use hir::ValueReason;
+use writing::put;
+
+// The type of an identifier, `c` being where the first one stands.
+pub fn type_at(sheet: &[u32], c: Cursor, identifier: IdentifierId) -> IdentifierType
+    ensures { λ r. ⌜ TypeAt (now (sheet .entry)) (c .at) (identifier .0) (typeSays r) ⌝ }
+{
+    let mut left = identifier.0;
+    let mut next = c;
+    while 0 < left {
+        match next.identifier(sheet) {
+            IdentifierStep::Got(_, d) => {
+                next = d;
+            }
+            IdentifierStep::Refused(_) => {
+                return IdentifierType::Other;
+            }
+        }
+        left -= 1;
+    }
+    match next.identifier(sheet) {
+        IdentifierStep::Got(i, _) => i.kind,
+        IdentifierStep::Refused(_) => IdentifierType::Other,
+    }
+}
+
+// The kind of value that a type is returned as.
+fn value_kind(t: IdentifierType) -> ValueKind
+    ensures { λ r. ⌜ valueNumber r ≡ valueKind (typeSays t) ⌝ }
+{
+    match t {
+        IdentifierType::Primitive => ValueKind::Primitive,
+        IdentifierType::Jsx => ValueKind::Frozen,
+        IdentifierType::Other => ValueKind::Mutable,
+    }
+}
+
+// Create for returns, by its identifier's type.
+pub fn put_create_returns(
+    sheet: &[u32],
+    c: Cursor,
+    returns: Place,
+    answer: &mut [u32],
+    at: usize,
+) -> usize
+    requires { ⌜ at + 8 ≤ farthest ⌝ }
+    ensures { λ r. ⌜ Created (now (sheet .entry)) (c .at) (placeIs returns) (now (answer .entry)) at (now (answer .exit)) r ⌝ }
+{
+    let value = value_kind(type_at(sheet, c, returns.identifier));
+    let reason = ValueReason::KnownReturnSignature;
+    let e = AliasingEffect {
+        kind: EffectKind::Create,
+        first: returns,
+        second: Place {
+            identifier: IdentifierId(0),
+            effect: Effect::Unknown,
+            reactive: false,
+            span: 0,
+        },
+        extra: 6 * reason.number() + value.number(),
+    };
+    put_effect(answer, at, e)
+}

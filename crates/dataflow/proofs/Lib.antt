@@ -1,0 +1,3 @@
+pub mod Phi
+pub mod Block
+pub mod Sheet

@@ -1,0 +1,45 @@
+-- The building of a whole sheet: where it starts, and what the loop over the blocks leaves.
+use Prim.Native.Nat.{ℕ}
+use mathlib.Core.List.{List, []}
+use mathlib.Core.Path.{_≡_}
+use lib.ListN.{length, take, drop}
+use Rattle.model.specs.Sheet.{Sheet}
+use Rattle.model.specs.Totals.{totals}
+use Rattle.model.specs.Reading.{Position}
+use Rattle.model.specs.Built.{Built}
+use Rattle.model.specs.Building.{firstNodes, build}
+use Rattle.rows.specs.Layout.{SEEN, FUNCTIONS}
+use Rattle.building.specs.declared.Building.{Building}
+use Rattle.building.specs.Built.{builtOf, Sound}
+use Rattle.instructions.specs.declared.BuildStep.{BuildStep}
+use Rattle.instructions.specs.declared.BuildStep.the-variants.{Got, Refused}
+
+-- the building before the first block: "Parameters, context, returns get nodes first"
+unfoldable pub firstBuilt : Sheet → Built
+firstBuilt t = record { graph = firstNodes t; index = 0; come = []; waiting = []; mutations = []; renders = [] }
+
+-- it stands in the workspace
+pub record First (t : Sheet) (ws : List ℕ) (b : Building) : Type 0 where
+  pub built : builtOf ws b ≡ firstBuilt t
+  pub sound : Sound ws b
+  pub relations : b .relations ≡ 0
+  pub mutations : b .mutations ≡ 0
+  pub renders : b .renders ≡ 0
+  pub come : b .come ≡ 0
+
+-- the whole sheet is built
+pub record Whole (t : Sheet) (ws ws′ : List ℕ) (r : Building) : Type 0 where
+  pub built : builtOf ws′ r ≡ build t
+  pub sound : Sound ws′ r
+  pub relations : r .relations ≡ totals t .relations
+  pub mutations : r .mutations ≡ totals t .mutations
+  pub renders : r .renders ≡ totals t .renders
+  pub come : r .come ≡ length (t .blocks)
+  pub low : take SEEN ws′ ≡ take SEEN ws
+  pub high : drop FUNCTIONS ws′ ≡ drop FUNCTIONS ws
+  pub same : length ws′ ≡ length ws
+
+-- and the reading stands at d; a refusal is no answer
+abbrev pub WholeAt : Sheet → Position → List ℕ → List ℕ → BuildStep → Type 0
+WholeAt t d ws ws′ (Got r c) = Whole t ws ws′ r × (c .at ≡ d)
+WholeAt t d ws ws′ (Refused k) = ⊥

@@ -1,0 +1,31 @@
+-- Document 01, "This table gives places and largest extra word by effect kind": what a row of the code's table says, and what it has to say.
+use Prim.Native.Nat.{ℕ}
+use Rattle.model.specs.Sheet.{EffectKind}
+use Rattle.model.specs.Effects.{kindOf, rowOf, Role as ModelRole, relation, mutation, render, diagnosis, nothing}
+use Rattle.hir.specs.Numbers.{kindSays}
+use Rattle.effects.specs.declared.Row.{Row}
+use Rattle.effects.specs.declared.Role.{Role}
+use Rattle.effects.specs.declared.Role.the-variants.{Relation, Mutation, Render, Diagnosis, Nothing}
+
+-- the role of the same name
+abbrev pub roleSays : Role → ModelRole
+roleSays Relation = relation
+roleSays Mutation = mutation
+roleSays Render = render
+roleSays Diagnosis = diagnosis
+roleSays Nothing = nothing
+
+-- a row: the kind, how many places it uses, its largest extra word, what it is for in an instruction
+pub record TableRow : Type 0 where
+  pub kind : EffectKind
+  pub places : ℕ
+  pub extra : ℕ
+  pub role : ModelRole
+
+-- what the code's row says
+abbrev pub rowSays : Row → TableRow
+rowSays r = record { kind = kindSays (r .kind); places = r .places; extra = r .extra; role = roleSays (r .role) }
+
+-- the document's row of a kind's number
+unfoldable pub tableRow : ℕ → TableRow
+tableRow k = record { kind = kindOf k; places = rowOf (kindOf k) .places; extra = rowOf (kindOf k) .extra; role = rowOf (kindOf k) .role }

@@ -1,0 +1,211 @@
+// An effect, held to the table of its kind.
+ghost use mathlib.Core.Path.{_≡_};
+ghost use Rattle.model.specs.Effects.{kindOf, rowOf};
+ghost use Rattle.model.specs.Sections.{extra, effect};
+ghost use Rattle.hir.specs.Numbers.{kindSays};
+ghost use Rattle.hir.specs.Says.{wordSays, effectSays};
+ghost use Rattle.effects.specs.Table.{roleSays, rowSays, tableRow};
+use hir::AliasingEffect;
+use hir::Cursor;
+use hir::EffectKind;
+use hir::EffectStep;
+use hir::PlaceStep;
+use hir::WordStep;
+
+// What an effect of an instruction is for.
+pub enum Role {
+    Relation,
+    Mutation,
+    Render,
+    Diagnosis,
+    Nothing,
+}
+
+// How many places a kind uses, its largest extra word, and what it is for.
+pub struct Row {
+    pub kind: EffectKind,
+    pub places: u32,
+    pub extra: u32,
+    pub role: Role,
+}
+
+const ROWS: [Row; 18] = [
+    Row {
+        kind: EffectKind::Freeze,
+        places: 1,
+        extra: 11,
+        role: Role::Nothing,
+    },
+    Row {
+        kind: EffectKind::Mutate,
+        places: 1,
+        extra: 1,
+        role: Role::Mutation,
+    },
+    Row {
+        kind: EffectKind::MutateConditionally,
+        places: 1,
+        extra: 0,
+        role: Role::Mutation,
+    },
+    Row {
+        kind: EffectKind::MutateTransitive,
+        places: 1,
+        extra: 0,
+        role: Role::Mutation,
+    },
+    Row {
+        kind: EffectKind::MutateTransitiveConditionally,
+        places: 1,
+        extra: 0,
+        role: Role::Mutation,
+    },
+    Row {
+        kind: EffectKind::Capture,
+        places: 2,
+        extra: 0,
+        role: Role::Relation,
+    },
+    Row {
+        kind: EffectKind::Alias,
+        places: 2,
+        extra: 0,
+        role: Role::Relation,
+    },
+    Row {
+        kind: EffectKind::MaybeAlias,
+        places: 2,
+        extra: 0,
+        role: Role::Relation,
+    },
+    Row {
+        kind: EffectKind::Assign,
+        places: 2,
+        extra: 0,
+        role: Role::Relation,
+    },
+    Row {
+        kind: EffectKind::Create,
+        places: 1,
+        extra: 71,
+        role: Role::Nothing,
+    },
+    Row {
+        kind: EffectKind::CreateFrom,
+        places: 2,
+        extra: 0,
+        role: Role::Relation,
+    },
+    Row {
+        kind: EffectKind::ImmutableCapture,
+        places: 2,
+        extra: 0,
+        role: Role::Nothing,
+    },
+    Row {
+        kind: EffectKind::Apply,
+        places: 0,
+        extra: 0,
+        role: Role::Nothing,
+    },
+    Row {
+        kind: EffectKind::CreateFunction,
+        places: 1,
+        extra: 63,
+        role: Role::Nothing,
+    },
+    Row {
+        kind: EffectKind::MutateFrozen,
+        places: 1,
+        extra: 65535,
+        role: Role::Diagnosis,
+    },
+    Row {
+        kind: EffectKind::MutateGlobal,
+        places: 1,
+        extra: 65535,
+        role: Role::Diagnosis,
+    },
+    Row {
+        kind: EffectKind::Impure,
+        places: 1,
+        extra: 65535,
+        role: Role::Diagnosis,
+    },
+    Row {
+        kind: EffectKind::Render,
+        places: 1,
+        extra: 0,
+        role: Role::Render,
+    },
+];
+
+// The table's row of a kind's number; a number above 17 is refused before.
+pub fn row_of(number: u32) -> Row
+    ensures { λ r. ⌜ rowSays r ≡ tableRow number ⌝ }
+{
+    let k = number as usize;
+    if 17 < k {
+        return ROWS[0];
+    }
+    ROWS[k]
+}
+
+// What an effect of this kind is for, in an instruction.
+pub fn role_of(kind: EffectKind) -> Role
+    ensures { λ r. ⌜ roleSays r ≡ rowOf (kindSays kind) .role ⌝ }
+{
+    let row = row_of(kind.number());
+    row.role
+}
+
+// The extra word: at most the table's; for CreateFunction below the count of inner functions.
+pub fn extra(c: Cursor, s: &[u32], m: u32, number: u32) -> WordStep
+    ensures { λ r. ⌜ wordSays r ≡ extra m (kindOf number) (now (s .entry)) (c .at) ⌝ }
+{
+    let row = row_of(number);
+    let kind = row.kind;
+    let most = row.extra;
+    if kind.number() == 13 {
+        c.below(s, m)
+    } else {
+        c.at_most(s, most)
+    }
+}
+
+// An effect over `n` identifiers and `m` inner functions: kind, first place, second place, extra.
+pub fn effect(c: Cursor, s: &[u32], n: u32, m: u32) -> EffectStep
+    ensures { λ r. ⌜ effectSays r ≡ effect n m (now (s .entry)) (c .at) ⌝ }
+{
+    let number: u32;
+    let c1: Cursor;
+    match c.at_most(s, 17) {
+        WordStep::Got(w, d) => {
+            number = w;
+            c1 = d;
+        }
+        WordStep::Refused(k1) => {
+            return EffectStep::Refused(k1);
+        }
+    }
+    let row = row_of(number);
+    let kind = row.kind;
+    match c1.place_if(s, n, 1 <= row.places) {
+        PlaceStep::Got(first, c2) => match c2.place_if(s, n, 2 <= row.places) {
+            PlaceStep::Got(second, c3) => match extra(c3, s, m, number) {
+                WordStep::Got(x, c4) => {
+                    let e = AliasingEffect {
+                        kind,
+                        first,
+                        second,
+                        extra: x,
+                    };
+                    EffectStep::Got(e, c4)
+                }
+                WordStep::Refused(k4) => EffectStep::Refused(k4),
+            },
+            PlaceStep::Refused(k3) => EffectStep::Refused(k3),
+        },
+        PlaceStep::Refused(k2) => EffectStep::Refused(k2),
+    }
+}

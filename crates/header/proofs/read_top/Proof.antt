@@ -1,0 +1,164 @@
+use native.Mathlib.Omega.{arith}
+use mathlib.Core.Path.{subst}
+use Rattle.model.proofs.ReadLaws.{count-reads}
+use Rattle.hir.specs.Says.{wordSays, flagsSays}
+use Rattle.hir.proofs.Answers.{says}
+use Rattle.header.specs.Read.{Ends, Functions}
+use Rattle.header.specs.declared.Next.{Next}
+use Rattle.header.proofs.Within.{count-within}
+use Rattle.header.proofs.TopRead.{tops, no-flags, no-identifiers, no-ends, no-functions, no-list, ends-as, functions-as}
+use borrow.Author.Needs.{needs}
+use Rattle.header.proofs.read_top.Statement.{statement}
+use Rattle.header.proofs.read_top.Tie as tie
+use Rattle.header.proofs.read_top.Reads as reads
+use Rattle.header.proofs.read_top.Lts as lts
+use Rattle.header.proofs.read_ends.Reads as read-ends-reads
+use Rattle.header.proofs.read_functions.Reads as read-functions-reads
+use Rattle.header.proofs.records_errors.Reads as records-errors-reads
+use Rattle.hir.proofs.Cursor.count.Reads as count-reads
+use Rattle.hir.proofs.Cursor.flags.Reads as flags-reads
+
+-- src/lib.rt:129:37
+flags-requires : tie.Need-flags-requires
+flags-requires c κs = search needs
+
+-- src/lib.rt:129:24
+enum-known-flags : tie.Need-enum-known-flags
+enum-known-flags c = search needs
+
+-- src/lib.rt:130:9
+enum-told : tie.Need-enum-told
+enum-told c = search needs
+
+-- src/lib.rt:130:9
+returns : tie.Need-returns
+returns c = record { read = λ s d h. no-flags _ s d h _ (says flagsSays (c .enum-told .given .1) (c .before .before .flags .ensures)) }
+
+-- src/lib.rt:132:32
+count-requires : tie.Need-count-requires
+count-requires c κs = search needs
+
+-- src/lib.rt:132:23
+enum-known-n : tie.Need-enum-known-n
+enum-known-n c = search needs
+
+-- src/lib.rt:133:9
+enum-told-2 : tie.Need-enum-told-2
+enum-told-2 c = search needs
+
+-- src/lib.rt:133:9
+returns-2 : tie.Need-returns-2
+returns-2 c = record { read = λ s d h. no-identifiers _ s d h _ _ (says flagsSays (c .before .before .before .before .flags2 .given .1) (c .before .before .before .before .before .before .flags .ensures)) _ (says wordSays (c .enum-told2 .given .1) (c .before .before .count .ensures)) }
+
+-- src/lib.rt:135:49
+cast-read-ends : tie.Need-cast-read-ends
+cast-read-ends c = search needs
+
+-- src/lib.rt:135:24
+read-ends-requires : tie.Need-read-ends-requires
+read-ends-requires c κs = (count-reads 512 _ _ _ _ (says wordSays (c .before .before .n .given .1) (c .before .before .before .before .count .ensures)), c .before .before .before .before .before .before .before .before .before .before .before .pre .0)
+
+-- src/lib.rt:135:18
+enum-known-c3 : tie.Need-enum-known-c3
+enum-known-c3 c = search needs
+
+-- src/lib.rt:136:9
+enum-told-3 : tie.Need-enum-told-3
+enum-told-3 c = search needs
+
+-- src/lib.rt:136:9
+same-length : tie.Need-same-length
+same-length c = search needs
+
+-- src/lib.rt:136:9
+returns-3 : tie.Need-returns-3
+returns-3 c = record { read = λ s d h. no-ends _ s d h _ _ (says flagsSays (c .before .before .before .before .before .before .before .before .before .before .before .flags2 .given .1) (c .before .before .before .before .before .before .before .before .before .before .before .before .before .flags .ensures)) _ _ (says wordSays (c .before .before .before .before .before .before .before .n .given .1) (c .before .before .before .before .before .before .before .before .before .count .ensures)) _ _ (ends-as (c .before .before .before .before .read-ends .ensures) (c .enum-told3 .given .1)) }
+
+-- src/lib.rt:138:32
+count-requires-2 : tie.Need-count-requires-2
+count-requires-2 c κs = search needs
+
+-- src/lib.rt:138:23
+enum-known-m : tie.Need-enum-known-m
+enum-known-m c = search needs
+
+-- src/lib.rt:139:9
+enum-told-4 : tie.Need-enum-told-4
+enum-told-4 c = search needs
+
+-- src/lib.rt:139:9
+same-length-2 : tie.Need-same-length-2
+same-length-2 c = search needs
+
+-- src/lib.rt:139:9
+returns-4 : tie.Need-returns-4
+returns-4 c = record { read = λ s d h. no-functions _ s d h _ _ (says flagsSays (c .before .before .before .before .before .before .before .before .before .before .before .before .before .before .before .flags2 .given .1) (c .before .before .before .before .before .before .before .before .before .before .before .before .before .before .before .before .before .flags .ensures)) _ _ (says wordSays (c .before .before .before .before .before .before .before .before .before .before .before .n .given .1) (c .before .before .before .before .before .before .before .before .before .before .before .before .before .count .ensures)) _ _ _ (ends-as (c .before .before .before .before .before .before .before .before .read-ends .ensures) (c .before .before .before .before .c3 .given .1)) _ (says wordSays (c .enum-told4 .given .1) (c .before .before .count2 .ensures)) }
+
+-- src/lib.rt:141:54
+cast-read-functions : tie.Need-cast-read-functions
+cast-read-functions c = search needs
+
+-- src/lib.rt:141:24
+read-functions-requires : tie.Need-read-functions-requires
+read-functions-requires c κs = (count-reads 64 _ _ _ _ (says wordSays (c .before .before .m .given .1) (c .before .before .before .before .count2 .ensures)), (omega (arith, c .before .before .before .before .before .before .before .before .before .before .before .before .before .before .before .before .before .before .before .before .before .before .pre .0, c .before .before .before .before .before .before .before .before .before .before .read-ends .ensures .same), (c .before .before .before .before .before .before .before .before .before .before .before .before .before .before .before .before .before .before .before .before .before .before .pre .1, count-within 64 _ _ _ _ (says wordSays (c .before .before .m .given .1) (c .before .before .before .before .count2 .ensures)))))
+
+-- src/lib.rt:141:18
+enum-known-c5 : tie.Need-enum-known-c5
+enum-known-c5 c = search needs
+
+-- src/lib.rt:142:9
+enum-told-5 : tie.Need-enum-told-5
+enum-told-5 c = search needs
+
+-- src/lib.rt:142:9
+same-length-3 : tie.Need-same-length-3
+same-length-3 c = search needs
+
+-- src/lib.rt:142:9
+returns-5 : tie.Need-returns-5
+returns-5 c = record { read = λ s d h. no-list _ s d h _ _ (says flagsSays (c .before .before .before .before .before .before .before .before .before .before .before .before .before .before .before .before .before .before .before .before .before .before .flags2 .given .1) (c .before .before .before .before .before .before .before .before .before .before .before .before .before .before .before .before .before .before .before .before .before .before .before .before .flags .ensures)) _ _ (says wordSays (c .before .before .before .before .before .before .before .before .before .before .before .before .before .before .before .before .before .before .n .given .1) (c .before .before .before .before .before .before .before .before .before .before .before .before .before .before .before .before .before .before .before .before .count .ensures)) _ _ _ (ends-as (c .before .before .before .before .before .before .before .before .before .before .before .before .before .before .before .read-ends .ensures) (c .before .before .before .before .before .before .before .before .before .before .before .c3 .given .1)) _ _ (says wordSays (c .before .before .before .before .before .before .before .m .given .1) (c .before .before .before .before .before .before .before .before .before .count2 .ensures)) _ (functions-as (c .before .before .before .before .read-functions .ensures) (c .enum-told5 .given .1)) }
+
+-- src/lib.rt:144:9
+records-errors-requires : tie.Need-records-errors-requires
+records-errors-requires c κs = search needs
+
+-- src/lib.rt:124:1
+same-length-4 : tie.Need-same-length-4
+same-length-4 c = search needs
+
+-- src/lib.rt:124:1
+returns-6 : tie.Need-returns-6
+returns-6 c = record { read = λ s d h. tops _ _ _ _ s d h _ _ (says flagsSays (c .before .before .before .before .before .before .before .before .before .before .before .before .before .before .before .before .before .before .before .before .before .before .before .before .flags2 .given .1) (c .before .before .before .before .before .before .before .before .before .before .before .before .before .before .before .before .before .before .before .before .before .before .before .before .before .before .flags .ensures)) _ _ (says wordSays (c .before .before .before .before .before .before .before .before .before .before .before .before .before .before .before .before .before .before .before .before .n .given .1) (c .before .before .before .before .before .before .before .before .before .before .before .before .before .before .before .before .before .before .before .before .before .before .count .ensures)) _ (ends-as (c .before .before .before .before .before .before .before .before .before .before .before .before .before .before .before .before .before .read-ends .ensures) (c .before .before .before .before .before .before .before .before .before .before .before .before .before .c3 .given .1)) _ _ (says wordSays (c .before .before .before .before .before .before .before .before .before .m .given .1) (c .before .before .before .before .before .before .before .before .before .before .before .count2 .ensures)) _ (functions-as (c .before .before .before .before .before .before .read-functions .ensures) (c .before .before .c5 .given .1)) _ (c .records-errors .ensures) }
+
+pub read-top-spec : {M : Type 1} → statement M
+read-top-spec =
+    tie.close
+    (tie.spec
+    flags-requires
+    enum-known-flags
+    enum-told
+    returns
+    count-requires
+    enum-known-n
+    enum-told-2
+    returns-2
+    cast-read-ends
+    read-ends-requires
+    enum-known-c3
+    enum-told-3
+    same-length
+    returns-3
+    count-requires-2
+    enum-known-m
+    enum-told-4
+    same-length-2
+    returns-4
+    cast-read-functions
+    read-functions-requires
+    enum-known-c5
+    enum-told-5
+    same-length-3
+    returns-5
+    records-errors-requires
+    same-length-4
+    returns-6)

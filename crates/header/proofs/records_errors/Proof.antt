@@ -1,0 +1,15 @@
+use Rattle.header.proofs.SheetTop.{no-errors, some-errors}
+use borrow.Author.Needs.{needs}
+use Rattle.header.proofs.records_errors.Statement.{statement}
+use Rattle.header.proofs.records_errors.Tie as tie
+use Rattle.header.proofs.records_errors.Reads as reads
+use Rattle.header.proofs.records_errors.Lts as lts
+
+returns : tie.Need-returns
+returns c = no-errors (c .before .args .flags .validations) _ (c .if1 .taken)
+
+returns-2 : tie.Need-returns-2
+returns-2 c = some-errors (c .before .args .flags .validations) _ (c .if1 .left)
+
+pub records-errors-spec : {M : Type 1} → statement M
+records-errors-spec = tie.close (tie.spec returns returns-2)

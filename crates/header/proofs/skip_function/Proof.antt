@@ -1,0 +1,44 @@
+use mathlib.Core.Path.{sym, subst, ap, _∙_}
+use Rattle.model.specs.Reading.{times, got}
+use Rattle.model.specs.Sections.{diagnostic}
+use Rattle.hir.specs.Says.{wordSays}
+use Rattle.hir.proofs.Answers.{says}
+use Rattle.header.specs.Read.{nextIs}
+use Rattle.model.proofs.Got.{not-both}
+use Rattle.header.proofs.Functions.{function-got, skip-reads}
+use borrow.Author.Needs.{needs}
+use Rattle.header.proofs.skip_function.Statement.{statement}
+use Rattle.header.proofs.skip_function.Tie as tie
+use Rattle.header.proofs.skip_function.Reads as reads
+use Rattle.header.proofs.skip_function.Lts as lts
+use Rattle.header.proofs.skip_diagnostics.Reads as skip-diagnostics-reads
+use Rattle.hir.proofs.Cursor.count.Reads as count-reads
+
+-- src/lib.rt:67:11
+count-requires : tie.Need-count-requires
+count-requires c κs = search needs
+
+-- src/lib.rt:68:23
+enum-known-k : tie.Need-enum-known-k
+enum-known-k c = search needs
+
+-- src/lib.rt:68:35
+skip-diagnostics-requires : tie.Need-skip-diagnostics-requires
+skip-diagnostics-requires c κs = search needs
+
+-- src/lib.rt:69:33
+enum-told : tie.Need-enum-told
+enum-told c = search needs
+
+-- src/lib.rt:64:1
+returns : tie.Need-returns
+returns c = record { read = λ f d e. skip-reads _ _ _ f d e (says wordSays (c .before .before .k .given .1) (c .before .before .before .before .count .ensures)) (c .skip-diagnostics .ensures .read) }
+
+-- src/lib.rt:64:1
+returns-2 : tie.Need-returns-2
+returns-2 c = record { read = λ f d e. absurd (not-both (function-got _ _ f d e .counts) (says wordSays (c .enum-told .given .1) (c .before .before .count .ensures))) }
+
+pub skip-function-spec : {M : Type 1} → statement M
+skip-function-spec =
+    tie.close
+    (tie.spec count-requires enum-known-k skip-diagnostics-requires enum-told returns returns-2)

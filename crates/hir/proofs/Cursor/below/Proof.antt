@@ -1,0 +1,53 @@
+use Rattle.hir.specs.Says.{wordSays}
+use Rattle.hir.proofs.Answers.{says}
+use Rattle.model.specs.Reading.{below}
+use borrow.Author.Tests.{lt-ltb, le-ltb}
+use borrow.Author.Needs.{needs}
+use Rattle.hir.proofs.Cursor.below.Statement.{statement}
+use Rattle.hir.proofs.Cursor.below.Tie as tie
+use Rattle.hir.proofs.Cursor.below.Reads as reads
+use Rattle.hir.proofs.Cursor.below.Lts as lts
+use Rattle.hir.proofs.Cursor.word.Reads as word-reads
+
+-- src/words.rt:77:15
+word-requires : tie.Need-word-requires
+word-requires c κs = search needs
+
+-- src/words.rt:78:27
+enum-known-w : tie.Need-enum-known-w
+enum-known-w c = search needs
+
+-- src/words.rt:85:31
+enum-known-k : tie.Need-enum-known-k
+enum-known-k c = search needs
+
+-- src/words.rt:74:5
+returns : tie.Need-returns
+unfolding below
+returns c =
+    let b4 = c .before .before .before .before in
+    rw (
+      says wordSays (c .before .before .w .given .1) (b4 .word .ensures),
+      lt-ltb _ _ (c .if1 .taken),
+    )
+
+-- src/words.rt:74:5
+returns-2 : tie.Need-returns-2
+unfolding below
+returns-2 c =
+    let b4 = c .before .before .before .before in
+    rw (
+      says wordSays (c .before .before .w .given .1) (b4 .word .ensures),
+      le-ltb _ _ (c .if1 .left),
+    )
+
+-- src/words.rt:74:5
+returns-3 : tie.Need-returns-3
+unfolding below
+returns-3 c =
+    let b3 = c .before .before .before in
+    rw (says wordSays (c .before .k .given .1) (b3 .word .ensures))
+
+pub below-spec : {M : Type 1} → statement M
+below-spec =
+    tie.close (tie.spec word-requires enum-known-w enum-known-k returns returns-2 returns-3)

@@ -1,0 +1,53 @@
+use Rattle.hir.specs.Says.{wordSays}
+use Rattle.hir.proofs.Answers.{says}
+use Rattle.model.specs.Reading.{count}
+use borrow.Author.Tests.{le-leb, lt-leb}
+use borrow.Author.Needs.{needs}
+use Rattle.hir.proofs.Cursor.count.Statement.{statement}
+use Rattle.hir.proofs.Cursor.count.Tie as tie
+use Rattle.hir.proofs.Cursor.count.Reads as reads
+use Rattle.hir.proofs.Cursor.count.Lts as lts
+use Rattle.hir.proofs.Cursor.word.Reads as word-reads
+
+-- src/words.rt:29:15
+word-requires : tie.Need-word-requires
+word-requires c κs = search needs
+
+-- src/words.rt:30:27
+enum-known-w : tie.Need-enum-known-w
+enum-known-w c = search needs
+
+-- src/words.rt:37:31
+enum-known-k : tie.Need-enum-known-k
+enum-known-k c = search needs
+
+-- src/words.rt:26:5
+returns : tie.Need-returns
+unfolding count
+returns c =
+    let b4 = c .before .before .before .before in
+    rw (
+      says wordSays (c .before .before .w .given .1) (b4 .word .ensures),
+      le-leb _ _ (c .if1 .taken),
+    )
+
+-- src/words.rt:26:5
+returns-2 : tie.Need-returns-2
+unfolding count
+returns-2 c =
+    let b4 = c .before .before .before .before in
+    rw (
+      says wordSays (c .before .before .w .given .1) (b4 .word .ensures),
+      lt-leb _ _ (c .if1 .left),
+    )
+
+-- src/words.rt:26:5
+returns-3 : tie.Need-returns-3
+unfolding count
+returns-3 c =
+    let b3 = c .before .before .before in
+    rw (says wordSays (c .before .k .given .1) (b3 .word .ensures))
+
+pub count-spec : {M : Type 1} → statement M
+count-spec =
+    tie.close (tie.spec word-requires enum-known-w enum-known-k returns returns-2 returns-3)

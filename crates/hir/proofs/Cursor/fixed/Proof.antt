@@ -1,0 +1,53 @@
+use Rattle.hir.specs.Says.{wordSays}
+use Rattle.hir.proofs.Answers.{says}
+use Rattle.model.specs.Reading.{fixed}
+use borrow.Author.Tests.{eq-eqb, ne-eqb}
+use borrow.Author.Needs.{needs}
+use Rattle.hir.proofs.Cursor.fixed.Statement.{statement}
+use Rattle.hir.proofs.Cursor.fixed.Tie as tie
+use Rattle.hir.proofs.Cursor.fixed.Reads as reads
+use Rattle.hir.proofs.Cursor.fixed.Lts as lts
+use Rattle.hir.proofs.Cursor.word.Reads as word-reads
+
+-- src/words.rt:45:15
+word-requires : tie.Need-word-requires
+word-requires c κs = search needs
+
+-- src/words.rt:46:27
+enum-known-w : tie.Need-enum-known-w
+enum-known-w c = search needs
+
+-- src/words.rt:53:31
+enum-known-k : tie.Need-enum-known-k
+enum-known-k c = search needs
+
+-- src/words.rt:42:5
+returns : tie.Need-returns
+unfolding fixed
+returns c =
+    let b4 = c .before .before .before .before in
+    rw (
+      says wordSays (c .before .before .w .given .1) (b4 .word .ensures),
+      eq-eqb _ _ (c .if1 .taken),
+    )
+
+-- src/words.rt:42:5
+returns-2 : tie.Need-returns-2
+unfolding fixed
+returns-2 c =
+    let b4 = c .before .before .before .before in
+    rw (
+      says wordSays (c .before .before .w .given .1) (b4 .word .ensures),
+      ne-eqb _ _ (c .if1 .left),
+    )
+
+-- src/words.rt:42:5
+returns-3 : tie.Need-returns-3
+unfolding fixed
+returns-3 c =
+    let b3 = c .before .before .before in
+    rw (says wordSays (c .before .k .given .1) (b3 .word .ensures))
+
+pub fixed-spec : {M : Type 1} → statement M
+fixed-spec =
+    tie.close (tie.spec word-requires enum-known-w enum-known-k returns returns-2 returns-3)

@@ -1,0 +1,112 @@
+use Rattle.hir.specs.Says.{wordSays}
+use Rattle.hir.proofs.Answers.{says}
+use Rattle.model.specs.Sections.{unused}
+use borrow.Author.Needs.{needs}
+use Rattle.hir.proofs.Cursor.unused.Statement.{statement}
+use Rattle.hir.proofs.Cursor.unused.Tie as tie
+use Rattle.hir.proofs.Cursor.unused.Reads as reads
+use Rattle.hir.proofs.Cursor.unused.Lts as lts
+use Rattle.hir.proofs.Cursor.at_most.Reads as at-most-reads
+
+-- src/places.rt:79:15
+at-most-requires : tie.Need-at-most-requires
+at-most-requires c κs = search needs
+
+-- src/places.rt:80:30
+enum-known-c1 : tie.Need-enum-known-c1
+enum-known-c1 c = search needs
+
+-- src/places.rt:80:43
+at-most-requires-2 : tie.Need-at-most-requires-2
+at-most-requires-2 c κs = search needs
+
+-- src/places.rt:81:34
+enum-known-c2 : tie.Need-enum-known-c2
+enum-known-c2 c = search needs
+
+-- src/places.rt:81:47
+at-most-requires-3 : tie.Need-at-most-requires-3
+at-most-requires-3 c κs = search needs
+
+-- src/places.rt:82:38
+enum-known-c3 : tie.Need-enum-known-c3
+enum-known-c3 c = search needs
+
+-- src/places.rt:91:39
+enum-known-k3 : tie.Need-enum-known-k3
+enum-known-k3 c = search needs
+
+-- src/places.rt:93:35
+enum-known-k2 : tie.Need-enum-known-k2
+enum-known-k2 c = search needs
+
+-- src/places.rt:95:31
+enum-known-k1 : tie.Need-enum-known-k1
+enum-known-k1 c = search needs
+
+-- src/places.rt:76:5
+returns : tie.Need-returns
+unfolding unused
+returns c =
+    let b3 = c .before .before .before in
+    let b5 = b3 .before .before in
+    let b7 = b5 .before .before in
+    let b9 = b7 .before .before in
+    let b11 = b9 .before .before in
+    rw (
+      says wordSays (b9 .c1 .given .1) (b11 .at-most .ensures),
+      says wordSays (b5 .c2 .given .1) (b7 .at-most2 .ensures),
+      says wordSays (c .before .c3 .given .1) (b3 .at-most3 .ensures),
+    )
+
+-- src/places.rt:76:5
+returns-2 : tie.Need-returns-2
+unfolding unused
+returns-2 c =
+    let b3 = c .before .before .before in
+    let b5 = b3 .before .before in
+    let b7 = b5 .before .before in
+    let b9 = b7 .before .before in
+    let b11 = b9 .before .before in
+    rw (
+      says wordSays (b9 .c1 .given .1) (b11 .at-most .ensures),
+      says wordSays (b5 .c2 .given .1) (b7 .at-most2 .ensures),
+      says wordSays (c .before .k3 .given .1) (b3 .at-most3 .ensures),
+    )
+
+-- src/places.rt:76:5
+returns-3 : tie.Need-returns-3
+unfolding unused
+returns-3 c =
+    let b3 = c .before .before .before in
+    let b5 = b3 .before .before in
+    let b7 = b5 .before .before in
+    rw (
+      says wordSays (b5 .c1 .given .1) (b7 .at-most .ensures),
+      says wordSays (c .before .k2 .given .1) (b3 .at-most2 .ensures),
+    )
+
+-- src/places.rt:76:5
+returns-4 : tie.Need-returns-4
+unfolding unused
+returns-4 c =
+    let b3 = c .before .before .before in
+    rw (says wordSays (c .before .k1 .given .1) (b3 .at-most .ensures))
+
+pub unused-spec : {M : Type 1} → statement M
+unused-spec =
+    tie.close
+    (tie.spec
+    at-most-requires
+    enum-known-c1
+    at-most-requires-2
+    enum-known-c2
+    at-most-requires-3
+    enum-known-c3
+    enum-known-k3
+    enum-known-k2
+    enum-known-k1
+    returns
+    returns-2
+    returns-3
+    returns-4)

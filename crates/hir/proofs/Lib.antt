@@ -1,0 +1,5 @@
+pub mod Table
+pub mod Answers
+pub mod EffectKinds
+pub mod Ranges
+pub mod TraitsLaws

@@ -1,0 +1,50 @@
+-- What a number that was read is known to be.
+use Prim.Native.Nat.{ℕ, zero, suc, _≤_, _<_}
+use mathlib.Core.Path.{_≡_, refl, sym}
+use mathlib.Core.Bool.{Bool}
+use mathlib.Core.List.{List, [], _∷_}
+use lib.Dec.{T, leb, eqb, eqb→eq}
+use lib.ListN.{getD}
+use borrow.Author.Tests.{leb-true}
+use Rattle.model.specs.Lists.{pick}
+use Rattle.model.specs.Sheet.{other}
+use Rattle.model.specs.Reading.{Position, Result, got, Read, pure, refuse, word, atMost}
+use Rattle.model.specs.Sections.{typeOf}
+use Rattle.model.proofs.ReadLaws.{Reads, pure-reads, refuse-reads, pick-reads, any-reads, bind-reads}
+use Rattle.hir.specs.Numbers.{effectNumber}
+use Rattle.hir.specs.declared.Effect.{Effect}
+use Rattle.hir.specs.declared.Effect.the-variants.{Unknown, Freeze, Read as Reading, Capture, ConditionallyMutateIterator, ConditionallyMutate, Mutate, Store}
+use Rattle.hir.proofs.Table.{at}
+use native.Mathlib.Omega.{arith}
+
+-- a word in its range
+pub at-most-reads : (most : ℕ) → Reads (atMost most) (λ (w : ℕ). w ≤ most)
+unfolding atMost
+at-most-reads most =
+    bind-reads word (λ (w : ℕ). pick (leb w most) (pure w) (refuse 5)) (λ (w : ℕ). Unit {0}) (λ (w : ℕ). w ≤ most) (any-reads word)
+    (λ w u. pick-reads (leb w most) (pure w) (refuse 5) (λ (w : ℕ). w ≤ most) (λ h. pure-reads w (λ (w : ℕ). w ≤ most) (leb-true w most h)) (λ h. refuse-reads 5 (λ (w : ℕ). w ≤ most)))
+
+-- a number that is neither 1 nor 2 has the type `other`
+pub other-type : (t : ℕ) → (t ≡ 1 → ⊥) → (t ≡ 2 → ⊥) → other ≡ typeOf t
+other-type zero a b = refl
+other-type (suc zero) a b = absurd (a refl)
+other-type (suc (suc zero)) a b = absurd (b refl)
+other-type (suc (suc (suc k))) a b = refl
+
+-- there are eight effects
+pub effect-number : (e : Effect) → effectNumber e ≤ 7
+effect-number Unknown = omega arith
+effect-number Freeze = omega arith
+effect-number Reading = omega arith
+effect-number Capture = omega arith
+effect-number ConditionallyMutateIterator = omega arith
+effect-number ConditionallyMutate = omega arith
+effect-number Mutate = omega arith
+effect-number Store = omega arith
+
+-- the effects as the code has them, by their numbers
+abbrev pub effects : List Effect
+effects = Unknown ∷ Freeze ∷ Reading ∷ Capture ∷ ConditionallyMutateIterator ∷ ConditionallyMutate ∷ Mutate ∷ Store ∷ []
+
+pub effect-right : (k : ℕ) → k < 8 → effectNumber (getD effects k Unknown) ≡ k
+effect-right k h = eqb→eq _ _ (at Unknown (λ (i : ℕ) (e : Effect). eqb (effectNumber e) i) effects tt k (omega arith))

@@ -1,0 +1,93 @@
+-- What each answer of a reader says: the value as the definitions have it with the next position, or the refusal's number.
+use Prim.Native.Nat.{ℕ, _+_}
+use lib.Dec.{leb}
+use mathlib.Core.Bool.{Bool}
+use Rattle.model.specs.Lists.{pick}
+use Rattle.model.specs.Sheet.{Place as ModelPlace, Effect as ModelEffect, Flags as ModelFlags, Identifier as ModelIdentifier, EvaluationOrder as ModelOrder, BlockId as ModelBlock}
+use Rattle.model.specs.Reading.{Result, got, refused, Read}
+use Rattle.model.specs.Sections.{place, unused}
+use Rattle.hir.specs.Numbers.{effectNumber, kindSays, terminalNumber, typeSays}
+use Rattle.hir.specs.declared.Place.{Place}
+use Rattle.hir.specs.declared.AliasingEffect.{AliasingEffect}
+use Rattle.hir.specs.declared.Flags.{Flags}
+use Rattle.hir.specs.declared.Identifier.{Identifier}
+use Rattle.hir.specs.declared.WordStep.{WordStep}
+use Rattle.hir.specs.declared.WordStep.the-variants.{Got as GotWord, Refused as NoWord}
+use Rattle.hir.specs.declared.PlaceStep.{PlaceStep}
+use Rattle.hir.specs.declared.PlaceStep.the-variants.{Got as GotPlace, Refused as NoPlace}
+use Rattle.hir.specs.declared.EffectStep.{EffectStep}
+use Rattle.hir.specs.declared.EffectStep.the-variants.{Got as GotEffect, Refused as NoEffect}
+use Rattle.hir.specs.declared.OrderStep.{OrderStep}
+use Rattle.hir.specs.declared.OrderStep.the-variants.{Got as GotOrder, Refused as NoOrder}
+use Rattle.hir.specs.declared.BlockStep.{BlockStep}
+use Rattle.hir.specs.declared.BlockStep.the-variants.{Got as GotBlock, Refused as NoBlock}
+use Rattle.hir.specs.declared.KindStep.{KindStep}
+use Rattle.hir.specs.declared.KindStep.the-variants.{Got as GotKind, Refused as NoKind}
+use Rattle.hir.specs.declared.FlagsStep.{FlagsStep}
+use Rattle.hir.specs.declared.FlagsStep.the-variants.{Got as GotFlags, Refused as NoFlags}
+use Rattle.hir.specs.declared.IdentifierStep.{IdentifierStep}
+use Rattle.hir.specs.declared.IdentifierStep.the-variants.{Got as GotIdentifier, Refused as NoIdentifier}
+
+-- the place as the definitions have it
+abbrev pub placeIs : Place → ModelPlace
+placeIs p = record { identifier = p .identifier .0; effect = effectNumber (p .effect); reactive = p .reactive; span = p .span }
+
+-- the effect
+abbrev pub effectIs : AliasingEffect → ModelEffect
+effectIs e = record { kind = kindSays (e .kind); first = placeIs (e .first); second = placeIs (e .second); extra = e .extra }
+
+-- the flags
+abbrev pub flagsAre : Flags → ModelFlags
+flagsAre f = record { functionExpression = f .«function_expression»; validations = f .validations }
+
+-- the identifier
+abbrev pub identifierIs : Identifier → ModelIdentifier
+identifierIs i = record { start = i .«mutable_range» .start .0; end = i .«mutable_range» .end .0; type = typeSays (i .kind) }
+
+-- a word
+abbrev pub wordSays : WordStep → Result ℕ
+wordSays (GotWord w c) = got w (c .at)
+wordSays (NoWord k) = refused k
+
+-- a place
+abbrev pub placeSays : PlaceStep → Result ModelPlace
+placeSays (GotPlace w c) = got (placeIs w) (c .at)
+placeSays (NoPlace k) = refused k
+
+-- an effect
+abbrev pub effectSays : EffectStep → Result ModelEffect
+effectSays (GotEffect w c) = got (effectIs w) (c .at)
+effectSays (NoEffect k) = refused k
+
+-- an order
+abbrev pub orderSays : OrderStep → Result ModelOrder
+orderSays (GotOrder w c) = got (w .0) (c .at)
+orderSays (NoOrder k) = refused k
+
+-- a block's number
+abbrev pub blockSays : BlockStep → Result ModelBlock
+blockSays (GotBlock w c) = got (w .0) (c .at)
+blockSays (NoBlock k) = refused k
+
+-- a terminal's kind, by its number
+abbrev pub kindStepSays : KindStep → Result ℕ
+kindStepSays (GotKind w c) = got (terminalNumber w) (c .at)
+kindStepSays (NoKind k) = refused k
+
+-- the flags
+abbrev pub flagsSays : FlagsStep → Result ModelFlags
+flagsSays (GotFlags w c) = got (flagsAre w) (c .at)
+flagsSays (NoFlags k) = refused k
+
+-- an identifier
+abbrev pub identifierSays : IdentifierStep → Result ModelIdentifier
+identifierSays (GotIdentifier w c) = got (identifierIs w) (c .at)
+identifierSays (NoIdentifier k) = refused k
+
+-- a place if the effect uses it, else three words 0
+abbrev pub placeOrUnused : Bool → ℕ → Read ModelPlace
+placeOrUnused used n = pick used (place n) unused
+
+-- some words further on; a position above 4,294,967,295, which no sheet has, stays
+unfoldable pub skipped : ℕ → ℕ → ℕ
+skipped at words = pick (leb at 4294967295) (at + words) at

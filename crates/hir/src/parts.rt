@@ -1,0 +1,122 @@
+// The numbers that are not effects: orders, block numbers, kinds of terminals, flags, identifiers.
+ghost use mathlib.Core.Path.{_≡_};
+ghost use Rattle.model.specs.Limits.{mostOrder, mostBlockNumber, mostTerminal};
+ghost use Rattle.model.specs.Reading.{atMost};
+ghost use Rattle.model.specs.Sections.{flags, identifier};
+ghost use Rattle.hir.specs.Numbers.{typeSays};
+ghost use Rattle.model.specs.Sections.{typeOf};
+ghost use Rattle.hir.specs.Says.{orderSays, blockSays, kindStepSays, flagsSays, identifierSays};
+use crate::BlockId;
+use crate::BlockStep;
+use crate::Cursor;
+use crate::EvaluationOrder;
+use crate::Flags;
+use crate::FlagsStep;
+use crate::Identifier;
+use crate::IdentifierStep;
+use crate::IdentifierType;
+use crate::KindStep;
+use crate::MutableRange;
+use crate::OrderStep;
+use crate::TerminalKind;
+use crate::WordStep;
+
+// The type of a number; one above 2 is refused before.
+pub fn type_of(number: u32) -> IdentifierType
+    ensures { λ r. ⌜ typeSays r ≡ typeOf number ⌝ }
+{
+    if number == 1 {
+        return IdentifierType::Primitive;
+    }
+    if number == 2 {
+        return IdentifierType::Jsx;
+    }
+    IdentifierType::Other
+}
+
+impl Cursor {
+    pub fn order(self, s: &[u32]) -> OrderStep
+        ensures { λ r. ⌜ orderSays r ≡ atMost mostOrder (now (s .entry)) (self .at) ⌝ }
+    {
+        match self.at_most(s, 999999) {
+            WordStep::Got(w, c) => OrderStep::Got(EvaluationOrder(w), c),
+            WordStep::Refused(k) => OrderStep::Refused(k),
+        }
+    }
+
+    // A block's own number, or a predecessor's.
+    pub fn block_number(self, s: &[u32]) -> BlockStep
+        ensures { λ r. ⌜ blockSays r ≡ atMost mostBlockNumber (now (s .entry)) (self .at) ⌝ }
+    {
+        match self.at_most(s, 65535) {
+            WordStep::Got(w, c) => BlockStep::Got(BlockId(w), c),
+            WordStep::Refused(k) => BlockStep::Refused(k),
+        }
+    }
+
+    pub fn terminal_kind(self, s: &[u32]) -> KindStep
+        ensures { λ r. ⌜ kindStepSays r ≡ atMost mostTerminal (now (s .entry)) (self .at) ⌝ }
+    {
+        match self.at_most(s, 2) {
+            WordStep::Got(w, c) => {
+                if w == 0 {
+                    return KindStep::Got(TerminalKind::Other, c);
+                }
+                if w == 1 {
+                    return KindStep::Got(TerminalKind::Return, c);
+                }
+                KindStep::Got(TerminalKind::MaybeThrow, c)
+            }
+            WordStep::Refused(k) => KindStep::Refused(k),
+        }
+    }
+
+    // The count of flags, then both.
+    pub fn flags(self, s: &[u32]) -> FlagsStep
+        ensures { λ r. ⌜ flagsSays r ≡ flags (now (s .entry)) (self .at) ⌝ }
+    {
+        match self.fixed(s, 2) {
+            WordStep::Got(_, c1) => match c1.at_most(s, 1) {
+                WordStep::Got(expression, c2) => match c2.at_most(s, 1) {
+                    WordStep::Got(validations, c3) => {
+                        let f = Flags {
+                            function_expression: expression == 1,
+                            validations: validations == 1,
+                        };
+                        FlagsStep::Got(f, c3)
+                    }
+                    WordStep::Refused(k3) => FlagsStep::Refused(k3),
+                },
+                WordStep::Refused(k2) => FlagsStep::Refused(k2),
+            },
+            WordStep::Refused(k1) => FlagsStep::Refused(k1),
+        }
+    }
+
+    // A range and a type.
+    pub fn identifier(self, s: &[u32]) -> IdentifierStep
+        ensures { λ r. ⌜ identifierSays r ≡ identifier (now (s .entry)) (self .at) ⌝ }
+    {
+        match self.at_most(s, 1000000) {
+            WordStep::Got(start, c1) => match c1.at_most(s, 1000000) {
+                WordStep::Got(end, c2) => match c2.at_most(s, 2) {
+                    WordStep::Got(number, c3) => {
+                        let mutable_range = MutableRange {
+                            start: EvaluationOrder(start),
+                            end: EvaluationOrder(end),
+                        };
+                        let kind = type_of(number);
+                        let i = Identifier {
+                            mutable_range,
+                            kind,
+                        };
+                        IdentifierStep::Got(i, c3)
+                    }
+                    WordStep::Refused(k3) => IdentifierStep::Refused(k3),
+                },
+                WordStep::Refused(k2) => IdentifierStep::Refused(k2),
+            },
+            WordStep::Refused(k1) => IdentifierStep::Refused(k1),
+        }
+    }
+}

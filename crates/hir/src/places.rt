@@ -1,0 +1,112 @@
+// A place: an identifier, the traits word split into its parts, a span.
+ghost use mathlib.Core.Path.{_≡_};
+ghost use Rattle.model.specs.Traits.{effectOf, reactiveOf, traitsWord};
+ghost use Rattle.model.specs.Sections.{place, unused};
+ghost use Rattle.hir.specs.Numbers.{effectNumber};
+ghost use Rattle.hir.specs.Says.{placeSays, placeOrUnused};
+use crate::Cursor;
+use crate::Effect;
+use crate::IdentifierId;
+use crate::Place;
+use crate::PlaceStep;
+use crate::WordStep;
+
+// The effects by their numbers.
+const EFFECTS: [Effect; 8] = [
+    Effect::Unknown,
+    Effect::Freeze,
+    Effect::Read,
+    Effect::Capture,
+    Effect::ConditionallyMutateIterator,
+    Effect::ConditionallyMutate,
+    Effect::Mutate,
+    Effect::Store,
+];
+
+// The effect that a traits word names.
+pub fn effect_of(traits: u32) -> Effect
+    ensures { λ r. ⌜ effectNumber r ≡ effectOf traits ⌝ }
+{
+    let k = (traits % 8) as usize;
+    EFFECTS[k]
+}
+
+// Whether a traits word says reactive.
+pub fn reactive_of(traits: u32) -> bool
+    ensures { λ r. ⌜ r ≡ reactiveOf traits ⌝ }
+{
+    8 <= traits
+}
+
+// The traits word of both.
+pub fn traits_word(effect: Effect, reactive: bool) -> u32
+    ensures { λ r. ⌜ r ≡ traitsWord (effectNumber effect) reactive ⌝ }
+{
+    let position = effect.number();
+    if reactive {
+        return position + 8;
+    }
+    position
+}
+
+impl Cursor {
+    // A place of an identifier below `n`.
+    pub fn place(self, s: &[u32], n: u32) -> PlaceStep
+        ensures { λ r. ⌜ placeSays r ≡ place n (now (s .entry)) (self .at) ⌝ }
+    {
+        match self.below(s, n) {
+            WordStep::Got(i, c1) => match c1.at_most(s, 15) {
+                WordStep::Got(traits, c2) => match c2.word(s) {
+                    WordStep::Got(span, c3) => {
+                        let effect = effect_of(traits);
+                        let reactive = reactive_of(traits);
+                        let p = Place {
+                            identifier: IdentifierId(i),
+                            effect,
+                            reactive,
+                            span,
+                        };
+                        PlaceStep::Got(p, c3)
+                    }
+                    WordStep::Refused(k3) => PlaceStep::Refused(k3),
+                },
+                WordStep::Refused(k2) => PlaceStep::Refused(k2),
+            },
+            WordStep::Refused(k1) => PlaceStep::Refused(k1),
+        }
+    }
+
+    // A place that an effect does not use: three words 0.
+    pub fn unused(self, s: &[u32]) -> PlaceStep
+        ensures { λ r. ⌜ placeSays r ≡ unused (now (s .entry)) (self .at) ⌝ }
+    {
+        match self.at_most(s, 0) {
+            WordStep::Got(_, c1) => match c1.at_most(s, 0) {
+                WordStep::Got(_, c2) => match c2.at_most(s, 0) {
+                    WordStep::Got(_, c3) => {
+                        let p = Place {
+                            identifier: IdentifierId(0),
+                            effect: Effect::Unknown,
+                            reactive: false,
+                            span: 0,
+                        };
+                        PlaceStep::Got(p, c3)
+                    }
+                    WordStep::Refused(k3) => PlaceStep::Refused(k3),
+                },
+                WordStep::Refused(k2) => PlaceStep::Refused(k2),
+            },
+            WordStep::Refused(k1) => PlaceStep::Refused(k1),
+        }
+    }
+
+    pub fn place_if(self, s: &[u32], n: u32, used: bool) -> PlaceStep
+        ensures { λ r. ⌜ placeSays r ≡ placeOrUnused used n (now (s .entry)) (self .at) ⌝ }
+    {
+        if used {
+            self.place(s, n)
+        } else {
+            self.unused(s)
+        }
+    }
+}

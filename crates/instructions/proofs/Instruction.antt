@@ -1,0 +1,42 @@
+-- An instruction: its order, then its effects.
+use Prim.Native.Nat.{ℕ}
+use mathlib.Core.Path.{_≡_}
+use mathlib.Core.List.{List}
+use Rattle.model.specs.Limits.{mostOrder, mostCount}
+use Rattle.model.specs.Lists.{each}
+use Rattle.model.specs.Sheet.{EvaluationOrder, EffectList, Instruction}
+use Rattle.model.specs.Reading.{Position, got, refused, count, atMost, times}
+use Rattle.model.specs.Sections.{effect, effects, instruction}
+use Rattle.model.specs.Building.{instruction as instructionStep}
+use Rattle.building.specs.declared.Building.{Building}
+use Rattle.instructions.specs.declared.BuildStep.{BuildStep}
+use Rattle.instructions.specs.Cost.{costs, effectCost, instructionCost}
+use Rattle.instructions.specs.Builds.{effectStep, Ready, Builds}
+use Rattle.instructions.proofs.Gots.{then-is, then-refused, counted-is, counted-refused}
+use Rattle.instructions.proofs.Building.{ready-as, builds-as, last-ready, last-builds}
+
+-- the effects after their count
+pub effects-are : (n m : ℕ) (s : List ℕ) (c : Position) {k : ℕ} {d : Position} → count mostCount s c ≡ got k d → effects n m s c ≡ times k (effect n m) s d
+unfolding effects
+effects-are n m s c q = counted-is mostCount (effect n m) s c q
+
+pub effects-refused : (n m : ℕ) (s : List ℕ) (c : Position) {k : ℕ} → count mostCount s c ≡ refused k → effects n m s c ≡ refused k
+unfolding effects
+effects-refused n m s c q = counted-refused mostCount (effect n m) s c q
+
+-- the instruction after its order
+abbrev withOrder : EvaluationOrder → EffectList → Instruction
+withOrder o l = record { order = o; effects = l }
+
+module _ (n m : ℕ) (s : List ℕ) (c : Position) {o : EvaluationOrder} {d : Position} (q : atMost mostOrder s c ≡ got o d) {ws : List ℕ} {b : Building} where
+  pub instruction-ready : Ready (instruction n m s c) instructionCost ws b → Ready (effects n m s d) (costs effectCost) ws b
+  unfolding instruction instructionCost
+  instruction-ready w = last-ready (effects n m s d) (withOrder o) instructionCost (ready-as (then-is (atMost mostOrder s c) _ q) w)
+
+  pub instruction-builds : {ws′ : List ℕ} {r : BuildStep} → Builds (effects n m s d) (each (effectStep o)) (costs effectCost) ws b ws′ r → Builds (instruction n m s c) instructionStep instructionCost ws b ws′ r
+  unfolding instruction instructionCost instructionStep
+  instruction-builds h = builds-as (then-is (atMost mostOrder s c) _ q) (last-builds (effects n m s d) (withOrder o) instructionCost instructionStep h)
+
+pub instruction-refused : (n m : ℕ) (s : List ℕ) (c : Position) {k : ℕ} → atMost mostOrder s c ≡ refused k → instruction n m s c ≡ refused k
+unfolding instruction
+instruction-refused n m s c q = then-refused (atMost mostOrder s c) _ q

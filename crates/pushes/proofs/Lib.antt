@@ -1,0 +1,4 @@
+pub mod Sizes
+pub mod Pushing
+pub mod Pushes
+pub mod Items

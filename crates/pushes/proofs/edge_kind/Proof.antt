@@ -1,0 +1,18 @@
+use borrow.Author.Needs.{needs}
+use borrow.Author.Tests.{eq-eqb, ne-eqb}
+use Rattle.pushes.specs.Pushes.{edgeLevel}
+use Rattle.pushes.proofs.edge_kind.Statement.{statement}
+use Rattle.pushes.proofs.edge_kind.Tie as tie
+use Rattle.pushes.proofs.edge_kind.Reads as reads
+use Rattle.pushes.proofs.edge_kind.Lts as lts
+
+returns : tie.Need-returns
+unfolding edgeLevel
+returns c = (search needs, simp (eq-eqb _ 2 (c .if1 .taken)))
+
+returns-2 : tie.Need-returns-2
+unfolding edgeLevel
+returns-2 c = (search needs, simp (ne-eqb _ 2 (c .if1 .left)))
+
+pub edge-kind-spec : {M : Type 1} → statement M
+edge-kind-spec = tie.close (tie.spec returns returns-2)

@@ -1,0 +1,46 @@
+use Prim.Native.Nat.{ℕ, _-_}
+use native.Mathlib.Omega.{arith}
+use mathlib.Core.List.{List}
+use mathlib.Core.Path.{subst}
+use Rattle.rows.specs.Rows.{rowsOf}
+use Rattle.pushes.specs.Pushes.{Pushed}
+use Rattle.pushes.proofs.Pushes.{pushed-none, captures-open, captures-shut}
+use borrow.Author.Needs.{needs}
+use Rattle.pushes.proofs.push_captures.Statement.{statement}
+use Rattle.pushes.proofs.push_captures.Tie as tie
+use Rattle.pushes.proofs.push_captures.Reads as reads
+use Rattle.pushes.proofs.push_captures.Lts as lts
+use Rattle.pushes.proofs.push_list.Reads as push-list-reads
+
+mul-push-list : tie.Need-mul-push-list
+mul-push-list c = search needs
+
+add-push-list : tie.Need-add-push-list
+add-push-list c = search needs
+
+push-list-requires : tie.Need-push-list-requires
+push-list-requires c κs =
+    let s = c .before .before .before in
+    (s .pre .0, (omega (arith, s .pre), (s .pre .1 .1 .0, s .pre .1 .1 .1)))
+
+same-length : tie.Need-same-length
+same-length c = search needs
+
+returns : tie.Need-returns
+returns c =
+    let b4 = c .before .before .before .before in
+    let b5 = b4 .before in
+    let s = b5 .before in
+    let a = s .args in subst (λ (vs : List ℕ). Pushed (a .ws .now) (a .top) vs (c .before .before .push-list .last .0) (c .before .before .push-list .result)) (captures-open (rowsOf (a .ws .now)) (a .x) (a .index) (a .transitive) (a .kind) (b4 .if1 .taken)) (c .before .before .push-list .ensures)
+
+returns-2 : tie.Need-returns-2
+returns-2 c =
+    let s = c .before .before in
+    let a = s .args in
+    subst (λ (vs : List ℕ). Pushed (a .ws .now) (a .top) vs (a .ws .now) (a .top))
+    (captures-shut (rowsOf (a .ws .now)) (a .x) (a .index) (a .transitive) (a .kind) (c .if1 .left)) (pushed-none (a .ws .now) (a .top))
+
+pub push-captures-spec : {M : Type 1} → statement M
+push-captures-spec =
+    tie.close
+    (tie.spec mul-push-list add-push-list push-list-requires same-length returns returns-2)

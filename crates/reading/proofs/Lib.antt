@@ -1,0 +1,4 @@
+pub mod SectionLaws
+pub mod WholeLaws
+pub mod TotalsLaws
+pub mod VerdictLaws

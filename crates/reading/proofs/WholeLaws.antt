@@ -1,0 +1,38 @@
+-- The judged sheet is the sheet, told.
+use Prim.Native.Nat.{ℕ}
+use mathlib.Core.Path.{_≡_, _∙_, refl, sym}
+use mathlib.Core.List.{List, []}
+use lib.ListN.{length}
+use Rattle.model.specs.Limits.{mostIdentifiers, mostFunctions, mostParams, mostContext, returnsCount, mostBlocks}
+use Rattle.model.specs.Reading.{Position, Result, got, refused, Read, andThen, _>>=_, pure, count, fixed, numbered, counted}
+use Rattle.model.specs.Sections.{flags, identifier, innerFunction, place, block, sheet}
+use Rattle.blocks.specs.Judging.{mapResult, judge, noTotals, blocksOf}
+use Rattle.reading.specs.Whole.{lengthOf, heading, placeLists, judgedSheet, tellSheet}
+
+-- what was read, or refused
+result-case : {A P : Type 0} (x : Result A) → ((a : A) (d : Position) → x ≡ got a d → P) → ((k : ℕ) → x ≡ refused k → P) → P
+result-case (got a d) f g = f a d refl
+result-case (refused k) f g = g k refl
+
+pub sheet-judged : (ws : List ℕ) (c : Position) → judge sheet tellSheet noTotals ws c ≡ judgedSheet ws c
+unfolding sheet judgedSheet heading placeLists lengthOf judge blocksOf
+sheet-judged ws c =
+    result-case (flags ws c)
+    (λ fs d1 e1. result-case (counted mostIdentifiers identifier ws d1)
+    (λ ids d2 e2. result-case (counted mostFunctions innerFunction ws d2)
+    (λ inner d3 e3. result-case (counted mostParams (place (length ids)) ws d3)
+    (λ ps d4 e4. result-case (counted mostContext (place (length ids)) ws d4)
+    (λ cs d5 e5. result-case (fixed returnsCount ws d5)
+    (λ k d6 e6. result-case (place (length ids) ws d6)
+    (λ r d7 e7. result-case (count mostBlocks ws d7)
+    (λ b d8 e8. result-case (numbered b [] (block (length ids) (length inner)) ws d8)
+    (λ bs d9 e9. rw (e1, e2, e3, e4, e5, e6, e7, e8, e9))
+    (λ n e9. rw (e1, e2, e3, e4, e5, e6, e7, e8, e9)))
+    (λ n e8. rw (e1, e2, e3, e4, e5, e6, e7, e8)))
+    (λ n e7. rw (e1, e2, e3, e4, e5, e6, e7)))
+    (λ n e6. rw (e1, e2, e3, e4, e5, e6)))
+    (λ n e5. rw (e1, e2, e3, e4, e5)))
+    (λ n e4. rw (e1, e2, e3, e4)))
+    (λ n e3. rw (e1, e2, e3)))
+    (λ n e2. rw (e1, e2)))
+    (λ n e1. rw e1)

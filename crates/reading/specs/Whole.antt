@@ -1,0 +1,62 @@
+-- A whole sheet judged: the heading, the lists of places, the blocks; and the verdict.
+use Prim.Native.Nat.{ℕ}
+use mathlib.Core.List.{List}
+use lib.ListN.{length}
+use Rattle.model.specs.Limits.{mostIdentifiers, mostFunctions, mostParams, mostContext, returnsCount}
+use Rattle.model.specs.Lists.{each}
+use Rattle.model.specs.Sheet.{Place, Sheet}
+use Rattle.model.specs.Reading.{Position, Result, got, refused, Read, andThen, _>>=_, pure, fixed, counted}
+use Rattle.model.specs.Sections.{flags, identifier, innerFunction, place}
+use Rattle.model.specs.Totals.{Totals, totals}
+use Rattle.blocks.specs.Judging.{mapResult, judge, tellBlock, noTotals, blocksOf}
+
+module _ {A : Type 0} where
+  -- a list of which only the length goes on
+  unfoldable pub lengthOf : Read (List A) → Read ℕ
+  lengthOf f ws c = mapResult length (f ws c)
+
+  -- a part of which nothing goes on
+  abbrev pub skip : A → Unit {0} → Unit {0}
+  skip a u = u
+
+-- how many identifiers and inner functions there are
+pub record Heading : Type 0 where
+  pub identifiers : ℕ
+  pub functions : ℕ
+
+-- "Flags", "Identifiers", "Inner functions"
+unfoldable pub heading : Read Heading
+heading = do
+  fs ← flags
+  n ← lengthOf (counted mostIdentifiers identifier)
+  m ← lengthOf (counted mostFunctions innerFunction)
+  pure (record { identifiers = n; functions = m })
+
+-- "Parameters, then context", "Returns, count 1: a place"
+unfoldable pub placeLists : ℕ → Read Place
+placeLists n = do
+  ps ← lengthOf (counted mostParams (place n))
+  cs ← lengthOf (counted mostContext (place n))
+  k ← fixed returnsCount
+  place n
+
+-- the sections in their order, with what refusal 8 counts
+unfoldable pub judgedSheet : Read Totals
+judgedSheet = do
+  h ← heading
+  r ← placeLists (h .identifiers)
+  judge (blocksOf (h .identifiers) (h .functions)) (each tellBlock) noTotals
+
+-- a sheet: its blocks
+abbrev pub tellSheet : Sheet → Totals → Totals
+tellSheet s t = each tellBlock (s .blocks) t
+
+-- what is said of a sheet: a refusal's number, or the totals
+pub data Judgement : Type 0 where
+  refusal : ℕ → Judgement
+  acceptance : Totals → Judgement
+
+-- what document 01 says of a sheet that was read, or was not
+abbrev pub judgementOf : Result Sheet → Judgement
+judgementOf (got s c) = acceptance (totals s)
+judgementOf (refused k) = refusal k

@@ -1,0 +1,5 @@
+pub mod Origins
+pub mod Marks
+pub mod Cases
+pub mod Steps
+pub mod Walks

@@ -1,0 +1,9 @@
+pub mod Parts
+pub mod Clearing
+pub mod Counting
+pub mod Placing
+pub mod Sorting
+pub mod Tables
+pub mod Rows
+pub mod Graph
+pub mod Pending

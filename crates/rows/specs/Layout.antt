@@ -1,0 +1,102 @@
+-- The lent workspace: where each part of it begins. The parts stand in the order in which they are named here.
+use Prim.Native.Nat.{ℕ}
+
+-- the words that a workspace has at least
+abbrev pub LEAST : ℕ
+LEAST = 16384
+
+-- the fields of the nodes, 512 words each: the local record's kind (0 none, 1 Conditional, 2 Definite)
+abbrev pub LKIND : ℕ
+LKIND = 0
+
+-- the local record's span
+abbrev pub LSPAN : ℕ
+LSPAN = 512
+
+-- the transitive record's kind
+abbrev pub TKIND : ℕ
+TKIND = 1024
+
+-- the transitive record's span
+abbrev pub TSPAN : ℕ
+TSPAN = 1536
+
+-- the largest index of a mutation
+abbrev pub LAST : ℕ
+LAST = 2048
+
+-- the first reason
+abbrev pub REASON : ℕ
+REASON = 2560
+
+-- the end of the range
+abbrev pub END : ℕ
+END = 3072
+
+-- what the walk under way has taken, 512 words; while building, the numbers of the blocks that have come
+abbrev pub SEEN : ℕ
+SEEN = 3584
+
+-- the rows of the graph, from here up to QUEUE: the values, 512 words (0 no node, 1 object, 2 phi, 3 + k function k)
+abbrev pub VALUE : ℕ
+VALUE = 4096
+
+-- the bounds of each node's forward edges, 513 words
+abbrev pub FBOUND : ℕ
+FBOUND = 4608
+
+-- the forward edges, 1,024 words
+abbrev pub FEDGE : ℕ
+FEDGE = 5121
+
+-- the bounds of each node's four lists of entries, 2,049 words
+abbrev pub BBOUND : ℕ
+BBOUND = 6145
+
+-- the entries, 1,024 words
+abbrev pub BENTRY : ℕ
+BENTRY = 8194
+
+-- the queue of a walk, 4,097 words
+abbrev pub QUEUE : ℕ
+QUEUE = 9218
+
+-- while building, in the queue's words: the log of forward edges, 1,024 words
+abbrev pub EDGES : ℕ
+EDGES = 9218
+
+-- the log of entries, 1,024 words
+abbrev pub ENTRIES : ℕ
+ENTRIES = 10242
+
+-- the predecessors that phi operands wait for, 1,024 words
+abbrev pub PREDS : ℕ
+PREDS = 11266
+
+-- the relations of those operands, 1,024 words
+abbrev pub RELATIONS : ℕ
+RELATIONS = 12290
+
+-- the functions whose diagnostics are handed over, 512 words
+abbrev pub HANDED : ℕ
+HANDED = 13315
+
+-- the mutations, three words each, up to 512
+abbrev pub MUTATIONS : ℕ
+MUTATIONS = 13827
+
+-- the renders, up to 256
+abbrev pub RENDERS : ℕ
+RENDERS = 15363
+
+-- the inner functions' places, 64 words
+abbrev pub FUNCTIONS : ℕ
+FUNCTIONS = 15619
+
+-- the simulated mutations, 129 words
+abbrev pub SIMULATED : ℕ
+SIMULATED = 15683
+
+-- behind the last part
+abbrev pub AFTER : ℕ
+AFTER = 15812

@@ -1,0 +1,5 @@
+pub mod Layout
+pub mod Rows
+pub mod Sort
+pub mod Graph
+pub mod Pending

@@ -1,0 +1,8 @@
+pub mod Words
+pub mod Held
+pub mod Places
+pub mod Marking
+pub mod Collecting
+pub mod Flowing
+pub mod Counts
+pub mod Starts

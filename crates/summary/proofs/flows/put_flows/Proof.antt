@@ -1,0 +1,74 @@
+use Rattle.summary.proofs.Places.{is-below}
+use Rattle.summary.proofs.Flowing.{Flowing, flowing-start, flowing-turn, flowing-end, flow-most}
+use Rattle.hir.specs.Says.{placeIs}
+use lib.ListN.{length}
+use native.Mathlib.Omega.{arith}
+use mathlib.Core.Path.{_≡_, refl, _∙_}
+use Prim.Native.Nat.{_+_, _*_, _-_, _≤_}
+use Rattle.summary.proofs.flows.put_flows.Statement.{statement}
+use Rattle.summary.proofs.flows.put_flows.Tie as tie
+use Rattle.summary.proofs.flows.put_flows.Reads as reads
+use Rattle.summary.proofs.flows.put_flows.Lts as lts
+use Rattle.summary.proofs.flows.put_flow.Reads as put-flow-reads
+use Rattle.summary.proofs.tracked.tracked.Reads as tracked-reads
+
+abbrev Inv-loop : tie.InvT-loop
+Inv-loop ws count into index returns answer₀ at to₀ i₀ answer to i = Flowing ws count (placeIs into) index (returns .0) answer₀ at i answer to × (to + 8 * (count - i) ≤ at + 8 * count) × (length answer ≡ length answer₀)
+
+abbrev μ-loop : tie.MeasureT-loop
+μ-loop ws count into index returns answer₀ at to₀ i₀ answer to i = count - i
+
+-- src/flows.rt:82:5
+loop-holds : tie.Need-loop-holds Inv-loop μ-loop
+loop-holds c = (flowing-start _ _ _ _ _ _ _, omega arith, refl)
+
+-- src/flows.rt:83:13
+tracked-requires : tie.Need-tracked-requires Inv-loop μ-loop
+tracked-requires c κs = omega arith
+
+-- src/flows.rt:84:9
+put-flow-requires : tie.Need-put-flow-requires Inv-loop μ-loop
+put-flow-requires c κs = ((is-below _ _ (c .before .tracked .ensures), omega arith), omega arith)
+
+-- src/flows.rt:85:9
+add-i : tie.Need-add-i Inv-loop μ-loop
+add-i c = omega arith
+
+-- src/flows.rt:82:5
+loop-less : tie.Need-loop-less Inv-loop μ-loop
+loop-less c = omega arith
+
+-- src/flows.rt:82:5
+loop-again : tie.Need-loop-again Inv-loop μ-loop
+loop-again c =
+    let b4 = c .before .before .before .before in
+    let b5 = b4 .before in
+    let b6 = b5 .before in (
+      flowing-turn _ _ _ _ _ _ (b6 .loop .inv .0) (b5 .loop-test .taken) (b4 .tracked .ensures) (c .before .before .put-flow .ensures),
+      omega (arith, flow-most _ _ _ _ _ (is-below _ _ (b4 .tracked .ensures)) (c .before .before .put-flow .ensures)),
+      c .before .before .put-flow .kept .1 .1 .1 .1 .1 .0
+          ∙ b6 .loop .inv .2,
+    )
+
+-- src/flows.rt:67:1
+same-length : tie.Need-same-length Inv-loop μ-loop
+same-length c = c .before .loop .inv .2
+
+-- src/flows.rt:67:1
+returns : tie.Need-returns Inv-loop μ-loop
+returns c = flowing-end _ _ _ _ _ _ (c .before .loop .inv .0) (c .loop-test .left)
+
+pub put-flows-spec : {M : Type 1} → statement M
+put-flows-spec =
+    tie.close
+    (tie.spec
+    Inv-loop
+    μ-loop
+    loop-holds
+    tracked-requires
+    put-flow-requires
+    add-i
+    loop-less
+    loop-again
+    same-length
+    returns)

@@ -1,0 +1,19 @@
+use Rattle.summary.proofs.Collecting.{reason-none, reason-some}
+use Prim.Native.Nat.{ℕ}
+use mathlib.Core.Path.{ap, sym}
+use borrow.Author.Needs.{needs}
+use Rattle.summary.proofs.records.reason_word.Statement.{statement}
+use Rattle.summary.proofs.records.reason_word.Tie as tie
+use Rattle.summary.proofs.records.reason_word.Reads as reads
+use Rattle.summary.proofs.records.reason_word.Lts as lts
+
+-- src/records.rt:29:1
+returns : tie.Need-returns
+returns c = reason-none _ (c .if1 .taken)
+
+-- src/records.rt:29:1
+returns-2 : tie.Need-returns-2
+returns-2 c = reason-some _ (c .if1 .left)
+
+pub reason-word-spec : {M : Type 1} → statement M
+reason-word-spec = tie.close (tie.spec returns returns-2)

@@ -1,0 +1,136 @@
+// The records of places as effects (the original's `collect_param_effects`).
+ghost use mathlib.Core.Path.{_≡_};
+ghost use mathlib.Core.List.{List, [], _∷_};
+ghost use Prim.Native.Nat.{ℕ, _+_, _*_, _≤_, _<_};
+ghost use lib.ListN.{length};
+ghost use Rattle.model.specs.Lists.{gather};
+ghost use Rattle.model.specs.Mutation.{reasonOf};
+ghost use Rattle.model.specs.Summary.{reasonWord};
+ghost use Rattle.model.specs.Answer.{effectWords};
+ghost use Rattle.hir.specs.Numbers.{kindSays};
+ghost use Rattle.hir.specs.Says.{placeIs};
+ghost use Rattle.writing.specs.Wrote.{Wrote, farthest};
+ghost use Rattle.summary.specs.Records.{levelEffects, Collected};
+ghost use Rattle.summary.specs.Tracked.{trackedFrom};
+use crate::tracked::tracked;
+use copies::put_effect;
+use hir::AliasingEffect;
+use hir::Effect;
+use hir::EffectKind;
+use hir::IdentifierId;
+use hir::Place;
+use rows::LKIND;
+use rows::LSPAN;
+use rows::REASON;
+use rows::TKIND;
+use rows::TSPAN;
+
+// A reason as an extra word.
+fn reason_word(reason: u32) -> u32
+    ensures { λ r. ⌜ r ≡ reasonWord (reasonOf reason) ⌝ }
+{
+    if reason == 0 { 0 } else { 1 }
+}
+
+// The effect of a record, by the word of its kind, on a place with the record's span.
+fn put_record(
+    answer: &mut [u32],
+    at: usize,
+    level: u32,
+    conditional: EffectKind,
+    definite: EffectKind,
+    reason: u32,
+    p: Place,
+) -> usize
+    requires { ⌜ at + 8 ≤ farthest ⌝ }
+    ensures { λ r. ⌜ Wrote (gather effectWords (levelEffects level (kindSays conditional) (kindSays definite) reason (placeIs p))) (now (answer .entry)) at (now (answer .exit)) r ⌝ }
+{
+    if level == 0 {
+        return at;
+    }
+    let none = Place {
+        identifier: IdentifierId(0),
+        effect: Effect::Unknown,
+        reactive: false,
+        span: 0,
+    };
+    if level == 1 {
+        let e = AliasingEffect {
+            kind: conditional,
+            first: p,
+            second: none,
+            extra: 0,
+        };
+        return put_effect(answer, at, e);
+    }
+    let e = AliasingEffect {
+        kind: definite,
+        first: p,
+        second: none,
+        extra: reason,
+    };
+    put_effect(answer, at, e)
+}
+
+// The records of a place's identifier as effects: the local one first.
+pub fn collect_param_effects(ws: &[u32], p: Place, answer: &mut [u32], at: usize) -> usize
+    requires { ⌜ (p .identifier .0 < 512) × (16384 ≤ length (now ws)) ⌝ }
+    requires { ⌜ at + 16 ≤ farthest ⌝ }
+    ensures { λ r. ⌜ Collected (now (ws .entry)) (placeIs p ∷ []) (now (answer .entry)) at (now (answer .exit)) r ⌝ }
+{
+    let identifier = p.identifier;
+    let effect = p.effect;
+    let x = identifier.0 as usize;
+    let local = Place {
+        identifier,
+        effect,
+        reactive: p.reactive,
+        span: ws[LSPAN + x],
+    };
+    let transitive = Place {
+        identifier,
+        effect,
+        reactive: p.reactive,
+        span: ws[TSPAN + x],
+    };
+    let to = put_record(
+        answer,
+        at,
+        ws[LKIND + x],
+        EffectKind::MutateConditionally,
+        EffectKind::Mutate,
+        reason_word(ws[REASON + x]),
+        local,
+    );
+    put_record(
+        answer,
+        to,
+        ws[TKIND + x],
+        EffectKind::MutateTransitiveConditionally,
+        EffectKind::MutateTransitive,
+        0,
+        transitive,
+    )
+}
+
+// The same for `count` tracked places from `first` on.
+pub fn collect_effects(
+    ws: &[u32],
+    first: usize,
+    count: usize,
+    answer: &mut [u32],
+    at: usize,
+) -> usize
+    requires { ⌜ (first + count ≤ 129) × (16384 ≤ length (now ws)) ⌝ }
+    requires { ⌜ at + 16 * count ≤ farthest ⌝ }
+    ensures { λ r. ⌜ Collected (now (ws .entry)) (trackedFrom (now (ws .entry)) first count) (now (answer .entry)) at (now (answer .exit)) r ⌝ }
+{
+    let mut to = at;
+    let mut i = 0;
+    while i < count {
+        let p = tracked(ws, first + i);
+        to = collect_param_effects(ws, p, answer, to);
+        i += 1;
+    }
+    to
+}

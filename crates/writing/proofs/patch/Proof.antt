@@ -1,0 +1,30 @@
+use mathlib.Core.Path.{sym}
+use lib.Seq.{set-out}
+use borrow.Author.Needs.{needs}
+use Rattle.writing.proofs.patch.Statement.{statement}
+use Rattle.writing.proofs.patch.Tie as tie
+use Rattle.writing.proofs.patch.Reads as reads
+use Rattle.writing.proofs.patch.Lts as lts
+
+-- src/lib.rt:24:9
+mul-answer : tie.Need-mul-answer
+mul-answer c = search needs
+
+-- src/lib.rt:24:9
+slice-write-answer : tie.Need-slice-write-answer
+slice-write-answer c = search needs
+
+-- src/lib.rt:20:1
+same-length : tie.Need-same-length
+same-length c = search needs
+
+-- src/lib.rt:20:1
+returns : tie.Need-returns
+returns c = search needs
+
+-- src/lib.rt:20:1
+returns-2 : tie.Need-returns-2
+returns-2 c = sym (set-out _ _ _ (c .if1 .left))
+
+pub patch-spec : {M : Type 1} → statement M
+patch-spec = tie.close (tie.spec mul-answer slice-write-answer same-length returns returns-2)
