@@ -2,14 +2,13 @@
 use Prim.Native.Nat.{ℕ, zero, suc, _+_, _*_, _≤_}
 use native.Mathlib.Omega.{arith}
 use mathlib.Core.Path.{_≡_, refl, ap, _∙_}
-use mathlib.Core.Bool.{Bool, true, false, _||_}
+use mathlib.Core.Bool.{Bool, true, false}
 use mathlib.Core.List.{List, [], _∷_, _++_}
 use lib.ListN.{length, length-append}
 use Rattle.model.specs.Lists.{gather, listIf}
-use Rattle.model.specs.Sheet.{Effect, Diagnostic}
-use Rattle.model.specs.Effects.{Row, rowOf, isRender, isDiagnosis, diagnosticOf}
-use Rattle.model.specs.Answer.{diagnosticWords, effectWords}
-use Rattle.copies.specs.Words.{copyWords}
+use Rattle.model.specs.Sheet.{Effect}
+use Rattle.model.specs.Effects.{Row, rowOf}
+use Rattle.copies.specs.Words.{takes, takenWords, copyWords}
 use Rattle.copies.specs.declared.instructions.Section.{Section}
 use Rattle.copies.specs.declared.instructions.Section.the-variants.{Diagnostics, Effects}
 
@@ -22,7 +21,10 @@ if-most : (b : Bool) (l : List ℕ) (k : ℕ) → length l ≤ k → length (lis
 if-most true l k h = h
 if-most false l k h = omega arith
 
+taken-most : (s : Section) (e : Effect) → length (takenWords s e) ≤ 8
+taken-most Diagnostics e = omega arith
+taken-most Effects e = omega arith
+
 pub copy-length : (s : Section) (e : Effect) → length (copyWords s e) ≤ 8
 unfolding copyWords
-copy-length Diagnostics e = if-most (isDiagnosis (rowOf (e .kind) .role)) (diagnosticWords (diagnosticOf e)) 8 (omega arith)
-copy-length Effects e = if-most (isDiagnosis (rowOf (e .kind) .role) || isRender (rowOf (e .kind) .role)) (effectWords e) 8 (omega arith)
+copy-length s e = if-most (takes s (rowOf (e .kind) .role)) (takenWords s e) 8 (taken-most s e)

@@ -19,7 +19,7 @@ use Rattle.model.proofs.ReadLaws.{Reads, pure-reads, refuse-reads, pick
 then-reads : {A B : Type 0} (m : Read A) (f : A → Read B) (Q : B → Type 0) → ((a : A) → Reads (f a) Q) → Reads (m >>= f) Q
 then-reads {A} m f Q k = bind-reads m f (λ (a : A). Unit {0}) Q (any-reads m) (λ a u. k a)
 
-place-reads : (n : ℕ) → Reads (place n) (PlaceBelow n)
+pub place-reads : (n : ℕ) → Reads (place n) (PlaceBelow n)
 unfolding place
 place-reads n =
     bind-reads (below n) _ (λ (i : ℕ). i < n) (PlaceBelow n) (below-reads n)
@@ -39,7 +39,7 @@ extra-reads m k =
 usedOr-reads : (n : ℕ) → 0 < n → (b : Bool) → Reads (pick b (place n) unused) (PlaceBelow n)
 usedOr-reads n h b = pick-reads b (place n) unused (PlaceBelow n) (λ e. place-reads n) (λ e. unused-reads n h)
 
-effect-reads : (n m : ℕ) → 0 < n → Reads (effect n m) (EffectBelow n m)
+pub effect-reads : (n m : ℕ) → 0 < n → Reads (effect n m) (EffectBelow n m)
 unfolding effect
 effect-reads n m h =
     then-reads (atMost mostKind) _ (EffectBelow n m)
