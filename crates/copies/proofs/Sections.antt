@@ -1,15 +1,18 @@
 -- What the two sections take of the effects of instructions is what document 01 says.
-use Prim.Native.Nat.{ℕ, _+_, _*_}
+use Prim.Native.Nat.{ℕ, _+_, _-_, _*_, _/_}
+use native.Mathlib.Omega.{arith}
 use mathlib.Core.Path.{_≡_, refl, sym, ap, _∙_}
 use mathlib.Core.Bool.{Bool, true, false, _||_}
 use mathlib.Core.List.{List, [], _∷_, _++_, map}
-use lib.ListN.{length}
+use lib.ListN.{length, set}
 use Rattle.model.specs.Lists.{gather, keep, listIf}
 use Rattle.model.specs.Sheet.{Effect, Diagnostic, Instruction, Block, Sheet}
 use Rattle.model.specs.Effects.{Role, Row, rowOf, isRender, isDiagnosis, diagnosticOf}
 use Rattle.model.specs.Totals.{instructionEffects}
 use Rattle.model.specs.Summary.{errors, copied, recorded}
-use Rattle.model.specs.Answer.{diagnosticWords, effectWords}
+use Rattle.model.specs.Answer.{diagnosticWords, effectWords, section}
+use Rattle.writing.specs.Wrote.{Wrote}
+use Rattle.writing.proofs.Writing.{patched}
 use Rattle.copies.specs.Words.{copyWords, instructionWords, blockWords}
 use Rattle.copies.specs.declared.instructions.Section.{Section}
 use Rattle.copies.specs.declared.instructions.Section.the-variants.{Diagnostics, Effects}
@@ -61,3 +64,18 @@ effects-length l = gather-length effectWords 8 (λ e. refl) l
 pub diagnostics-same : (l : List Diagnostic) → gather diagnosticWords l ≡ l
 diagnostics-same [] = refl
 diagnostics-same (d ∷ l) = ap (λ (r : List Diagnostic). d ∷ r) (diagnostics-same l)
+
+-- ---- a section whose count is known only at its end
+pub section-patched : {A : Type 0} (w : A → List ℕ) (l : List A) {x : ℕ} {a b : List ℕ} {at r : ℕ} → Wrote (x ∷ gather w l) a at b r → Wrote (section w l) a at (set b at (length l)) r
+section-patched w l {x} {a} {b} {at} {r} h = record {
+  words = ap (λ (z : List ℕ). set z at (length l)) (h .words) ∙ patched a at x (length l) (gather w l);
+  next = h .next;
+}
+
+-- the count by the positions: of effects
+pub effects-count : (l : List Effect) {x : ℕ} {a b : List ℕ} {at r : ℕ} → Wrote (x ∷ gather effectWords l) a at b r → (r - (at + 1)) / 8 ≡ length l
+effects-count l h = omega (arith, h .next, effects-length l)
+
+-- of diagnostics
+pub diagnostics-count : (l : List Diagnostic) {x : ℕ} {a b : List ℕ} {at r : ℕ} → Wrote (x ∷ gather diagnosticWords l) a at b r → r - (at + 1) ≡ length l
+diagnostics-count l h = let e : length (gather diagnosticWords l) ≡ 1 * length l = gather-length diagnosticWords 1 (λ d. refl) l in omega (arith, h .next, e)

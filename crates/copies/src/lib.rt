@@ -6,6 +6,8 @@ ghost use Rattle.hir.specs.Says.{placeIs, effectIs};
 ghost use Rattle.writing.specs.Wrote.{Wrote, farthest};
 use hir::AliasingEffect;
 use hir::Cursor;
+use hir::Effect;
+use hir::IdentifierId;
 use hir::Place;
 use hir::places::traits_word;
 use writing::put;
@@ -14,6 +16,14 @@ pub mod functions;
 pub mod instructions;
 pub mod past;
 pub mod returns;
+
+// The place that an effect does not use.
+pub const NO_PLACE: Place = Place {
+    identifier: IdentifierId(0),
+    effect: Effect::Unknown,
+    reactive: false,
+    span: 0,
+};
 
 // Where the answer and the reading stand after a part of the sheet was copied.
 pub struct Copied {

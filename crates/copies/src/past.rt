@@ -8,7 +8,7 @@ ghost use Rattle.model.specs.Sections.{effects, phi, terminal};
 ghost use Rattle.copies.specs.Copies.{Past};
 use hir::Cursor;
 use hir::TerminalKind;
-use hir::TerminalStep;
+use hir::KindStep;
 use hir::WordStep;
 
 // k words further, where the sheet has them.
@@ -72,7 +72,7 @@ pub fn past_terminal(sheet: &[u32], c: Cursor) -> Cursor
     ensures { λ r. ⌜ ((n m : ℕ) → Past (terminal n m (now (sheet .entry)) (c .at)) (r .at)) ⌝ }
 {
     match c.terminal_kind(sheet) {
-        TerminalStep::Got(kind, d) => {
+        KindStep::Got(kind, d) => {
             let inside = past(sheet, d, 1);
             match kind {
                 TerminalKind::Other => inside,
@@ -80,6 +80,6 @@ pub fn past_terminal(sheet: &[u32], c: Cursor) -> Cursor
                 TerminalKind::MaybeThrow => past_effects(sheet, inside),
             }
         }
-        TerminalStep::Refused(_) => c,
+        KindStep::Refused(_) => c,
     }
 }

@@ -6,10 +6,10 @@ ghost use Rattle.model.specs.Summary.{valueKind};
 ghost use Rattle.hir.specs.Says.{placeIs};
 ghost use Rattle.writing.specs.Wrote.{farthest};
 ghost use Rattle.copies.specs.Returns.{TypeAt, Created};
+use crate::NO_PLACE;
 use crate::put_effect;
 use hir::AliasingEffect;
 use hir::Cursor;
-use hir::Effect;
 use hir::EffectKind;
 use hir::IdentifierId;
 use hir::IdentifierStep;
@@ -17,7 +17,6 @@ use hir::IdentifierType;
 use hir::Place;
 use hir::ValueKind;
 use hir::ValueReason;
-use writing::put;
 
 // The type of an identifier, `c` being where the first one stands.
 pub fn type_at(sheet: &[u32], c: Cursor, identifier: IdentifierId) -> IdentifierType
@@ -69,12 +68,7 @@ pub fn put_create_returns(
     let e = AliasingEffect {
         kind: EffectKind::Create,
         first: returns,
-        second: Place {
-            identifier: IdentifierId(0),
-            effect: Effect::Unknown,
-            reactive: false,
-            span: 0,
-        },
+        second: NO_PLACE,
         extra: 6 * reason.number() + value.number(),
     };
     put_effect(answer, at, e)

@@ -12,13 +12,14 @@ use Rattle.model.specs.Sections.{phi, instruction, terminal, block}
 use Rattle.model.specs.Built.{Built, comes}
 use Rattle.model.specs.Building.{phiNode, wake}
 use Rattle.model.specs.Building.{instruction as instructionStep, terminal as terminalStep, block as blockStep}
+use Rattle.model.proofs.Got.{got-value, got-next}
 use Rattle.hir.specs.declared.Cursor.{Cursor}
 use Rattle.building.specs.declared.Building.{Building}
 use Rattle.instructions.specs.declared.BuildStep.{BuildStep}
 use Rattle.instructions.specs.declared.BuildStep.the-variants.{Got, Refused}
 use Rattle.instructions.specs.Cost.{Cost, relationsOnly, sum, costs, kindCost, instructionCost, terminalCost, Fits}
 use Rattle.instructions.specs.Builds.{Spends, Reaches, Ready, Builds}
-use Rattle.instructions.proofs.Gots.{got-what, got-next, both-got}
+use Rattle.instructions.proofs.Gots.{both-got}
 use Rattle.instructions.proofs.Spending.{spends-then, fits-first, fits-second, cost-eq, tally-none}
 use Rattle.dataflow.specs.Cost.{phiCost, blockCost}
 
@@ -62,7 +63,7 @@ block-parts n m number s c {d = d} e =
     let p = both-got (counted mostCount (phi n) s c) _ e in
     let q = both-got (counted mostCount (instruction n m) s (p .next)) _ (p .second) in
     let r = both-got (terminal n m s (q .next)) _ (q .second) in
-    let g = got-what (r .second) in
+    let g = got-value (r .second) in
     record {
       afterPhi = p .next;
       afterLast = q .next;

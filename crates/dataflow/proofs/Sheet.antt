@@ -15,6 +15,7 @@ use Rattle.model.specs.Graph.{object, create}
 use Rattle.model.specs.Built.{Built, changed}
 use Rattle.model.specs.Building.{firstPlaces, firstNodes, build}
 use Rattle.model.specs.Building.{block as blockStep}
+use Rattle.model.proofs.Got.{got-value, got-next}
 use Rattle.model.proofs.ReadLaws.{Reads, pure-reads, any-reads, bind-reads, count-reads}
 use Rattle.model.proofs.WhenRead.{not-over}
 use Rattle.model.proofs.Counted.{tally-one}
@@ -24,7 +25,7 @@ use Rattle.instructions.specs.declared.BuildStep.{BuildStep}
 use Rattle.instructions.specs.declared.BuildStep.the-variants.{Got, Refused}
 use Rattle.instructions.specs.Cost.{costs}
 use Rattle.instructions.specs.Builds.{Ready, Builds}
-use Rattle.instructions.proofs.Gots.{got-what, got-next, both-got}
+use Rattle.instructions.proofs.Gots.{both-got}
 use Rattle.dataflow.specs.Cost.{blockCost}
 use Rattle.dataflow.specs.Whole.{firstBuilt, First, WholeAt}
 
@@ -131,7 +132,7 @@ sheet-sections s t d e =
     let p₈ = both-got (count mostBlocks s (p₇ .next)) _ (p₇ .second) in
     let p₉ = both-got (numbered (p₈ .what) [] (block n (length (p₃ .what))) s (p₈ .next)) _ (p₈ .second) in
     subst (λ (j : Position). Sections s t j) (got-next (p₉ .second))
-    (subst (λ (z : Sheet). Sections s z (p₉ .next)) (got-what (p₉ .second)) (record {
+    (subst (λ (z : Sheet). Sections s z (p₉ .next)) (got-value (p₉ .second)) (record {
       afterFlags = p₁ .next;
       afterIdentifiers = p₂ .next;
       afterFunctions = p₃ .next;
@@ -153,6 +154,11 @@ sheet-sections s t d e =
       blocks = p₉ .first;
       few = count-reads mostBlocks s (p₇ .next) (p₈ .what) (p₈ .next) (p₈ .first);
     }))
+
+-- so a sheet that was accepted has room for its blocks
+pub sheet-ready : (s : List ℕ) (t : Sheet) (d : Position) (p : Sections s t d) {ws : List ℕ} {b : Building} → First t ws b → over (totals t) ≡ false
+    → Ready (numbered (p .blockCount) [] (block (length (t .identifiers)) (length (t .functions))) s (p .afterCount)) (costs blockCost) ws b
+sheet-ready s t d p first h = blocks-ready t s (length (t .identifiers)) (length (t .functions)) (p .blockCount) (p .afterCount) d (p .blocks) first (p .few) h
 
 -- the first nodes, created one after another, are the building before the first block
 abbrev pub createdFor : Place → Built → Built

@@ -88,6 +88,6 @@ identifierSays (NoIdentifier k) = refused k
 abbrev pub placeOrUnused : Bool → ℕ → Read ModelPlace
 placeOrUnused used n = pick used (place n) unused
 
--- some words further on; a position above 4,294,967,295, which no sheet has, stays
+-- some words further on; a position that no slice has stays
 unfoldable pub skipped : ℕ → ℕ → ℕ
-skipped at words = pick (leb at 4294967295) (at + words) at
+skipped at words = pick (leb at 9223372036854775807) (at + words) at

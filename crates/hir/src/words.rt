@@ -91,7 +91,7 @@ impl Cursor {
         ensures { λ r. ⌜ r .at ≡ skipped (self .at) words ⌝ }
     {
         let at = self.at;
-        if at <= 4294967295 {
+        if at <= 9223372036854775807 {
             let further = words as usize;
             return Cursor { at: at + further };
         }

@@ -4,6 +4,7 @@ use mathlib.Core.Path.{_≡_, sym, subst, _∙_}
 use mathlib.Core.List.{List}
 use Rattle.model.specs.Reading.{Position, Result, got, refused, andThen}
 use Rattle.model.specs.Built.{Built}
+use Rattle.model.proofs.Got.{got-value, got-next, not-both}
 use Rattle.hir.specs.declared.Cursor.{Cursor}
 use Rattle.building.specs.declared.Building.{Building}
 use Rattle.building.specs.Built.{Sound}
@@ -11,19 +12,19 @@ use Rattle.instructions.specs.declared.BuildStep.{BuildStep}
 use Rattle.instructions.specs.declared.BuildStep.the-variants.{Got, Refused}
 use Rattle.instructions.specs.Cost.{Cost, sum, Fits}
 use Rattle.instructions.specs.Builds.{Spends, Reaches, Ready, Builds}
-use Rattle.instructions.proofs.Gots.{got-what, got-next, not-refused, both-got}
+use Rattle.instructions.proofs.Gots.{both-got}
 use Rattle.instructions.proofs.Spending.{spends-then, fits-second}
 
 module _ {A : Type 0} {read : Result A} {step : A → Built → Built} {cost : A → Cost} {ws : List ℕ} {b : Building} where
   -- a refusal is not what is read
   pub refused-builds : {k : ℕ} {ws′ : List ℕ} {r : BuildStep} → read ≡ refused k → Builds read step cost ws b ws′ r
-  refused-builds q = record { reaches = λ x d e. absurd (not-refused (sym q ∙ e)) }
+  refused-builds q = record { reaches = λ x d e. absurd (not-both e q) }
 
   -- what was read, built
   pub step-builds : (a : A) (c : Cursor) {ws′ : List ℕ} {r : Building} → read ≡ got a (c .at) → Spends (step a) (cost a) ws b ws′ r → Builds read step cost ws b ws′ (Got r c)
   step-builds a c {ws′} {r} q h = record {
     reaches = λ x d e.
-        (subst (λ (z : A). Spends (step z) (cost z) ws b ws′ r) (got-what (sym q ∙ e)) h, got-next (sym q ∙ e));
+        (subst (λ (z : A). Spends (step z) (cost z) ws b ws′ r) (got-value (sym q ∙ e)) h, got-next (sym q ∙ e));
   }
 
   -- the answer is no refusal where something can be read
@@ -37,10 +38,10 @@ module _ {A : Type 0} {read : Result A} {step : A → Built → Built} {cost : A
 -- what can be built is what is read
 module _ {A : Type 0} {read : Result A} {cost : A → Cost} {ws : List ℕ} {b : Building} (w : Ready read cost ws b) where
   pub ready-fits : {a : A} {d : Position} → read ≡ got a d → Fits (cost a) b
-  ready-fits q = subst (λ (z : A). Fits (cost z) b) (got-what (sym (w .reads) ∙ q)) (w .fits)
+  ready-fits q = subst (λ (z : A). Fits (cost z) b) (got-value (sym (w .reads) ∙ q)) (w .fits)
 
   pub ready-refused : {k : ℕ} → read ≡ refused k → ⊥
-  ready-refused q = not-refused (sym q ∙ w .reads)
+  ready-refused q = not-both (w .reads) q
 
 -- the same answer of the reading
 pub ready-as : {A : Type 0} {read read′ : Result A} {cost : A → Cost} {ws : List ℕ} {b : Building} → read ≡ read′ → Ready read cost ws b → Ready read′ cost ws b
@@ -68,14 +69,14 @@ module _ {A B : Type 0} (read : Result A) (g : A → B) (cost : B → Cost) {ws 
   pub last-ready : Ready (andThen read (λ (a : A) (d : Position). got (g a) d)) cost ws b → Ready read (λ (a : A). cost (g a)) ws b
   last-ready w =
       let p = both-got read (λ (a : A) (d : Position). got (g a) d) (w .reads) in
-      record { sound = w .sound; what = p .what; next = p .next; reads = p .first; fits = subst (λ (y : B). Fits (cost y) b) (sym (got-what (p .second))) (w .fits) }
+      record { sound = w .sound; what = p .what; next = p .next; reads = p .first; fits = subst (λ (y : B). Fits (cost y) b) (sym (got-value (p .second))) (w .fits) }
 
   pub last-builds : (step : B → Built → Built) {ws′ : List ℕ} {r : BuildStep}
       → Builds read (λ (a : A). step (g a)) (λ (a : A). cost (g a)) ws b ws′ r → Builds (andThen read (λ (a : A) (d : Position). got (g a) d)) step cost ws b ws′ r
   last-builds step {ws′} {r} h = record {
     reaches = λ y d e.
         let p = both-got read (λ (a : A) (d : Position). got (g a) d) e in
-        subst (λ (z : B). Reaches d (step z) (cost z) ws b ws′ r) (got-what (p .second)) (subst (λ (j : Position). Reaches j (step (g (p .what))) (cost (g (p .what))) ws b ws′ r) (got-next (p .second)) (h .reaches (p .what) (p .next) (p .first)));
+        subst (λ (z : B). Reaches d (step z) (cost z) ws b ws′ r) (got-value (p .second)) (subst (λ (j : Position). Reaches j (step (g (p .what))) (cost (g (p .what))) ws b ws′ r) (got-next (p .second)) (h .reaches (p .what) (p .next) (p .first)));
   }
 
 -- after a step of its own, for which the whole has paid

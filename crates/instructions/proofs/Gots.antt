@@ -2,29 +2,15 @@
 use Prim.Native.Nat.{ℕ, zero, suc, _-_, _≤_, _<_}
 use native.Mathlib.Omega.{arith}
 use mathlib.Core.Path.{_≡_, refl, sym, ap, _∙_}
-use mathlib.Core.Bool.{Bool, true, false, false≢true}
+use mathlib.Core.Bool.{Bool, true, false}
 use mathlib.Core.List.{List, [], _∷_}
 use Rattle.model.specs.Limits.{mostBlockNumber}
 use Rattle.model.specs.Lists.{pick, among}
 use Rattle.model.specs.Sheet.{BlockId}
 use Rattle.model.specs.Reading.{Position, Result, got, refused, Read, andThen, pure, refuse, count, atMost, newNumber, times, numbered, counted}
-use Rattle.model.proofs.ReadLaws.{isGot, orElse}
+use Rattle.model.proofs.Got.{got-value, got-next, not-both}
 
 module _ {A : Type 0} where
-  abbrev nextOr : Position → Result A → Position
-  nextOr d (got a c) = c
-  nextOr d (refused k) = d
-
-  -- what was got, and where it ended, are the same if the answers are
-  pub got-what : {a b : A} {c d : Position} → got a c ≡ got b d → a ≡ b
-  got-what {a} e = ap (orElse a) e
-
-  pub got-next : {a b : A} {c d : Position} → got a c ≡ got b d → c ≡ d
-  got-next {c = c} e = ap (nextOr c) e
-
-  pub not-refused : {a : A} {c : Position} {k : ℕ} → refused k ≡ got a c → ⊥
-  not-refused e = false≢true (ap isGot e)
-
   -- a part, then the list of the others
   abbrev pub joined : Result A → (Position → Result (List A)) → Result (List A)
   joined part others = andThen part (λ (a : A) (d : Position). andThen (others d) (λ (l : List A) (e : Position). got (a ∷ l) e))
@@ -39,7 +25,7 @@ module _ {A B : Type 0} where
 
   pub both-got : (r : Result A) (f : A → Position → Result B) {b : B} {d : Position} → andThen r f ≡ got b d → Both r f b d
   both-got (got a c) f e = record { what = a; next = c; first = refl; second = e }
-  both-got (refused k) f e = absurd (not-refused e)
+  both-got (refused k) f e = absurd (not-both e refl)
 
   -- if the first part is known, the whole is the second from there
   pub then-is : (r : Result A) (f : A → Position → Result B) {a : A} {c : Position} → r ≡ got a c → andThen r f ≡ f a c
@@ -67,7 +53,7 @@ module _ {A : Type 0} where
         head = p .what;
         tail = q .what;
         next = p .next;
-        cons = sym (got-what (q .second));
+        cons = sym (got-value (q .second));
         first = p .first;
         after = q .first ∙ ap (got (q .what)) (got-next (q .second));
       }
@@ -102,7 +88,7 @@ new-number used s c {n} {d} e =
     p .first ∙ go (among (p .what) used) (p .what) (p .next) (p .second)
   where
     go : (b : Bool) (a : ℕ) (j : Position) → pick b (refuse 6) (pure a) s j ≡ got n d → got a j ≡ got n d
-    go true a j h = absurd (not-refused h)
+    go true a j h = absurd (not-both h refl)
     go false a j h = h
 
 module _ {A : Type 0} where
@@ -112,7 +98,7 @@ module _ {A : Type 0} where
   numbered-reads zero used f s c h e q = absurd (omega (arith, h))
   numbered-reads (suc k) used f s c h e q =
       let p = both-got (newNumber used s c) _ e in
-      not-refused (sym q ∙ new-number used s c (p .first))
+      not-both (new-number used s c (p .first)) q
 
   pub numbered-joined : (k : ℕ) (used : List BlockId) (f : BlockId → Read A) (s : List ℕ) (c : Position) {l : List A} {d : Position} {n : BlockId} {j : Position}
       → 0 < k → numbered k used f s c ≡ got l d → atMost mostBlockNumber s c ≡ got n j → numbered k used f s c ≡ joined (f n s j) (numbered (k - 1) (n ∷ used) f s)

@@ -4,14 +4,14 @@ use native.Mathlib.Omega.{arith}
 use mathlib.Core.Path.{_≡_, sym, _∙_}
 use mathlib.Core.Bool.{Bool, true, false, true≢false}
 use lib.Dec.{leb}
-use borrow.Author.Tests.{leb-true}
 use Rattle.model.specs.Limits.{mostTraits, mostKind}
 use Rattle.model.specs.Lists.{pick}
 use Rattle.model.specs.Sheet.{Place, noPlace, EffectKind}
 use Rattle.model.specs.Effects.{kindOf, rowOf, isCreateFunction}
-use Rattle.model.specs.Reading.{Read, _>>=_, pure, refuse, word, atMost, below}
+use Rattle.model.specs.Reading.{Read, _>>=_, word, atMost, below}
 use Rattle.model.specs.Sections.{place, unused, extra, effect}
-use Rattle.model.proofs.ReadLaws.{Reads, pure-reads, refuse-reads, pick-reads, any-reads, bind-reads, below-reads}
+use Rattle.model.proofs.ReadLaws.{Reads, pure-reads, pick-reads, any-reads, bind-reads, below-reads}
+use Rattle.hir.proofs.Ranges.{at-most-reads}
 use Rattle.instructions.specs.Builds.{InRange}
 
 -- a part of which nothing is asked
@@ -35,12 +35,6 @@ unused-known =
 known : (n : ℕ) → n ≤ 512 → (b : Bool) → Reads (pick b (place n) unused) Known
 known n h b = pick-reads b (place n) unused Known (λ e. place-known n h) (λ e. unused-known)
 
-at-most-known : (most : ℕ) → Reads (atMost most) (λ (w : ℕ). w ≤ most)
-unfolding atMost
-at-most-known most =
-    bind-reads word (λ (w : ℕ). pick (leb w most) (pure w) (refuse 5)) (λ (w : ℕ). Unit {0}) (λ (w : ℕ). w ≤ most) (any-reads word)
-    (λ w u. pick-reads (leb w most) (pure w) (refuse 5) (λ (w : ℕ). w ≤ most) (λ h. pure-reads w (λ (w : ℕ). w ≤ most) (leb-true w most h)) (λ h. refuse-reads 5 (λ (w : ℕ). w ≤ most)))
-
 abbrev ExtraKnown : EffectKind → ℕ → Type 0
 ExtraKnown k x = (isCreateFunction k ≡ true → x < 64) × (isCreateFunction k ≡ false → x ≤ rowOf k .extra)
 
@@ -49,7 +43,7 @@ unfolding extra
 extra-known m h k =
     pick-reads (isCreateFunction k) (below m) (atMost (rowOf k .extra)) (ExtraKnown k)
     (λ t ws c a d e. (λ u. omega (arith, h, below-reads m ws c a d e), λ u. absurd (true≢false (sym t ∙ u))))
-    (λ t ws c a d e. (λ u. absurd (true≢false (sym u ∙ t)), λ u. at-most-known (rowOf k .extra) ws c a d e))
+    (λ t ws c a d e. (λ u. absurd (true≢false (sym u ∙ t)), λ u. at-most-reads (rowOf k .extra) ws c a d e))
 
 pub effect-known : (n m : ℕ) → n ≤ 512 → m ≤ 64 → Reads (effect n m) InRange
 unfolding effect

@@ -9,7 +9,7 @@ use hir::OrderStep;
 use hir::Place;
 use hir::PlaceStep;
 use hir::TerminalKind;
-use hir::TerminalStep;
+use hir::KindStep;
 use hir::WordStep;
 ghost use Prim.Native.Nat.{_≤_, _<_};
 ghost use Rattle.model.specs.Lists.{each};
@@ -124,7 +124,7 @@ pub fn build_terminal(
     ensures { λ r. ⌜ Builds (terminal n m (now (s .entry)) (c .at)) (terminalStep (placeIs returns)) terminalCost (now (ws .entry)) b (now (ws .exit)) r ⌝ }
 {
     match c.terminal_kind(s) {
-        TerminalStep::Got(kind, d1) => match d1.order(s) {
+        KindStep::Got(kind, d1) => match d1.order(s) {
             OrderStep::Got(order, d2) => build_terminal_of(
                 d2,
                 s,
@@ -138,6 +138,6 @@ pub fn build_terminal(
             ),
             OrderStep::Refused(k2) => BuildStep::Refused(k2),
         },
-        TerminalStep::Refused(k1) => BuildStep::Refused(k1),
+        KindStep::Refused(k1) => BuildStep::Refused(k1),
     }
 }

@@ -2,3 +2,4 @@ pub mod SectionLaws
 pub mod WholeLaws
 pub mod TotalsLaws
 pub mod VerdictLaws
+pub mod Accepted

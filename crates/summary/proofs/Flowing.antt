@@ -29,6 +29,11 @@ use Rattle.summary.proofs.Held.{held, state-words}
 abbrev pub flowOf : Place → ℕ → Place → State → Place → List Effect
 flowOf r i into t from = pick (flows r i into t from) (flowEffect r into from ∷ []) []
 
+-- at most one effect
+pub pick-most : (x : Bool) (e : Effect) → length (gather effectWords (pick x (e ∷ []) [])) ≤ 8
+pick-most true e = omega arith
+pick-most false e = omega arith
+
 -- ---- one tracked place
 module _ (ws : List ℕ) (from into : Place) (index returns : ℕ) (b : from .identifier < 512) where
   -- the test in words
@@ -72,10 +77,6 @@ module _ (ws : List ℕ) (from into : Place) (index returns : ℕ) (b : from .id
       (ap (λ (z : EffectKind). effectWords (record { kind = z; first = from; second = into; extra = 0 })) j
       ∙ sym (append-nil (effectWords (flowEffect r into from)))
       ∙ ap (λ (x : Bool). gather effectWords (pick x (flowEffect r into from ∷ []) [])) (sym f))
-
-  pick-most : (x : Bool) (e : Effect) → length (gather effectWords (pick x (e ∷ []) [])) ≤ 8
-  pick-most true e = omega arith
-  pick-most false e = omega arith
 
   -- at most eight words, in any case
   pub flow-most : {a : List ℕ} {at : ℕ} {a′ : List ℕ} {at′ : ℕ} → Flow ws from into index returns a at a′ at′ → at′ ≤ at + 8

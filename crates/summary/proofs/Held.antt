@@ -23,6 +23,10 @@ pub held : (ws : List ℕ) (hand : ℕ) → Holds ws (stateOf ws hand)
 unfolding stateOf
 held ws hand = refl
 
+pub holds-state : (ws : List ℕ) (hand : ℕ) {t : State} → stateOf ws hand ≡ t → Holds ws t
+unfolding stateOf
+holds-state ws hand e = ap (λ (s : State). s .records) (sym e)
+
 -- the record of x
 pub record-held : (ws : List ℕ) (t : State) → Holds ws t → (x : ℕ) → x < 512 → getD (t .records) x noRecord ≡ recordAt (nodesOf ws) x
 unfolding recordsOf

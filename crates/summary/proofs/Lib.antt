@@ -6,3 +6,5 @@ pub mod Collecting
 pub mod Flowing
 pub mod Counts
 pub mod Starts
+pub mod Whole
+pub mod Rooms

@@ -28,7 +28,7 @@ module _ {A : Type 0} where
       ∙ append-assoc (tab p f) (tab c (λ (i : ℕ). f (p + i))) (f (p + c) ∷ [])
 
 module _ {A B : Type 0} where
-  map-append : (g : A → B) (l r : List A) → map g (l ++ r) ≡ map g l ++ map g r
+  pub map-append : (g : A → B) (l r : List A) → map g (l ++ r) ≡ map g l ++ map g r
   map-append g [] r = refl
   map-append g (a ∷ l) r = ap (λ (z : List B). g a ∷ z) (map-append g l r)
 

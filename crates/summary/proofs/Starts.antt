@@ -42,6 +42,11 @@ ranges-count [] ends h = refl
 ranges-count (i ∷ l) [] h = absurd (omega (arith, h))
 ranges-count (i ∷ l) (e ∷ ends) h = ap suc (ranges-count l ends (omega (arith, h)))
 
+pub ranges-length : (n : ℕ) (sheet ws : List ℕ) → n ≤ 512 → 16384 ≤ length ws → (c : Position) (ids : List Identifier) (d : Position) → times n identifier sheet c ≡ got ids d → length (rangesOf ids (endsOf (nodesOf ws))) ≡ n
+ranges-length n sheet ws b h c ids d g =
+    let k : length ids ≡ n = times-count n sheet c ids d g in
+    ranges-count ids (endsOf (nodesOf ws)) (omega (arith, k, b, ends-length ws h)) ∙ k
+
 -- ---- the loop: `left` of n identifiers are left
 module _ (n : ℕ) (sheet ws : List ℕ) where
   -- the words of the last `left` ranges
@@ -86,6 +91,5 @@ module _ (n : ℕ) (sheet ws : List ℕ) where
     pub starting-end : left ≤ 0 → {a₁ : List ℕ} {at₁ : ℕ} → Wrote (n ∷ []) a₁ at₁ a₀ at₀ → Ranges sheet c₀ n ws a₁ at₁ a at
     starting-end z w ids d g =
         let ends : List ℕ = endsOf (nodesOf ws) in
-        let k : length ids ≡ n = times-count n sheet c₀ ids d g in
-        let m : n ≡ length (rangesOf ids ends) = sym (ranges-count ids ends (omega (arith, k, b, ends-length ws h)) ∙ k) in
+        let m : n ≡ length (rangesOf ids ends) = sym (ranges-length n sheet ws b h c₀ ids d g) in
         wrote-as (wrote-then w (copying-end identifier leftWords (v .copies ids d g) z refl .0)) (ap (λ (x : ℕ). x ∷ gather rangeWords (rangesOf ids ends)) m)

@@ -13,11 +13,10 @@ ghost use Rattle.writing.specs.Wrote.{Wrote, farthest};
 ghost use Rattle.summary.specs.Records.{levelEffects, Collected};
 ghost use Rattle.summary.specs.Tracked.{trackedFrom};
 use crate::tracked::tracked;
+use copies::NO_PLACE;
 use copies::put_effect;
 use hir::AliasingEffect;
-use hir::Effect;
 use hir::EffectKind;
-use hir::IdentifierId;
 use hir::Place;
 use rows::LKIND;
 use rows::LSPAN;
@@ -48,17 +47,11 @@ fn put_record(
     if level == 0 {
         return at;
     }
-    let none = Place {
-        identifier: IdentifierId(0),
-        effect: Effect::Unknown,
-        reactive: false,
-        span: 0,
-    };
     if level == 1 {
         let e = AliasingEffect {
             kind: conditional,
             first: p,
-            second: none,
+            second: NO_PLACE,
             extra: 0,
         };
         return put_effect(answer, at, e);
@@ -66,7 +59,7 @@ fn put_record(
     let e = AliasingEffect {
         kind: definite,
         first: p,
-        second: none,
+        second: NO_PLACE,
         extra: reason,
     };
     put_effect(answer, at, e)

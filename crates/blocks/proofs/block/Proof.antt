@@ -5,45 +5,31 @@ use Rattle.hir.proofs.Answers.{says}
 use borrow.Author.Needs.{needs}
 use Rattle.blocks.proofs.block.Statement.{statement}
 use Rattle.blocks.proofs.block.Tie as tie
-use Rattle.blocks.proofs.block.Reads as reads
-use Rattle.blocks.proofs.block.Lts as lts
-use Rattle.blocks.proofs.instructions.Reads as instructions-reads
-use Rattle.blocks.proofs.phis.phis.Reads as phis-reads
-use Rattle.blocks.proofs.terminal.Reads as terminal-reads
 
--- src/lib.rt:163:11
 phis-requires : tie.Need-phis-requires
 phis-requires c κs = search needs
 
--- src/lib.rt:164:25
 enum-known-t1 : tie.Need-enum-known-t1
 enum-known-t1 c = search needs
 
--- src/lib.rt:164:42
 instructions-requires : tie.Need-instructions-requires
 instructions-requires c κs = search needs
 
--- src/lib.rt:165:29
 enum-known-t2 : tie.Need-enum-known-t2
 enum-known-t2 c = search needs
 
--- src/lib.rt:165:40
 terminal-requires : tie.Need-terminal-requires
 terminal-requires c κs = search needs
 
--- src/lib.rt:166:33
 enum-known-k2 : tie.Need-enum-known-k2
 enum-known-k2 c = search needs
 
--- src/lib.rt:168:29
 enum-known-k1 : tie.Need-enum-known-k1
 enum-known-k1 c = search needs
 
--- src/lib.rt:151:1
 same-length : tie.Need-same-length
 same-length c = search needs
 
--- src/lib.rt:151:1
 returns : tie.Need-returns
 returns c =
     let b4 = c .before .before .before .before in
@@ -52,11 +38,9 @@ returns c =
     c .terminal .ensures
     ∙ sym (block-got _ _ _ _ _ _ _ _ _ _ (says totalsSays (b6 .t1 .given .1) (b10 .phis .ensures)) (says totalsSays (c .before .before .t2 .given .1) (b4 .instructions .ensures)))
 
--- src/lib.rt:151:1
 same-length-2 : tie.Need-same-length-2
 same-length-2 c = search needs
 
--- src/lib.rt:151:1
 returns-2 : tie.Need-returns-2
 returns-2 c =
     let b3 = c .before .before .before in
@@ -64,11 +48,9 @@ returns-2 c =
     let b9 = b5 .before .before .before .before in
     sym (block-instructions-refused _ _ _ _ _ _ _ _ _ (says totalsSays (b5 .t1 .given .1) (b9 .phis .ensures)) (says totalsSays (c .before .k2 .given .1) (b3 .instructions .ensures)))
 
--- src/lib.rt:151:1
 same-length-3 : tie.Need-same-length-3
 same-length-3 c = search needs
 
--- src/lib.rt:151:1
 returns-3 : tie.Need-returns-3
 returns-3 c =
     let b5 = c .before .before .before .before .before in

@@ -16,12 +16,6 @@ use borrow.Author.Needs.{needs}
 use Rattle.hir.proofs.Answers.{says}
 use Rattle.blocks.proofs.blocks.Statement.{statement}
 use Rattle.blocks.proofs.blocks.Tie as tie
-use Rattle.blocks.proofs.blocks.Reads as reads
-use Rattle.blocks.proofs.blocks.Lts as lts
-use Rattle.blocks.proofs.block.Reads as block-reads
-use Rattle.blocks.proofs.phis.listed.Reads as listed-reads
-use Rattle.hir.proofs.Cursor.block_number.Reads as block-number-reads
-use Rattle.hir.proofs.Cursor.count.Reads as count-reads
 
 abbrev Inv-loop : tie.InvT-loop
 Inv-loop s n m left₀ c₀ t₀ used₀ free₀ numbers₀ left c t used free numbers = (judge (numbered left₀ [] (block n m)) (each tellBlock) (totalsAre t₀) s (c₀ .at)
@@ -30,43 +24,34 @@ Inv-loop s n m left₀ c₀ t₀ used₀ free₀ numbers₀ left c t used free n
 abbrev μ-loop : tie.MeasureT-loop
 μ-loop s n m left₀ c₀ t₀ used₀ free₀ numbers₀ left c t used free numbers = left
 
--- src/lib.rt:178:11
 count-requires : tie.Need-count-requires Inv-loop μ-loop
 count-requires c κs = tt
 
--- src/lib.rt:179:23
 enum-known-count : tie.Need-enum-known-count Inv-loop μ-loop
 enum-known-count c = search needs
 
--- src/lib.rt:183:27
 enum-known-k1 : tie.Need-enum-known-k1 Inv-loop μ-loop
 enum-known-k1 c = search needs
 
--- src/lib.rt:184:13
 returns : tie.Need-returns Inv-loop μ-loop
 returns c =
     let b3 = c .before .before .before in
     sym (blocks-refused _ _ _ _ _ _ (says wordSays (c .before .k1 .given .1) (b3 .count .ensures)))
 
--- src/lib.rt:195:5
 loop-holds : tie.Need-loop-holds Inv-loop μ-loop
 loop-holds c =
     let b3 = c .before .before .before in
     (nothing-used _ _ _ _ (replicate 256 0) 256 _ _ refl, count-reads 256 _ _ _ _ (says wordSays (c .before .count2 .given .1) (b3 .count .ensures)), omega arith, refl, refl)
 
--- src/lib.rt:198:15
 block-number-requires : tie.Need-block-number-requires Inv-loop μ-loop
 block-number-requires c κs = tt
 
--- src/lib.rt:199:28
 enum-known-b : tie.Need-enum-known-b Inv-loop μ-loop
 enum-known-b c = search needs
 
--- src/lib.rt:203:32
 enum-known-k2 : tie.Need-enum-known-k2 Inv-loop μ-loop
 enum-known-k2 c = search needs
 
--- src/lib.rt:204:17
 returns-2 : tie.Need-returns-2 Inv-loop μ-loop
 returns-2 c =
     let b3 = c .before .before .before in
@@ -78,19 +63,16 @@ returns-2 c =
     ∙ b5 .loop .inv .0
     ∙ numbered-refused _ _ _ _ _ _ _ _ (b4 .loop-test .taken) (new-refused _ _ _ _ (says blockSays (c .before .k2 .given .1) (b3 .block-number .ensures))))
 
--- src/lib.rt:207:25
 slice-aggregate-listed : tie.Need-slice-aggregate-listed Inv-loop μ-loop
 slice-aggregate-listed c =
     let b6 = c .before .before .before .before .before .before in
     sym (b6 .loop .inv .3)
 
--- src/lib.rt:207:12
 listed-requires : tie.Need-listed-requires Inv-loop μ-loop
 listed-requires c κs =
     let b6 = c .before .before .before .before .before .before in
     omega (arith, b6 .loop .inv .3)
 
--- src/lib.rt:208:13
 returns-3 : tie.Need-returns-3 Inv-loop μ-loop
 returns-3 c =
     let b4 = c .before .before .before .before in
@@ -104,39 +86,31 @@ returns-3 c =
     ∙ numbered-refused _ _ _ _ _ _ _ _ (b7 .loop-test .taken) (new-used _ _ _ _ _ (says blockSays (b4 .b .given .1) (b6 .block-number .ensures)) (sym (c .before .listed .ensures)
     ∙ c .if1 .taken)))
 
--- src/lib.rt:210:9
 sub-free : tie.Need-sub-free Inv-loop μ-loop
 sub-free c = omega arith
 
--- src/lib.rt:211:9
 mul-used : tie.Need-mul-used Inv-loop μ-loop
 mul-used c = omega arith
 
--- src/lib.rt:211:9
 array-write-used : tie.Need-array-write-used Inv-loop μ-loop
 array-write-used c = omega arith
 
--- src/lib.rt:212:34
 slice-aggregate-block : tie.Need-slice-aggregate-block Inv-loop μ-loop
 slice-aggregate-block c =
     let b9 = c .before .before .before .before .before .before .before .before .before in
     sym (b9 .loop .inv .4)
 
--- src/lib.rt:212:15
 block-requires : tie.Need-block-requires Inv-loop μ-loop
 block-requires c κs =
     let b9 = c .before .before .before .before .before .before .before .before .before in
     omega (arith, b9 .loop .inv .4)
 
--- src/lib.rt:213:29
 enum-known-u : tie.Need-enum-known-u Inv-loop μ-loop
 enum-known-u c = search needs
 
--- src/lib.rt:217:33
 enum-known-k3 : tie.Need-enum-known-k3 Inv-loop μ-loop
 enum-known-k3 c = search needs
 
--- src/lib.rt:218:17
 returns-4 : tie.Need-returns-4 Inv-loop μ-loop
 returns-4 c =
     let b4 = c .before .before .before .before in
@@ -153,15 +127,12 @@ returns-4 c =
     ∙ numbered-stop _ _ _ _ _ _ _ _ _ _ (b13 .loop-test .taken) (new-got _ _ _ _ _ (says blockSays (b10 .b .given .1) (b12 .block-number .ensures)) (sym (b7 .listed .ensures)
     ∙ b6 .if1 .left)) (says totalsSays (c .before .k3 .given .1) (b4 .block .ensures)))
 
--- src/lib.rt:221:9
 sub-left : tie.Need-sub-left Inv-loop μ-loop
 sub-left c = omega arith
 
--- src/lib.rt:195:5
 loop-less : tie.Need-loop-less Inv-loop μ-loop
 loop-less c = omega arith
 
--- src/lib.rt:195:5
 loop-again : tie.Need-loop-again Inv-loop μ-loop
 loop-again c =
     let b3 = c .before .before .before in
@@ -176,7 +147,6 @@ loop-again c =
     let e : length (l .used) ≡ 256 = l .inv .3 in
     (l .inv .0 ∙ numbered-next _ _ _ _ _ _ _ _ _ _ _ (b13 .loop-test .taken) (new-got _ _ _ _ _ (says blockSays (b10 .b .given .1) (b12 .block-number .ensures)) (sym (b7 .listed .ensures) ∙ b6 .if1 .left)) (says totalsSays (c .before .u .given .1) (b4 .block .ensures)) ∙ one-stored _ _ _ _ (l .used) (l .free) _ _ _ (omega arith) (omega arith), omega arith, omega arith, simp length-set e, b3 .numbers2 .given)
 
--- src/lib.rt:173:1
 returns-5 : tie.Need-returns-5 Inv-loop μ-loop
 returns-5 c =
     let b3 = c .before .before .before in

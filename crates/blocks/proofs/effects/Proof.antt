@@ -11,11 +11,6 @@ use borrow.Author.Needs.{needs}
 use Rattle.hir.proofs.Answers.{says}
 use Rattle.blocks.proofs.effects.Statement.{statement}
 use Rattle.blocks.proofs.effects.Tie as tie
-use Rattle.blocks.proofs.effects.Reads as reads
-use Rattle.blocks.proofs.effects.Lts as lts
-use Rattle.blocks.proofs.Totals.effect.Reads as Totals-effect-reads
-use Rattle.effects.proofs.effect.Reads as effect-reads
-use Rattle.hir.proofs.Cursor.count.Reads as count-reads
 
 abbrev Inv-loop : tie.InvT-loop
 Inv-loop s n m terminal left₀ c₀ t₀ left c t = judge (times left₀ (effect n m)) (each (tellEffect terminal)) (totalsAre t₀) s (c₀ .at)
@@ -24,46 +19,36 @@ Inv-loop s n m terminal left₀ c₀ t₀ left c t = judge (times left₀ (effec
 abbrev μ-loop : tie.MeasureT-loop
 μ-loop s n m terminal left₀ c₀ t₀ left c t = left
 
--- src/lib.rt:47:11
 count-requires : tie.Need-count-requires Inv-loop μ-loop
 count-requires c κs = tt
 
--- src/lib.rt:48:23
 enum-known-count : tie.Need-enum-known-count Inv-loop μ-loop
 enum-known-count c = search needs
 
--- src/lib.rt:52:27
 enum-known-k1 : tie.Need-enum-known-k1 Inv-loop μ-loop
 enum-known-k1 c = search needs
 
--- src/lib.rt:53:13
 returns : tie.Need-returns Inv-loop μ-loop
 unfolding effects
 returns c =
     let b3 = c .before .before .before in
     sym (section-refused _ _ _ _ _ _ _ (says wordSays (c .before .k1 .given .1) (b3 .count .ensures)))
 
--- src/lib.rt:57:5
 loop-holds : tie.Need-loop-holds Inv-loop μ-loop
 loop-holds c = refl
 
--- src/lib.rt:58:15
 effect-requires : tie.Need-effect-requires Inv-loop μ-loop
 effect-requires c κs = tt
 
--- src/lib.rt:59:29
 enum-known-e : tie.Need-enum-known-e Inv-loop μ-loop
 enum-known-e c = search needs
 
--- src/lib.rt:61:17
 effect-requires-2 : tie.Need-effect-requires-2 Inv-loop μ-loop
 effect-requires-2 c κs = tt
 
--- src/lib.rt:64:33
 enum-known-k2 : tie.Need-enum-known-k2 Inv-loop μ-loop
 enum-known-k2 c = search needs
 
--- src/lib.rt:65:17
 returns-2 : tie.Need-returns-2 Inv-loop μ-loop
 unfolding effects
 returns-2 c =
@@ -76,15 +61,12 @@ returns-2 c =
     ∙ b5 .loop .inv
     ∙ times-stop _ _ _ _ _ _ _ (b4 .loop-test .taken) (judge-refused _ _ _ _ _ _ (says effectSays (c .before .k2 .given .1) (b3 .effect .ensures))))
 
--- src/lib.rt:68:9
 sub-left : tie.Need-sub-left Inv-loop μ-loop
 sub-left c = omega arith
 
--- src/lib.rt:57:5
 loop-less : tie.Need-loop-less Inv-loop μ-loop
 loop-less c = omega arith
 
--- src/lib.rt:57:5
 loop-again : tie.Need-loop-again Inv-loop μ-loop
 loop-again c =
     let b4 = c .before .before .before .before in
@@ -93,7 +75,6 @@ loop-again c =
     rw (c .effect2 .ensures) (b6 .loop .inv
     ∙ times-next _ _ _ _ _ _ _ _ (b5 .loop-test .taken) (judge-got _ _ _ _ _ _ _ (says effectSays (c .before .before .e .given .1) (b4 .effect .ensures))))
 
--- src/lib.rt:35:1
 returns-3 : tie.Need-returns-3 Inv-loop μ-loop
 unfolding effects
 returns-3 c =

@@ -11,10 +11,6 @@ use borrow.Author.Needs.{needs}
 use Rattle.hir.proofs.Answers.{says}
 use Rattle.blocks.proofs.instructions.Statement.{statement}
 use Rattle.blocks.proofs.instructions.Tie as tie
-use Rattle.blocks.proofs.instructions.Reads as reads
-use Rattle.blocks.proofs.instructions.Lts as lts
-use Rattle.blocks.proofs.instruction.Reads as instruction-reads
-use Rattle.hir.proofs.Cursor.count.Reads as count-reads
 
 abbrev Inv-loop : tie.InvT-loop
 Inv-loop s n m left₀ c₀ t₀ left c t = judge (times left₀ (instruction n m)) (each tellInstruction) (totalsAre t₀) s (c₀ .at)
@@ -23,41 +19,32 @@ Inv-loop s n m left₀ c₀ t₀ left c t = judge (times left₀ (instruction n 
 abbrev μ-loop : tie.MeasureT-loop
 μ-loop s n m left₀ c₀ t₀ left c t = left
 
--- src/lib.rt:89:11
 count-requires : tie.Need-count-requires Inv-loop μ-loop
 count-requires c κs = tt
 
--- src/lib.rt:90:23
 enum-known-count : tie.Need-enum-known-count Inv-loop μ-loop
 enum-known-count c = search needs
 
--- src/lib.rt:94:27
 enum-known-k1 : tie.Need-enum-known-k1 Inv-loop μ-loop
 enum-known-k1 c = search needs
 
--- src/lib.rt:95:13
 returns : tie.Need-returns Inv-loop μ-loop
 returns c =
     let b3 = c .before .before .before in
     sym (section-refused _ _ _ _ _ _ _ (says wordSays (c .before .k1 .given .1) (b3 .count .ensures)))
 
--- src/lib.rt:99:5
 loop-holds : tie.Need-loop-holds Inv-loop μ-loop
 loop-holds c = refl
 
--- src/lib.rt:100:15
 instruction-requires : tie.Need-instruction-requires Inv-loop μ-loop
 instruction-requires c κs = tt
 
--- src/lib.rt:101:29
 enum-known-u : tie.Need-enum-known-u Inv-loop μ-loop
 enum-known-u c = search needs
 
--- src/lib.rt:105:33
 enum-known-k2 : tie.Need-enum-known-k2 Inv-loop μ-loop
 enum-known-k2 c = search needs
 
--- src/lib.rt:106:17
 returns-2 : tie.Need-returns-2 Inv-loop μ-loop
 returns-2 c =
     let b3 = c .before .before .before in
@@ -69,15 +56,12 @@ returns-2 c =
     ∙ b5 .loop .inv
     ∙ times-stop _ _ _ _ _ _ _ (b4 .loop-test .taken) (says totalsSays (c .before .k2 .given .1) (b3 .instruction .ensures)))
 
--- src/lib.rt:109:9
 sub-left : tie.Need-sub-left Inv-loop μ-loop
 sub-left c = omega arith
 
--- src/lib.rt:99:5
 loop-less : tie.Need-loop-less Inv-loop μ-loop
 loop-less c = omega arith
 
--- src/lib.rt:99:5
 loop-again : tie.Need-loop-again Inv-loop μ-loop
 loop-again c =
     let b3 = c .before .before .before in
@@ -86,7 +70,6 @@ loop-again c =
     b5 .loop .inv
     ∙ times-next _ _ _ _ _ _ _ _ (b4 .loop-test .taken) (says totalsSays (c .before .u .given .1) (b3 .instruction .ensures))
 
--- src/lib.rt:84:1
 returns-3 : tie.Need-returns-3 Inv-loop μ-loop
 returns-3 c =
     let b3 = c .before .before .before in

@@ -5,45 +5,30 @@ use Rattle.hir.proofs.Answers.{says}
 use borrow.Author.Needs.{needs}
 use Rattle.blocks.proofs.terminal.Statement.{statement}
 use Rattle.blocks.proofs.terminal.Tie as tie
-use Rattle.blocks.proofs.terminal.Reads as reads
-use Rattle.blocks.proofs.terminal.Lts as lts
-use Rattle.blocks.proofs.Totals.relation.Reads as relation-reads
-use Rattle.blocks.proofs.effects.Reads as effects-reads
-use Rattle.hir.proofs.Cursor.order.Reads as order-reads
-use Rattle.hir.proofs.Cursor.place.Reads as place-reads
-use Rattle.hir.proofs.Cursor.terminal_kind.Reads as terminal-kind-reads
 
--- src/lib.rt:120:11
 terminal-kind-requires : tie.Need-terminal-kind-requires
 terminal-kind-requires c κs = search needs
 
--- src/lib.rt:121:27
 enum-known-t : tie.Need-enum-known-t
 enum-known-t c = search needs
 
--- src/lib.rt:125:31
 enum-known-k1 : tie.Need-enum-known-k1
 enum-known-k1 c = search needs
 
--- src/lib.rt:126:13
 returns : tie.Need-returns
 returns c =
     let b3 = c .before .before .before in
     sym (terminal-kind-refused _ _ _ _ _ _ (says kindStepSays (c .before .k1 .given .1) (b3 .terminal-kind .ensures)))
 
--- src/lib.rt:130:11
 order-requires : tie.Need-order-requires
 order-requires c κs = search needs
 
--- src/lib.rt:131:27
 enum-known-d2 : tie.Need-enum-known-d2
 enum-known-d2 c = search needs
 
--- src/lib.rt:134:28
 enum-known-k2 : tie.Need-enum-known-k2
 enum-known-k2 c = search needs
 
--- src/lib.rt:135:13
 returns-2 : tie.Need-returns-2
 returns-2 c =
     let b3 = c .before .before .before in
@@ -51,43 +36,33 @@ returns-2 c =
     let b7 = b5 .before .before in
     sym (terminal-order-refused _ _ _ _ _ _ _ _ (says kindStepSays (b5 .t .given .1) (b7 .terminal-kind .ensures)) (says orderSays (c .before .k2 .given .1) (b3 .order .ensures)))
 
--- src/lib.rt:139:32
 enum-told : tie.Need-enum-told
 enum-told c = search needs
 
--- src/lib.rt:140:39
 enum-told-2 : tie.Need-enum-told-2
 enum-told-2 c = search needs
 
--- src/lib.rt:140:39
 place-requires : tie.Need-place-requires
 place-requires c κs = search needs
 
--- src/lib.rt:141:31
 enum-known-c3 : tie.Need-enum-known-c3
 enum-known-c3 c = search needs
 
--- src/lib.rt:141:65
 relation-requires : tie.Need-relation-requires
 relation-requires c κs = search needs
 
--- src/lib.rt:141:38
 effects-requires : tie.Need-effects-requires
 effects-requires c κs = search needs
 
--- src/lib.rt:142:32
 enum-known-k3 : tie.Need-enum-known-k3
 enum-known-k3 c = search needs
 
--- src/lib.rt:144:37
 enum-told-3 : tie.Need-enum-told-3
 enum-told-3 c = search needs
 
--- src/lib.rt:144:37
 effects-requires-2 : tie.Need-effects-requires-2
 effects-requires-2 c κs = search needs
 
--- src/lib.rt:115:1
 returns-3 : tie.Need-returns-3
 returns-3 c =
     let b3 = c .before .before .before in
@@ -97,7 +72,6 @@ returns-3 c =
     sym (terminal-got _ _ _ _ _ _ _ _ _ (rw (c .enum-told .given .1) at (says kindStepSays (b7 .t .given .1) (b9 .terminal-kind .ensures))) (says orderSays (b3 .d2 .given .1) (b5 .order .ensures))
     ∙ other-got _ _ _ _ _ _)
 
--- src/lib.rt:115:1
 returns-4 : tie.Need-returns-4
 returns-4 c =
     let b3 = c .before .before .before in
@@ -111,7 +85,6 @@ returns-4 c =
     ∙ sym (terminal-got _ _ _ _ _ _ _ _ _ (rw (b6 .enum-told2 .given .1) at (says kindStepSays (b13 .t .given .1) (b15 .terminal-kind .ensures))) (says orderSays (b9 .d2 .given .1) (b11 .order .ensures))
     ∙ return-got _ _ _ _ _ _ _ _ (says placeSays (b3 .c3 .given .1) (b5 .place .ensures)))
 
--- src/lib.rt:115:1
 returns-5 : tie.Need-returns-5
 returns-5 c =
     let b3 = c .before .before .before in
@@ -123,7 +96,6 @@ returns-5 c =
     sym (terminal-got _ _ _ _ _ _ _ _ _ (rw (b4 .enum-told2 .given .1) at (says kindStepSays (b11 .t .given .1) (b13 .terminal-kind .ensures))) (says orderSays (b7 .d2 .given .1) (b9 .order .ensures))
     ∙ return-refused _ _ _ _ _ _ _ (says placeSays (c .before .k3 .given .1) (b3 .place .ensures)))
 
--- src/lib.rt:115:1
 returns-6 : tie.Need-returns-6
 returns-6 c =
     let b4 = c .before .before .before .before in

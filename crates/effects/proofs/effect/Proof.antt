@@ -8,73 +8,52 @@ use Rattle.hir.proofs.Answers.{says}
 use borrow.Author.Needs.{needs}
 use Rattle.effects.proofs.effect.Statement.{statement}
 use Rattle.effects.proofs.effect.Tie as tie
-use Rattle.effects.proofs.effect.Reads as reads
-use Rattle.effects.proofs.effect.Lts as lts
-use Rattle.effects.proofs.extra.Reads as extra-reads
-use Rattle.effects.proofs.row_of.Reads as row-of-reads
-use Rattle.hir.proofs.Cursor.at_most.Reads as at-most-reads
-use Rattle.hir.proofs.Cursor.place_if.Reads as place-if-reads
 
--- src/lib.rt:182:11
 at-most-requires : tie.Need-at-most-requires
 at-most-requires c κs = search needs
 
--- src/lib.rt:183:23
 enum-known-w : tie.Need-enum-known-w
 enum-known-w c = search needs
 
--- src/lib.rt:187:27
 enum-known-k1 : tie.Need-enum-known-k1
 enum-known-k1 c = search needs
 
--- src/lib.rt:188:13
 returns : tie.Need-returns
 unfolding effect
 returns c =
     let b3 = c .before .before .before in
     rw (says wordSays (c .before .k1 .given .1) (b3 .at-most .ensures))
 
--- src/lib.rt:191:9
 row-of-requires : tie.Need-row-of-requires
 row-of-requires c κs = search needs
 
--- src/lib.rt:193:11
 place-if-requires : tie.Need-place-if-requires
 place-if-requires c κs = search needs
 
--- src/lib.rt:194:24
 enum-known-first : tie.Need-enum-known-first
 enum-known-first c = search needs
 
--- src/lib.rt:194:44
 place-if-requires-2 : tie.Need-place-if-requires-2
 place-if-requires-2 c κs = search needs
 
--- src/lib.rt:195:28
 enum-known-second : tie.Need-enum-known-second
 enum-known-second c = search needs
 
--- src/lib.rt:195:49
 extra-requires : tie.Need-extra-requires
 extra-requires c κs = search needs
 
--- src/lib.rt:196:31
 enum-known-x : tie.Need-enum-known-x
 enum-known-x c = search needs
 
--- src/lib.rt:205:35
 enum-known-k4 : tie.Need-enum-known-k4
 enum-known-k4 c = search needs
 
--- src/lib.rt:207:32
 enum-known-k3 : tie.Need-enum-known-k3
 enum-known-k3 c = search needs
 
--- src/lib.rt:209:28
 enum-known-k2 : tie.Need-enum-known-k2
 enum-known-k2 c = search needs
 
--- src/lib.rt:177:1
 returns-2 : tie.Need-returns-2
 unfolding effect tableRow
 returns-2 c =
@@ -95,7 +74,6 @@ returns-2 c =
       ← ap (λ (t : TableRow). t .kind) (b14 .row-of .ensures),
     )
 
--- src/lib.rt:177:1
 returns-3 : tie.Need-returns-3
 unfolding effect tableRow
 returns-3 c =
@@ -115,7 +93,6 @@ returns-3 c =
       says wordSays (c .before .k4 .given .1) (b3 .extra .ensures),
     )
 
--- src/lib.rt:177:1
 returns-4 : tie.Need-returns-4
 unfolding effect tableRow
 returns-4 c =
@@ -132,7 +109,6 @@ returns-4 c =
       says placeSays (c .before .k3 .given .1) (b3 .place-if2 .ensures),
     )
 
--- src/lib.rt:177:1
 returns-5 : tie.Need-returns-5
 unfolding effect tableRow
 returns-5 c =

@@ -8,30 +8,19 @@ use Rattle.hir.proofs.EffectKinds.{number-same}
 use borrow.Author.Needs.{needs}
 use Rattle.effects.proofs.extra.Statement.{statement}
 use Rattle.effects.proofs.extra.Tie as tie
-use Rattle.effects.proofs.extra.Reads as reads
-use Rattle.effects.proofs.extra.Lts as lts
-use Rattle.effects.proofs.row_of.Reads as row-of-reads
-use Rattle.hir.proofs.Cursor.at_most.Reads as at-most-reads
-use Rattle.hir.proofs.Cursor.below.Reads as below-reads
-use Rattle.hir.proofs.EffectKind.number.Reads as number-reads
 
--- src/lib.rt:166:9
 row-of-requires : tie.Need-row-of-requires
 row-of-requires c κs = search needs
 
--- src/lib.rt:169:8
 number-requires : tie.Need-number-requires
 number-requires c κs = search needs
 
--- src/lib.rt:170:9
 below-requires : tie.Need-below-requires
 below-requires c κs = search needs
 
--- src/lib.rt:172:9
 at-most-requires : tie.Need-at-most-requires
 at-most-requires c κs = search needs
 
--- src/lib.rt:163:1
 returns : tie.Need-returns
 unfolding extra tableRow
 returns c =
@@ -43,7 +32,6 @@ returns c =
       eq-eqb _ _ (c .before .if1 .taken),
     ) (c .below .ensures)
 
--- src/lib.rt:163:1
 returns-2 : tie.Need-returns-2
 unfolding extra tableRow
 returns-2 c =

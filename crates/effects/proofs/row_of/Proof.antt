@@ -3,26 +3,19 @@ use Rattle.effects.proofs.EffectTable.{row-right, row-beyond}
 use borrow.Author.Needs.{needs}
 use Rattle.effects.proofs.row_of.Statement.{statement}
 use Rattle.effects.proofs.row_of.Tie as tie
-use Rattle.effects.proofs.row_of.Reads as reads
-use Rattle.effects.proofs.row_of.Lts as lts
 
--- src/lib.rt:149:16
 array-copy-out-result : tie.Need-array-copy-out-result
 array-copy-out-result c = search needs
 
--- src/lib.rt:149:9
 returns : tie.Need-returns
 returns c = row-beyond (c .before .before .args .number) (c .before .if1 .taken)
 
--- src/lib.rt:151:5
 mul-result : tie.Need-mul-result
 mul-result c = search needs
 
--- src/lib.rt:151:5
 array-copy-out-result-2 : tie.Need-array-copy-out-result-2
 array-copy-out-result-2 c = search needs
 
--- src/lib.rt:144:1
 returns-2 : tie.Need-returns-2
 returns-2 c = row-right (c .before .before .args .number) (omega arith)
 

@@ -4,49 +4,34 @@ use Rattle.hir.proofs.Answers.{says}
 use borrow.Author.Needs.{needs}
 use Rattle.reading.proofs.head.Statement.{statement}
 use Rattle.reading.proofs.head.Tie as tie
-use Rattle.reading.proofs.head.Reads as reads
-use Rattle.reading.proofs.head.Lts as lts
-use Rattle.hir.proofs.Cursor.flags.Reads as flags-reads
-use Rattle.reading.proofs.sections.functions.Reads as functions-reads
-use Rattle.reading.proofs.sections.identifiers.Reads as identifiers-reads
 
--- src/lib.rt:48:11
 flags-requires : tie.Need-flags-requires
 flags-requires c κs = search needs
 
--- src/lib.rt:49:27
 enum-known-c1 : tie.Need-enum-known-c1
 enum-known-c1 c = search needs
 
--- src/lib.rt:49:40
 identifiers-requires : tie.Need-identifiers-requires
 identifiers-requires c κs = search needs
 
--- src/lib.rt:50:27
 enum-known-identifiers : tie.Need-enum-known-identifiers
 enum-known-identifiers c = search needs
 
--- src/lib.rt:50:53
 functions-requires : tie.Need-functions-requires
 functions-requires c κs = search needs
 
--- src/lib.rt:51:31
 enum-known-functions : tie.Need-enum-known-functions
 enum-known-functions c = search needs
 
--- src/lib.rt:58:35
 enum-known-k3 : tie.Need-enum-known-k3
 enum-known-k3 c = search needs
 
--- src/lib.rt:60:31
 enum-known-k2 : tie.Need-enum-known-k2
 enum-known-k2 c = search needs
 
--- src/lib.rt:62:28
 enum-known-k1 : tie.Need-enum-known-k1
 enum-known-k1 c = search needs
 
--- src/lib.rt:45:1
 returns : tie.Need-returns
 unfolding heading
 returns c =
@@ -61,7 +46,6 @@ returns c =
       says wordSays (c .before .functions2 .given .1) (b3 .functions .ensures),
     )
 
--- src/lib.rt:45:1
 returns-2 : tie.Need-returns-2
 unfolding heading
 returns-2 c =
@@ -76,7 +60,6 @@ returns-2 c =
       says wordSays (c .before .k3 .given .1) (b3 .functions .ensures),
     )
 
--- src/lib.rt:45:1
 returns-3 : tie.Need-returns-3
 unfolding heading
 returns-3 c =
@@ -88,7 +71,6 @@ returns-3 c =
       says wordSays (c .before .k2 .given .1) (b3 .identifiers .ensures),
     )
 
--- src/lib.rt:45:1
 returns-4 : tie.Need-returns-4
 unfolding heading
 returns-4 c =

@@ -2,10 +2,7 @@ use mathlib.Core.Path.{refl}
 use Rattle.model.specs.Totals.{over}
 use Rattle.reading.proofs.over.Statement.{statement}
 use Rattle.reading.proofs.over.Tie as tie
-use Rattle.reading.proofs.over.Reads as reads
-use Rattle.reading.proofs.over.Lts as lts
 
--- src/lib.rt:101:1
 returns : tie.Need-returns
 unfolding over
 returns c = refl

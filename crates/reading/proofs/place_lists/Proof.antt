@@ -4,57 +4,42 @@ use Rattle.hir.proofs.Answers.{says}
 use borrow.Author.Needs.{needs}
 use Rattle.reading.proofs.place_lists.Statement.{statement}
 use Rattle.reading.proofs.place_lists.Tie as tie
-use Rattle.reading.proofs.place_lists.Reads as reads
-use Rattle.reading.proofs.place_lists.Lts as lts
-use Rattle.hir.proofs.Cursor.fixed.Reads as fixed-reads
-use Rattle.hir.proofs.Cursor.place.Reads as place-reads
-use Rattle.reading.proofs.sections.places.Reads as places-reads
 
--- src/lib.rt:70:11
 places-requires : tie.Need-places-requires
 places-requires c κs = search needs
 
--- src/lib.rt:71:26
 enum-known-c1 : tie.Need-enum-known-c1
 enum-known-c1 c = search needs
 
--- src/lib.rt:71:39
 places-requires-2 : tie.Need-places-requires-2
 places-requires-2 c κs = search needs
 
--- src/lib.rt:72:30
 enum-known-c2 : tie.Need-enum-known-c2
 enum-known-c2 c = search needs
 
--- src/lib.rt:72:43
 fixed-requires : tie.Need-fixed-requires
 fixed-requires c κs = search needs
 
--- src/lib.rt:73:34
 enum-known-c3 : tie.Need-enum-known-c3
 enum-known-c3 c = search needs
 
--- src/lib.rt:73:41
 place-requires : tie.Need-place-requires
 place-requires c κs = search needs
 
--- src/lib.rt:74:35
 enum-known-k3 : tie.Need-enum-known-k3
 enum-known-k3 c = search needs
 
--- src/lib.rt:76:31
 enum-known-k2 : tie.Need-enum-known-k2
 enum-known-k2 c = search needs
 
--- src/lib.rt:78:27
 enum-known-k1 : tie.Need-enum-known-k1
 enum-known-k1 c = search needs
 
--- src/lib.rt:67:1
 returns : tie.Need-returns
 unfolding placeLists
 returns c =
-    let b4 = c .before .before .before .before in
+    let b3 = c .before .before .before in
+    let b4 = b3 .before in
     let b6 = b4 .before .before in
     let b8 = b6 .before .before in
     let b10 = b8 .before .before in
@@ -65,7 +50,6 @@ returns c =
       says wordSays (c .before .before .c3 .given .1) (b4 .fixed .ensures),
     ) (c .place .ensures)
 
--- src/lib.rt:67:1
 returns-2 : tie.Need-returns-2
 unfolding placeLists
 returns-2 c =
@@ -80,7 +64,6 @@ returns-2 c =
       says wordSays (c .before .k3 .given .1) (b3 .fixed .ensures),
     )
 
--- src/lib.rt:67:1
 returns-3 : tie.Need-returns-3
 unfolding placeLists
 returns-3 c =
@@ -92,7 +75,6 @@ returns-3 c =
       says wordSays (c .before .k2 .given .1) (b3 .places2 .ensures),
     )
 
--- src/lib.rt:67:1
 returns-4 : tie.Need-returns-4
 unfolding placeLists
 returns-4 c =

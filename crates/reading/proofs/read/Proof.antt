@@ -7,61 +7,49 @@ use Rattle.hir.proofs.Answers.{says}
 use borrow.Author.Needs.{needs}
 use Rattle.reading.proofs.read.Statement.{statement}
 use Rattle.reading.proofs.read.Tie as tie
-use Rattle.reading.proofs.read.Reads as reads
-use Rattle.reading.proofs.read.Lts as lts
-use Rattle.reading.proofs.over.Reads as over-reads
-use Rattle.reading.proofs.sheet.Reads as sheet-reads
 
--- src/lib.rt:112:9
 returns : tie.Need-returns
 unfolding read
 returns c = rw (lt-ltb _ _ (c .if1 .taken))
 
--- src/lib.rt:114:11
 sheet-requires : tie.Need-sheet-requires
 sheet-requires c κs = search needs
 
--- src/lib.rt:115:25
 enum-known-t : tie.Need-enum-known-t
 enum-known-t c = search needs
 
--- src/lib.rt:118:17
 returns-2 : tie.Need-returns-2
 unfolding read
 returns-2 c =
-    let b4 = c .before .before .before .before in
+    let b3 = c .before .before .before in
+    let b4 = b3 .before in
     let b5 = b4 .before in
     rw (le-ltb _ _ (b5 .if1 .left)) (judged-seven _ _ _ (says totalsSays (c .before .before .t .given .1) (b4 .sheet .ensures)) (c .if2 .taken))
 
--- src/lib.rt:120:16
 over-requires : tie.Need-over-requires
 over-requires c κs = search needs
 
--- src/lib.rt:121:17
 returns-3 : tie.Need-returns-3
 unfolding read
 returns-3 c =
-    let b4 = c .before .before .before .before in
+    let b3 = c .before .before .before in
+    let b4 = b3 .before in
     let b6 = b4 .before .before in
     let b7 = b6 .before in
-    rw (le-ltb _ _ (b7 .if1 .left)) (judged-eight _ _ _ (says totalsSays (b4 .t .given .1) (b6 .sheet .ensures)) (c .before .before .if2 .left) (sym (c .before .over .ensures)
-    ∙ c .if3 .taken))
+    rw (le-ltb _ _ (b7 .if1 .left)) (judged-eight _ _ _ (says totalsSays (b4 .t .given .1) (b6 .sheet .ensures)) (c .before .before .if2 .left) (sym (c .before .over .ensures) ∙ c .if3 .taken))
 
--- src/lib.rt:125:29
 enum-known-k : tie.Need-enum-known-k
 enum-known-k c = search needs
 
--- src/lib.rt:108:1
 returns-4 : tie.Need-returns-4
 unfolding read
 returns-4 c =
-    let b4 = c .before .before .before .before in
+    let b3 = c .before .before .before in
+    let b4 = b3 .before in
     let b6 = b4 .before .before in
     let b7 = b6 .before in
-    rw (le-ltb _ _ (b7 .if1 .left)) (judged-accepted _ _ _ (says totalsSays (b4 .t .given .1) (b6 .sheet .ensures)) (c .before .before .if2 .left) (sym (c .before .over .ensures)
-    ∙ c .if3 .left))
+    rw (le-ltb _ _ (b7 .if1 .left)) (judged-accepted _ _ _ (says totalsSays (b4 .t .given .1) (b6 .sheet .ensures)) (c .before .before .if2 .left) (sym (c .before .over .ensures) ∙ c .if3 .left))
 
--- src/lib.rt:108:1
 returns-5 : tie.Need-returns-5
 unfolding read
 returns-5 c =

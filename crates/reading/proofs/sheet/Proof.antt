@@ -5,45 +5,33 @@ use Rattle.hir.proofs.Answers.{says}
 use borrow.Author.Needs.{needs}
 use Rattle.reading.proofs.sheet.Statement.{statement}
 use Rattle.reading.proofs.sheet.Tie as tie
-use Rattle.reading.proofs.sheet.Reads as reads
-use Rattle.reading.proofs.sheet.Lts as lts
-use Rattle.blocks.proofs.blocks.Reads as blocks-reads
-use Rattle.reading.proofs.head.Reads as head-reads
-use Rattle.reading.proofs.place_lists.Reads as place-lists-reads
 
--- src/lib.rt:87:11
 head-requires : tie.Need-head-requires
 head-requires c κs = search needs
 
--- src/lib.rt:88:26
 enum-known-h : tie.Need-enum-known-h
 enum-known-h c = search needs
 
--- src/lib.rt:91:19
 place-lists-requires : tie.Need-place-lists-requires
 place-lists-requires c κs = search needs
 
--- src/lib.rt:92:35
 enum-known-c2 : tie.Need-enum-known-c2
 enum-known-c2 c = search needs
 
--- src/lib.rt:92:42
 blocks-requires : tie.Need-blocks-requires
 blocks-requires c κs = search needs
 
--- src/lib.rt:93:36
 enum-known-k2 : tie.Need-enum-known-k2
 enum-known-k2 c = search needs
 
--- src/lib.rt:96:30
 enum-known-k1 : tie.Need-enum-known-k1
 enum-known-k1 c = search needs
 
--- src/lib.rt:83:1
 returns : tie.Need-returns
 unfolding judgedSheet
 returns c =
-    let b4 = c .before .before .before .before in
+    let b3 = c .before .before .before in
+    let b4 = b3 .before in
     let b6 = b4 .before .before in
     let b8 = b6 .before .before in
     rw (
@@ -51,7 +39,6 @@ returns c =
       says placeSays (c .before .before .c2 .given .1) (b4 .place-lists .ensures),
     ) (c .blocks2 .ensures)
 
--- src/lib.rt:83:1
 returns-2 : tie.Need-returns-2
 unfolding judgedSheet
 returns-2 c =
@@ -63,7 +50,6 @@ returns-2 c =
       says placeSays (c .before .k2 .given .1) (b3 .place-lists .ensures),
     )
 
--- src/lib.rt:83:1
 returns-3 : tie.Need-returns-3
 unfolding judgedSheet
 returns-3 c =

@@ -4,23 +4,13 @@ use Rattle.blocks.specs.Judging.{tellKind}
 use borrow.Author.Needs.{needs}
 use Rattle.blocks.proofs.Totals.effect.Statement.{statement}
 use Rattle.blocks.proofs.Totals.effect.Tie as tie
-use Rattle.blocks.proofs.Totals.effect.Reads as reads
-use Rattle.blocks.proofs.Totals.effect.Lts as lts
-use Rattle.blocks.proofs.Totals.mutation.Reads as mutation-reads
-use Rattle.blocks.proofs.Totals.relation.Reads as relation-reads
-use Rattle.blocks.proofs.Totals.render.Reads as render-reads
-use Rattle.effects.proofs.role_of.Reads as role-of-reads
-use Rattle.hir.proofs.EffectKind.number.Reads as number-reads
 
--- src/counts.rt:51:16
 number-requires : tie.Need-number-requires
 number-requires c κs = search needs
 
--- src/counts.rt:52:17
 relation-requires : tie.Need-relation-requires
 relation-requires c κs = search needs
 
--- src/counts.rt:52:17
 returns : tie.Need-returns
 unfolding tellKind
 returns c =
@@ -32,48 +22,37 @@ returns c =
       eq-eqb _ _ (c .before .if2 .taken),
     ) (c .relation .ensures)
 
--- src/counts.rt:54:13
 returns-2 : tie.Need-returns-2
 unfolding tellKind
 returns-2 c = rw (c .before .before .if1 .taken, number-same, ← c .before .number .ensures, ne-eqb _ _ (c .if2 .left))
 
--- src/counts.rt:56:13
 role-of-requires : tie.Need-role-of-requires
 role-of-requires c κs = search needs
 
--- src/counts.rt:58:31
 enum-told : tie.Need-enum-told
 enum-told c = search needs
 
--- src/counts.rt:58:31
 relation-requires-2 : tie.Need-relation-requires-2
 relation-requires-2 c κs = search needs
 
--- src/counts.rt:59:31
 enum-told-2 : tie.Need-enum-told-2
 enum-told-2 c = search needs
 
--- src/counts.rt:59:31
 mutation-requires : tie.Need-mutation-requires
 mutation-requires c κs = search needs
 
--- src/counts.rt:60:29
 enum-told-3 : tie.Need-enum-told-3
 enum-told-3 c = search needs
 
--- src/counts.rt:60:29
 render-requires : tie.Need-render-requires
 render-requires c κs = search needs
 
--- src/counts.rt:61:32
 enum-told-4 : tie.Need-enum-told-4
 enum-told-4 c = search needs
 
--- src/counts.rt:62:30
 enum-told-5 : tie.Need-enum-told-5
 enum-told-5 c = search needs
 
--- src/counts.rt:47:5
 returns-3 : tie.Need-returns-3
 unfolding tellKind
 returns-3 c =
@@ -85,7 +64,6 @@ returns-3 c =
       c .before .enum-told .given .1,
     ) (c .relation2 .ensures)
 
--- src/counts.rt:47:5
 returns-4 : tie.Need-returns-4
 unfolding tellKind
 returns-4 c =
@@ -97,7 +75,6 @@ returns-4 c =
       c .before .enum-told2 .given .1,
     ) (c .mutation .ensures)
 
--- src/counts.rt:47:5
 returns-5 : tie.Need-returns-5
 unfolding tellKind
 returns-5 c =
@@ -109,7 +86,6 @@ returns-5 c =
       c .before .enum-told3 .given .1,
     ) (c .render .ensures)
 
--- src/counts.rt:47:5
 returns-6 : tie.Need-returns-6
 unfolding tellKind
 returns-6 c =
@@ -120,7 +96,6 @@ returns-6 c =
       c .enum-told4 .given .1,
     )
 
--- src/counts.rt:47:5
 returns-7 : tie.Need-returns-7
 unfolding tellKind
 returns-7 c =

@@ -2,15 +2,10 @@ use Rattle.blocks.specs.Judging.{withRelation}
 use borrow.Author.Needs.{needs}
 use Rattle.blocks.proofs.Totals.relation.Statement.{statement}
 use Rattle.blocks.proofs.Totals.relation.Tie as tie
-use Rattle.blocks.proofs.Totals.relation.Reads as reads
-use Rattle.blocks.proofs.Totals.relation.Lts as lts
-use Rattle.blocks.proofs.counts.bump.Reads as bump-reads
 
--- src/counts.rt:26:9
 bump-requires : tie.Need-bump-requires
 bump-requires c κs = search needs
 
--- src/counts.rt:22:5
 returns : tie.Need-returns
 unfolding withRelation
 returns c = rw (c .bump .ensures)

@@ -2,18 +2,13 @@ use borrow.Author.Tests.{lt-ltb, le-ltb}
 use borrow.Author.Needs.{needs}
 use Rattle.blocks.proofs.counts.bump.Statement.{statement}
 use Rattle.blocks.proofs.counts.bump.Tie as tie
-use Rattle.blocks.proofs.counts.bump.Reads as reads
-use Rattle.blocks.proofs.counts.bump.Lts as lts
 
--- src/counts.rt:16:16
 add-result : tie.Need-add-result
 add-result c = search needs
 
--- src/counts.rt:16:9
 returns : tie.Need-returns
 returns c = rw (lt-ltb _ _ (c .if1 .taken))
 
--- src/counts.rt:12:1
 returns-2 : tie.Need-returns-2
 returns-2 c = rw (le-ltb _ _ (c .if1 .left))
 

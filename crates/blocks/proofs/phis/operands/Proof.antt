@@ -15,12 +15,6 @@ use borrow.Author.Needs.{needs}
 use Rattle.hir.proofs.Answers.{says}
 use Rattle.blocks.proofs.phis.operands.Statement.{statement}
 use Rattle.blocks.proofs.phis.operands.Tie as tie
-use Rattle.blocks.proofs.phis.operands.Reads as reads
-use Rattle.blocks.proofs.phis.operands.Lts as lts
-use Rattle.blocks.proofs.Totals.relation.Reads as relation-reads
-use Rattle.blocks.proofs.phis.listed.Reads as listed-reads
-use Rattle.hir.proofs.Cursor.block_number.Reads as block-number-reads
-use Rattle.hir.proofs.Cursor.place.Reads as place-reads
 
 abbrev Inv-loop : tie.InvT-loop
 Inv-loop s n count numbers₀ left₀ c₀ t₀ free₀ numbers left c t free = (judge (numbered left₀ [] (operand n)) (each tellOperand) (totalsAre t₀) s (c₀ .at)
@@ -29,27 +23,21 @@ Inv-loop s n count numbers₀ left₀ c₀ t₀ free₀ numbers left c t free = 
 abbrev μ-loop : tie.MeasureT-loop
 μ-loop s n count numbers₀ left₀ c₀ t₀ free₀ numbers left c t free = left
 
--- src/phis.rt:49:5
 loop-holds : tie.Need-loop-holds Inv-loop μ-loop
 loop-holds c = (nothing-used _ _ _ _ (c .before .before .args .numbers .now) _ _ _ refl, c .before .before .pre, omega arith, refl)
 
--- src/phis.rt:52:15
 block-number-requires : tie.Need-block-number-requires Inv-loop μ-loop
 block-number-requires c κs = tt
 
--- src/phis.rt:53:28
 enum-known-b : tie.Need-enum-known-b Inv-loop μ-loop
 enum-known-b c = search needs
 
--- src/phis.rt:57:32
 enum-known-k1 : tie.Need-enum-known-k1 Inv-loop μ-loop
 enum-known-k1 c = search needs
 
--- src/phis.rt:58:17
 same-length : tie.Need-same-length Inv-loop μ-loop
 same-length c = search needs
 
--- src/phis.rt:58:17
 returns : tie.Need-returns Inv-loop μ-loop
 returns c =
     let b3 = c .before .before .before in
@@ -58,15 +46,12 @@ returns c =
     sym (b5 .loop .inv .0
     ∙ numbered-refused _ _ _ _ _ _ _ _ (b4 .loop-test .taken) (new-refused _ _ _ _ (says blockSays (c .before .k1 .given .1) (b3 .block-number .ensures))))
 
--- src/phis.rt:61:12
 listed-requires : tie.Need-listed-requires Inv-loop μ-loop
 listed-requires c κs = omega arith
 
--- src/phis.rt:62:13
 same-length-2 : tie.Need-same-length-2 Inv-loop μ-loop
 same-length-2 c = search needs
 
--- src/phis.rt:62:13
 returns-2 : tie.Need-returns-2 Inv-loop μ-loop
 returns-2 c =
     let b4 = c .before .before .before .before in
@@ -77,41 +62,32 @@ returns-2 c =
     ∙ numbered-refused _ _ _ _ _ _ _ _ (b7 .loop-test .taken) (new-used _ _ _ _ _ (says blockSays (b4 .b .given .1) (b6 .block-number .ensures)) (sym (c .before .listed .ensures)
     ∙ c .if1 .taken)))
 
--- src/phis.rt:64:9
 sub-free : tie.Need-sub-free Inv-loop μ-loop
 sub-free c = omega arith
 
--- src/phis.rt:65:9
 mul-numbers : tie.Need-mul-numbers Inv-loop μ-loop
 mul-numbers c = omega arith
 
--- src/phis.rt:65:9
 slice-write-numbers : tie.Need-slice-write-numbers Inv-loop μ-loop
 slice-write-numbers c = omega arith
 
--- src/phis.rt:66:15
 place-requires : tie.Need-place-requires Inv-loop μ-loop
 place-requires c κs = tt
 
--- src/phis.rt:67:31
 enum-known-d2 : tie.Need-enum-known-d2 Inv-loop μ-loop
 enum-known-d2 c = search needs
 
--- src/phis.rt:68:17
 relation-requires : tie.Need-relation-requires Inv-loop μ-loop
 relation-requires c κs = tt
 
--- src/phis.rt:71:32
 enum-known-k2 : tie.Need-enum-known-k2 Inv-loop μ-loop
 enum-known-k2 c = search needs
 
--- src/phis.rt:72:17
 same-length-3 : tie.Need-same-length-3 Inv-loop μ-loop
 same-length-3 c =
     let b12 = c .before .before .before .before .before .before .before .before .before .before .before .before in
     simp length-set (b12 .loop .inv .3)
 
--- src/phis.rt:72:17
 returns-3 : tie.Need-returns-3 Inv-loop μ-loop
 returns-3 c =
     let b3 = c .before .before .before in
@@ -125,15 +101,12 @@ returns-3 c =
     ∙ numbered-stop _ _ _ _ _ _ _ _ _ _ (b11 .loop-test .taken) (new-got _ _ _ _ _ (says blockSays (b8 .b .given .1) (b10 .block-number .ensures)) (sym (b5 .listed .ensures)
     ∙ b4 .if1 .left)) (operand-refused _ _ _ _ _ _ (says placeSays (c .before .k2 .given .1) (b3 .place .ensures))))
 
--- src/phis.rt:75:9
 sub-left : tie.Need-sub-left Inv-loop μ-loop
 sub-left c = omega arith
 
--- src/phis.rt:49:5
 loop-less : tie.Need-loop-less Inv-loop μ-loop
 loop-less c = omega arith
 
--- src/phis.rt:49:5
 loop-again : tie.Need-loop-again Inv-loop μ-loop
 loop-again c =
     let b4 = c .before .before .before .before in
@@ -146,11 +119,9 @@ loop-again c =
     let l = b13 .loop in
     (rw (c .relation .ensures) (l .inv .0 ∙ numbered-next _ _ _ _ _ _ _ _ _ _ _ (b12 .loop-test .taken) (new-got _ _ _ _ _ (says blockSays (b9 .b .given .1) (b11 .block-number .ensures)) (sym (b6 .listed .ensures) ∙ b5 .if1 .left)) (operand-got _ _ _ _ _ _ _ (says placeSays (c .before .before .d2 .given .1) (b4 .place .ensures))) ∙ one-stored _ _ _ _ (l .numbers) (l .free) _ _ _ (omega arith) (omega arith)), omega arith, simp length-set (omega arith), simp length-set (l .inv .3))
 
--- src/phis.rt:34:1
 same-length-4 : tie.Need-same-length-4 Inv-loop μ-loop
 same-length-4 c = search needs
 
--- src/phis.rt:34:1
 returns-4 : tie.Need-returns-4 Inv-loop μ-loop
 returns-4 c = sym (c .before .loop .inv .0 ∙ numbered-done _ _ _ _ _ _ _ (c .loop-test .left))
 

@@ -7,48 +7,34 @@ use Rattle.hir.proofs.Answers.{says}
 use borrow.Author.Needs.{needs}
 use Rattle.blocks.proofs.phis.phi.Statement.{statement}
 use Rattle.blocks.proofs.phis.phi.Tie as tie
-use Rattle.blocks.proofs.phis.phi.Reads as reads
-use Rattle.blocks.proofs.phis.phi.Lts as lts
-use Rattle.blocks.proofs.phis.operands.Reads as operands-reads
-use Rattle.hir.proofs.Cursor.count.Reads as count-reads
-use Rattle.hir.proofs.Cursor.place.Reads as place-reads
 
--- src/phis.rt:85:11
 place-requires : tie.Need-place-requires
 place-requires c κs = search needs
 
--- src/phis.rt:86:27
 enum-known-c1 : tie.Need-enum-known-c1
 enum-known-c1 c = search needs
 
--- src/phis.rt:86:40
 count-requires : tie.Need-count-requires
 count-requires c κs = search needs
 
--- src/phis.rt:87:27
 enum-known-count : tie.Need-enum-known-count
 enum-known-count c = search needs
 
--- src/phis.rt:87:41
 operands-requires : tie.Need-operands-requires
 operands-requires c κs =
     let b4 = c .before .before .before .before in
     let b11 = b4 .before .before .before .before .before .before .before in
     omega (arith, count-reads 1024 _ _ _ _ (says wordSays (c .before .before .count2 .given .1) (b4 .count .ensures)), b11 .pre)
 
--- src/phis.rt:88:31
 enum-known-k2 : tie.Need-enum-known-k2
 enum-known-k2 c = search needs
 
--- src/phis.rt:90:28
 enum-known-k1 : tie.Need-enum-known-k1
 enum-known-k1 c = search needs
 
--- src/phis.rt:81:1
 same-length : tie.Need-same-length
 same-length c = search needs
 
--- src/phis.rt:81:1
 returns : tie.Need-returns
 returns c =
     let b5 = c .before .before .before .before .before in
@@ -58,7 +44,6 @@ returns c =
     c .before .before .operands .ensures
     ∙ sym (phi-got _ _ _ _ _ _ _ _ (says placeSays (b9 .c1 .given .1) (b11 .place .ensures)) (says wordSays (b5 .count2 .given .1) (b7 .count .ensures)))
 
--- src/phis.rt:81:1
 returns-2 : tie.Need-returns-2
 returns-2 c =
     let b3 = c .before .before .before in
@@ -66,7 +51,6 @@ returns-2 c =
     let b7 = b5 .before .before in
     sym (phi-count-refused _ _ _ _ _ _ _ (says placeSays (b5 .c1 .given .1) (b7 .place .ensures)) (says wordSays (c .before .k2 .given .1) (b3 .count .ensures)))
 
--- src/phis.rt:81:1
 returns-3 : tie.Need-returns-3
 returns-3 c =
     let b3 = c .before .before .before in

@@ -12,10 +12,6 @@ use Rattle.hir.proofs.Answers.{says}
 use lib.ListN.{length}
 use Rattle.blocks.proofs.phis.phis.Statement.{statement}
 use Rattle.blocks.proofs.phis.phis.Tie as tie
-use Rattle.blocks.proofs.phis.phis.Reads as reads
-use Rattle.blocks.proofs.phis.phis.Lts as lts
-use Rattle.blocks.proofs.phis.phi.Reads as phi-reads
-use Rattle.hir.proofs.Cursor.count.Reads as count-reads
 
 abbrev Inv-loop : tie.InvT-loop
 Inv-loop s n numbers₀ left₀ c₀ t₀ numbers left c t = (judge (times left₀ (phi n)) (each tellPhi) (totalsAre t₀) s (c₀ .at)
@@ -24,45 +20,35 @@ Inv-loop s n numbers₀ left₀ c₀ t₀ numbers left c t = (judge (times left�
 abbrev μ-loop : tie.MeasureT-loop
 μ-loop s n numbers₀ left₀ c₀ t₀ numbers left c t = left
 
--- src/phis.rt:101:11
 count-requires : tie.Need-count-requires Inv-loop μ-loop
 count-requires c κs = tt
 
--- src/phis.rt:102:23
 enum-known-count : tie.Need-enum-known-count Inv-loop μ-loop
 enum-known-count c = search needs
 
--- src/phis.rt:106:27
 enum-known-k1 : tie.Need-enum-known-k1 Inv-loop μ-loop
 enum-known-k1 c = search needs
 
--- src/phis.rt:107:13
 returns : tie.Need-returns Inv-loop μ-loop
 returns c =
     let b3 = c .before .before .before in
     sym (section-refused _ _ _ _ _ _ _ (says wordSays (c .before .k1 .given .1) (b3 .count .ensures)))
 
--- src/phis.rt:111:5
 loop-holds : tie.Need-loop-holds Inv-loop μ-loop
 loop-holds c = (refl, refl)
 
--- src/phis.rt:112:15
 phi-requires : tie.Need-phi-requires Inv-loop μ-loop
 phi-requires c κs = omega (arith, c .before .before .loop .inv .1)
 
--- src/phis.rt:113:29
 enum-known-u : tie.Need-enum-known-u Inv-loop μ-loop
 enum-known-u c = search needs
 
--- src/phis.rt:117:33
 enum-known-k2 : tie.Need-enum-known-k2 Inv-loop μ-loop
 enum-known-k2 c = search needs
 
--- src/phis.rt:118:17
 same-length : tie.Need-same-length Inv-loop μ-loop
 same-length c = search needs
 
--- src/phis.rt:118:17
 returns-2 : tie.Need-returns-2 Inv-loop μ-loop
 returns-2 c =
     let b5 = c .before .before .before .before .before in
@@ -74,15 +60,12 @@ returns-2 c =
     ∙ b8 .loop .inv .0
     ∙ times-stop _ _ _ _ _ _ _ (b7 .loop-test .taken) (says totalsSays (c .before .k2 .given .1) (b5 .phi .ensures)))
 
--- src/phis.rt:121:9
 sub-left : tie.Need-sub-left Inv-loop μ-loop
 sub-left c = omega arith
 
--- src/phis.rt:111:5
 loop-less : tie.Need-loop-less Inv-loop μ-loop
 loop-less c = omega arith
 
--- src/phis.rt:111:5
 loop-again : tie.Need-loop-again Inv-loop μ-loop
 loop-again c =
     let b5 = c .before .before .before .before .before in
@@ -93,11 +76,9 @@ loop-again c =
       search needs,
     )
 
--- src/phis.rt:95:1
 same-length-2 : tie.Need-same-length-2 Inv-loop μ-loop
 same-length-2 c = search needs
 
--- src/phis.rt:95:1
 returns-3 : tie.Need-returns-3 Inv-loop μ-loop
 returns-3 c =
     let b3 = c .before .before .before in

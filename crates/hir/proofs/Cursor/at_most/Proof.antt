@@ -5,23 +5,16 @@ use borrow.Author.Tests.{le-leb, lt-leb}
 use borrow.Author.Needs.{needs}
 use Rattle.hir.proofs.Cursor.at_most.Statement.{statement}
 use Rattle.hir.proofs.Cursor.at_most.Tie as tie
-use Rattle.hir.proofs.Cursor.at_most.Reads as reads
-use Rattle.hir.proofs.Cursor.at_most.Lts as lts
-use Rattle.hir.proofs.Cursor.word.Reads as word-reads
 
--- src/words.rt:61:15
 word-requires : tie.Need-word-requires
 word-requires c κs = search needs
 
--- src/words.rt:62:27
 enum-known-w : tie.Need-enum-known-w
 enum-known-w c = search needs
 
--- src/words.rt:69:31
 enum-known-k : tie.Need-enum-known-k
 enum-known-k c = search needs
 
--- src/words.rt:58:5
 returns : tie.Need-returns
 unfolding atMost
 returns c =
@@ -31,7 +24,6 @@ returns c =
       le-leb _ _ (c .if1 .taken),
     )
 
--- src/words.rt:58:5
 returns-2 : tie.Need-returns-2
 unfolding atMost
 returns-2 c =
@@ -41,7 +33,6 @@ returns-2 c =
       lt-leb _ _ (c .if1 .left),
     )
 
--- src/words.rt:58:5
 returns-3 : tie.Need-returns-3
 unfolding atMost
 returns-3 c =

@@ -5,23 +5,16 @@ use borrow.Author.Tests.{lt-ltb, le-ltb}
 use borrow.Author.Needs.{needs}
 use Rattle.hir.proofs.Cursor.below.Statement.{statement}
 use Rattle.hir.proofs.Cursor.below.Tie as tie
-use Rattle.hir.proofs.Cursor.below.Reads as reads
-use Rattle.hir.proofs.Cursor.below.Lts as lts
-use Rattle.hir.proofs.Cursor.word.Reads as word-reads
 
--- src/words.rt:77:15
 word-requires : tie.Need-word-requires
 word-requires c κs = search needs
 
--- src/words.rt:78:27
 enum-known-w : tie.Need-enum-known-w
 enum-known-w c = search needs
 
--- src/words.rt:85:31
 enum-known-k : tie.Need-enum-known-k
 enum-known-k c = search needs
 
--- src/words.rt:74:5
 returns : tie.Need-returns
 unfolding below
 returns c =
@@ -31,7 +24,6 @@ returns c =
       lt-ltb _ _ (c .if1 .taken),
     )
 
--- src/words.rt:74:5
 returns-2 : tie.Need-returns-2
 unfolding below
 returns-2 c =
@@ -41,7 +33,6 @@ returns-2 c =
       le-ltb _ _ (c .if1 .left),
     )
 
--- src/words.rt:74:5
 returns-3 : tie.Need-returns-3
 unfolding below
 returns-3 c =

@@ -5,23 +5,16 @@ use borrow.Author.Tests.{eq-eqb, ne-eqb}
 use borrow.Author.Needs.{needs}
 use Rattle.hir.proofs.Cursor.fixed.Statement.{statement}
 use Rattle.hir.proofs.Cursor.fixed.Tie as tie
-use Rattle.hir.proofs.Cursor.fixed.Reads as reads
-use Rattle.hir.proofs.Cursor.fixed.Lts as lts
-use Rattle.hir.proofs.Cursor.word.Reads as word-reads
 
--- src/words.rt:45:15
 word-requires : tie.Need-word-requires
 word-requires c κs = search needs
 
--- src/words.rt:46:27
 enum-known-w : tie.Need-enum-known-w
 enum-known-w c = search needs
 
--- src/words.rt:53:31
 enum-known-k : tie.Need-enum-known-k
 enum-known-k c = search needs
 
--- src/words.rt:42:5
 returns : tie.Need-returns
 unfolding fixed
 returns c =
@@ -31,7 +24,6 @@ returns c =
       eq-eqb _ _ (c .if1 .taken),
     )
 
--- src/words.rt:42:5
 returns-2 : tie.Need-returns-2
 unfolding fixed
 returns-2 c =
@@ -41,7 +33,6 @@ returns-2 c =
       ne-eqb _ _ (c .if1 .left),
     )
 
--- src/words.rt:42:5
 returns-3 : tie.Need-returns-3
 unfolding fixed
 returns-3 c =

@@ -4,48 +4,34 @@ use Rattle.model.specs.Sections.{flags, flag}
 use borrow.Author.Needs.{needs}
 use Rattle.hir.proofs.Cursor.flags.Statement.{statement}
 use Rattle.hir.proofs.Cursor.flags.Tie as tie
-use Rattle.hir.proofs.Cursor.flags.Reads as reads
-use Rattle.hir.proofs.Cursor.flags.Lts as lts
-use Rattle.hir.proofs.Cursor.at_most.Reads as at-most-reads
-use Rattle.hir.proofs.Cursor.fixed.Reads as fixed-reads
 
--- src/parts.rt:76:15
 fixed-requires : tie.Need-fixed-requires
 fixed-requires c κs = search needs
 
--- src/parts.rt:77:30
 enum-known-c1 : tie.Need-enum-known-c1
 enum-known-c1 c = search needs
 
--- src/parts.rt:77:43
 at-most-requires : tie.Need-at-most-requires
 at-most-requires c κs = search needs
 
--- src/parts.rt:78:31
 enum-known-expression : tie.Need-enum-known-expression
 enum-known-expression c = search needs
 
--- src/parts.rt:78:56
 at-most-requires-2 : tie.Need-at-most-requires-2
 at-most-requires-2 c κs = search needs
 
--- src/parts.rt:79:35
 enum-known-validations : tie.Need-enum-known-validations
 enum-known-validations c = search needs
 
--- src/parts.rt:86:39
 enum-known-k3 : tie.Need-enum-known-k3
 enum-known-k3 c = search needs
 
--- src/parts.rt:88:35
 enum-known-k2 : tie.Need-enum-known-k2
 enum-known-k2 c = search needs
 
--- src/parts.rt:90:31
 enum-known-k1 : tie.Need-enum-known-k1
 enum-known-k1 c = search needs
 
--- src/parts.rt:73:5
 returns : tie.Need-returns
 unfolding flags flag
 returns c =
@@ -60,7 +46,6 @@ returns c =
       says wordSays (c .before .validations .given .1) (b3 .at-most2 .ensures),
     )
 
--- src/parts.rt:73:5
 returns-2 : tie.Need-returns-2
 unfolding flags flag
 returns-2 c =
@@ -75,7 +60,6 @@ returns-2 c =
       says wordSays (c .before .k3 .given .1) (b3 .at-most2 .ensures),
     )
 
--- src/parts.rt:73:5
 returns-3 : tie.Need-returns-3
 unfolding flags flag
 returns-3 c =
@@ -87,7 +71,6 @@ returns-3 c =
       says wordSays (c .before .k2 .given .1) (b3 .at-most .ensures),
     )
 
--- src/parts.rt:73:5
 returns-4 : tie.Need-returns-4
 unfolding flags
 returns-4 c =

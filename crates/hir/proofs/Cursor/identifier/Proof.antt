@@ -4,52 +4,37 @@ use Rattle.model.specs.Sections.{identifier}
 use borrow.Author.Needs.{needs}
 use Rattle.hir.proofs.Cursor.identifier.Statement.{statement}
 use Rattle.hir.proofs.Cursor.identifier.Tie as tie
-use Rattle.hir.proofs.Cursor.identifier.Reads as reads
-use Rattle.hir.proofs.Cursor.identifier.Lts as lts
-use Rattle.hir.proofs.Cursor.at_most.Reads as at-most-reads
-use Rattle.hir.proofs.parts.type_of.Reads as type-of-reads
 
--- src/parts.rt:98:15
 at-most-requires : tie.Need-at-most-requires
 at-most-requires c κs = search needs
 
--- src/parts.rt:99:27
 enum-known-start : tie.Need-enum-known-start
 enum-known-start c = search needs
 
--- src/parts.rt:99:47
 at-most-requires-2 : tie.Need-at-most-requires-2
 at-most-requires-2 c κs = search needs
 
--- src/parts.rt:100:31
 enum-known-end : tie.Need-enum-known-end
 enum-known-end c = search needs
 
--- src/parts.rt:100:49
 at-most-requires-3 : tie.Need-at-most-requires-3
 at-most-requires-3 c κs = search needs
 
--- src/parts.rt:101:35
 enum-known-number : tie.Need-enum-known-number
 enum-known-number c = search needs
 
--- src/parts.rt:106:29
 type-of-requires : tie.Need-type-of-requires
 type-of-requires c κs = search needs
 
--- src/parts.rt:113:39
 enum-known-k3 : tie.Need-enum-known-k3
 enum-known-k3 c = search needs
 
--- src/parts.rt:115:35
 enum-known-k2 : tie.Need-enum-known-k2
 enum-known-k2 c = search needs
 
--- src/parts.rt:117:31
 enum-known-k1 : tie.Need-enum-known-k1
 enum-known-k1 c = search needs
 
--- src/parts.rt:95:5
 returns : tie.Need-returns
 unfolding identifier
 returns c =
@@ -65,7 +50,6 @@ returns c =
       c .type-of .ensures,
     )
 
--- src/parts.rt:95:5
 returns-2 : tie.Need-returns-2
 unfolding identifier
 returns-2 c =
@@ -80,7 +64,6 @@ returns-2 c =
       says wordSays (c .before .k3 .given .1) (b3 .at-most3 .ensures),
     )
 
--- src/parts.rt:95:5
 returns-3 : tie.Need-returns-3
 unfolding identifier
 returns-3 c =
@@ -92,7 +75,6 @@ returns-3 c =
       says wordSays (c .before .k2 .given .1) (b3 .at-most2 .ensures),
     )
 
--- src/parts.rt:95:5
 returns-4 : tie.Need-returns-4
 unfolding identifier
 returns-4 c =

@@ -3,19 +3,14 @@ use borrow.Author.Tests.{le-leb, lt-leb}
 use borrow.Author.Needs.{needs}
 use Rattle.hir.proofs.Cursor.skip.Statement.{statement}
 use Rattle.hir.proofs.Cursor.skip.Tie as tie
-use Rattle.hir.proofs.Cursor.skip.Reads as reads
-use Rattle.hir.proofs.Cursor.skip.Lts as lts
 
--- src/words.rt:96:33
 add-t6 : tie.Need-add-t6
 add-t6 c = search needs
 
--- src/words.rt:96:13
 returns : tie.Need-returns
 unfolding skipped
 returns c = rw (le-leb _ _ (c .if1 .taken))
 
--- src/words.rt:90:5
 returns-2 : tie.Need-returns-2
 unfolding skipped
 returns-2 c = rw (lt-leb _ _ (c .if1 .left))

@@ -7,36 +7,27 @@ use native.Mathlib.Omega.{arith}
 use borrow.Author.Needs.{needs}
 use Rattle.hir.proofs.Cursor.terminal_kind.Statement.{statement}
 use Rattle.hir.proofs.Cursor.terminal_kind.Tie as tie
-use Rattle.hir.proofs.Cursor.terminal_kind.Reads as reads
-use Rattle.hir.proofs.Cursor.terminal_kind.Lts as lts
-use Rattle.hir.proofs.Cursor.at_most.Reads as at-most-reads
 
--- src/parts.rt:58:15
 at-most-requires : tie.Need-at-most-requires
 at-most-requires c κs = search needs
 
--- src/parts.rt:59:27
 enum-known-w : tie.Need-enum-known-w
 enum-known-w c = search needs
 
--- src/parts.rt:61:21
 returns : tie.Need-returns
 returns c =
     let b4 = c .before .before .before .before in
     rw (says wordSays (c .before .before .w .given .1) (b4 .at-most .ensures), c .if1 .taken)
 
--- src/parts.rt:64:21
 returns-2 : tie.Need-returns-2
 returns-2 c =
     let b3 = c .before .before .before in
     let b5 = b3 .before .before in
     rw (says wordSays (b3 .w .given .1) (b5 .at-most .ensures), c .if2 .taken)
 
--- src/parts.rt:68:31
 enum-known-k : tie.Need-enum-known-k
 enum-known-k c = search needs
 
--- src/parts.rt:55:5
 returns-3 : tie.Need-returns-3
 returns-3 c =
     let b3 = c .before .before .before in
@@ -46,7 +37,6 @@ returns-3 c =
     let e : w ≡ 2 = omega arith in
     rw (says wordSays (b3 .w .given .1) (b5 .at-most .ensures), e)
 
--- src/parts.rt:55:5
 returns-4 : tie.Need-returns-4
 returns-4 c =
     let b3 = c .before .before .before in

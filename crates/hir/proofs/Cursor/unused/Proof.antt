@@ -4,47 +4,34 @@ use Rattle.model.specs.Sections.{unused}
 use borrow.Author.Needs.{needs}
 use Rattle.hir.proofs.Cursor.unused.Statement.{statement}
 use Rattle.hir.proofs.Cursor.unused.Tie as tie
-use Rattle.hir.proofs.Cursor.unused.Reads as reads
-use Rattle.hir.proofs.Cursor.unused.Lts as lts
-use Rattle.hir.proofs.Cursor.at_most.Reads as at-most-reads
 
--- src/places.rt:79:15
 at-most-requires : tie.Need-at-most-requires
 at-most-requires c κs = search needs
 
--- src/places.rt:80:30
 enum-known-c1 : tie.Need-enum-known-c1
 enum-known-c1 c = search needs
 
--- src/places.rt:80:43
 at-most-requires-2 : tie.Need-at-most-requires-2
 at-most-requires-2 c κs = search needs
 
--- src/places.rt:81:34
 enum-known-c2 : tie.Need-enum-known-c2
 enum-known-c2 c = search needs
 
--- src/places.rt:81:47
 at-most-requires-3 : tie.Need-at-most-requires-3
 at-most-requires-3 c κs = search needs
 
--- src/places.rt:82:38
 enum-known-c3 : tie.Need-enum-known-c3
 enum-known-c3 c = search needs
 
--- src/places.rt:91:39
 enum-known-k3 : tie.Need-enum-known-k3
 enum-known-k3 c = search needs
 
--- src/places.rt:93:35
 enum-known-k2 : tie.Need-enum-known-k2
 enum-known-k2 c = search needs
 
--- src/places.rt:95:31
 enum-known-k1 : tie.Need-enum-known-k1
 enum-known-k1 c = search needs
 
--- src/places.rt:76:5
 returns : tie.Need-returns
 unfolding unused
 returns c =
@@ -59,7 +46,6 @@ returns c =
       says wordSays (c .before .c3 .given .1) (b3 .at-most3 .ensures),
     )
 
--- src/places.rt:76:5
 returns-2 : tie.Need-returns-2
 unfolding unused
 returns-2 c =
@@ -74,7 +60,6 @@ returns-2 c =
       says wordSays (c .before .k3 .given .1) (b3 .at-most3 .ensures),
     )
 
--- src/places.rt:76:5
 returns-3 : tie.Need-returns-3
 unfolding unused
 returns-3 c =
@@ -86,7 +71,6 @@ returns-3 c =
       says wordSays (c .before .k2 .given .1) (b3 .at-most2 .ensures),
     )
 
--- src/places.rt:76:5
 returns-4 : tie.Need-returns-4
 unfolding unused
 returns-4 c =

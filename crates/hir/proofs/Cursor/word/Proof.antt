@@ -3,27 +3,20 @@ use borrow.Author.Tests.{lt-ltb, le-ltb}
 use borrow.Author.Needs.{needs}
 use Rattle.hir.proofs.Cursor.word.Statement.{statement}
 use Rattle.hir.proofs.Cursor.word.Tie as tie
-use Rattle.hir.proofs.Cursor.word.Reads as reads
-use Rattle.hir.proofs.Cursor.word.Lts as lts
 
--- src/words.rt:18:37
 add-t8 : tie.Need-add-t8
 add-t8 c = search needs
 
--- src/words.rt:19:27
 mul-t8 : tie.Need-mul-t8
 mul-t8 c = search needs
 
--- src/words.rt:19:27
 shared-slice-read-t10 : tie.Need-shared-slice-read-t10
 shared-slice-read-t10 c = search needs
 
--- src/words.rt:13:5
 returns : tie.Need-returns
 unfolding word
 returns c = rw (lt-ltb _ _ (c .before .if1 .taken))
 
--- src/words.rt:13:5
 returns-2 : tie.Need-returns-2
 unfolding word
 returns-2 c = rw (le-ltb _ _ (c .if1 .left))

@@ -1,19 +1,13 @@
 use Rattle.hir.proofs.Ranges.{other-type}
-use borrow.Author.Needs.{needs}
 use Rattle.hir.proofs.parts.type_of.Statement.{statement}
 use Rattle.hir.proofs.parts.type_of.Tie as tie
-use Rattle.hir.proofs.parts.type_of.Reads as reads
-use Rattle.hir.proofs.parts.type_of.Lts as lts
 
--- src/parts.rt:29:9
 returns : tie.Need-returns
 returns c = rw (c .if1 .taken)
 
--- src/parts.rt:32:9
 returns-2 : tie.Need-returns-2
 returns-2 c = rw (c .if2 .taken)
 
--- src/parts.rt:25:1
 returns-3 : tie.Need-returns-3
 returns-3 c = other-type _ (c .before .if1 .left) (c .if2 .left)
 

@@ -5,18 +5,13 @@ use Rattle.model.specs.Traits.{effectOf}
 use borrow.Author.Needs.{needs}
 use Rattle.hir.proofs.places.effect_of.Statement.{statement}
 use Rattle.hir.proofs.places.effect_of.Tie as tie
-use Rattle.hir.proofs.places.effect_of.Reads as reads
-use Rattle.hir.proofs.places.effect_of.Lts as lts
 
--- src/places.rt:30:13
 cast-k : tie.Need-cast-k
 cast-k c = search needs
 
--- src/places.rt:31:5
 array-copy-out-result : tie.Need-array-copy-out-result
 array-copy-out-result c = search needs
 
--- src/places.rt:27:1
 returns : tie.Need-returns
 unfolding effectOf
 returns c = effect-right _ (mod-lt (c .before .args .traits) {m = 8} (omega arith))

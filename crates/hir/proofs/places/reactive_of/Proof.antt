@@ -2,10 +2,7 @@ use mathlib.Core.Path.{refl}
 use Rattle.model.specs.Traits.{reactiveOf}
 use Rattle.hir.proofs.places.reactive_of.Statement.{statement}
 use Rattle.hir.proofs.places.reactive_of.Tie as tie
-use Rattle.hir.proofs.places.reactive_of.Reads as reads
-use Rattle.hir.proofs.places.reactive_of.Lts as lts
 
--- src/places.rt:31:1
 returns : tie.Need-returns
 unfolding reactiveOf
 returns c = refl

@@ -4,24 +4,17 @@ use Rattle.model.specs.Traits.{traitsWord}
 use borrow.Author.Needs.{needs}
 use Rattle.hir.proofs.places.traits_word.Statement.{statement}
 use Rattle.hir.proofs.places.traits_word.Tie as tie
-use Rattle.hir.proofs.places.traits_word.Reads as reads
-use Rattle.hir.proofs.places.traits_word.Lts as lts
-use Rattle.hir.proofs.Effect.number.Reads as number-reads
 
--- src/places.rt:41:9
 number-requires : tie.Need-number-requires
 number-requires c κs = search needs
 
--- src/places.rt:43:16
 add-result : tie.Need-add-result
 add-result c = omega (arith, effect-number (c .before .before .args .effect), c .before .number .ensures)
 
--- src/places.rt:43:9
 returns : tie.Need-returns
 unfolding traitsWord
 returns c = rw (c .before .number .ensures, c .if1 .taken)
 
--- src/places.rt:38:1
 returns-2 : tie.Need-returns-2
 unfolding traitsWord
 returns-2 c = rw (c .before .number .ensures, c .if1 .left) (omega arith)

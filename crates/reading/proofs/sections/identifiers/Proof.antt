@@ -12,10 +12,6 @@ use borrow.Author.Needs.{needs}
 use Rattle.hir.proofs.Answers.{says}
 use Rattle.reading.proofs.sections.identifiers.Statement.{statement}
 use Rattle.reading.proofs.sections.identifiers.Tie as tie
-use Rattle.reading.proofs.sections.identifiers.Reads as reads
-use Rattle.reading.proofs.sections.identifiers.Lts as lts
-use Rattle.hir.proofs.Cursor.count.Reads as count-reads
-use Rattle.hir.proofs.Cursor.identifier.Reads as identifier-reads
 
 abbrev Inv-loop : tie.InvT-loop
 Inv-loop s count c₀ left₀ c left = judge (times left₀ identifier) (each skip) tt s (c₀ .at) ≡ judge (times left identifier) (each skip) tt s (c .at)
@@ -23,41 +19,32 @@ Inv-loop s count c₀ left₀ c left = judge (times left₀ identifier) (each sk
 abbrev μ-loop : tie.MeasureT-loop
 μ-loop s count c₀ left₀ c left = left
 
--- src/sections.rt:22:11
 count-requires : tie.Need-count-requires Inv-loop μ-loop
 count-requires c κs = tt
 
--- src/sections.rt:23:23
 enum-known-k : tie.Need-enum-known-k Inv-loop μ-loop
 enum-known-k c = search needs
 
--- src/sections.rt:27:27
 enum-known-k1 : tie.Need-enum-known-k1 Inv-loop μ-loop
 enum-known-k1 c = search needs
 
--- src/sections.rt:28:13
 returns : tie.Need-returns Inv-loop μ-loop
 returns c =
     let b3 = c .before .before .before in
     sym (count-stopped _ _ _ _ _ (says wordSays (c .before .k1 .given .1) (b3 .count .ensures)))
 
--- src/sections.rt:32:5
 loop-holds : tie.Need-loop-holds Inv-loop μ-loop
 loop-holds c = refl
 
--- src/sections.rt:33:15
 identifier-requires : tie.Need-identifier-requires Inv-loop μ-loop
 identifier-requires c κs = tt
 
--- src/sections.rt:34:36
 enum-known-d2 : tie.Need-enum-known-d2 Inv-loop μ-loop
 enum-known-d2 c = search needs
 
--- src/sections.rt:37:37
 enum-known-k2 : tie.Need-enum-known-k2 Inv-loop μ-loop
 enum-known-k2 c = search needs
 
--- src/sections.rt:38:17
 returns-2 : tie.Need-returns-2 Inv-loop μ-loop
 returns-2 c =
     let b3 = c .before .before .before in
@@ -68,15 +55,12 @@ returns-2 c =
     sym (section-stopped _ _ _ _ _ _ _ (says wordSays (b7 .k .given .1) (b9 .count .ensures)) (b5 .loop .inv
     ∙ times-stop _ _ _ _ _ _ _ (b4 .loop-test .taken) (judge-refused _ _ _ _ _ _ (says identifierSays (c .before .k2 .given .1) (b3 .identifier .ensures)))))
 
--- src/sections.rt:41:9
 sub-left : tie.Need-sub-left Inv-loop μ-loop
 sub-left c = omega arith
 
--- src/sections.rt:32:5
 loop-less : tie.Need-loop-less Inv-loop μ-loop
 loop-less c = omega arith
 
--- src/sections.rt:32:5
 loop-again : tie.Need-loop-again Inv-loop μ-loop
 loop-again c =
     let b3 = c .before .before .before in
@@ -85,7 +69,6 @@ loop-again c =
     b5 .loop .inv
     ∙ times-next _ _ _ _ _ _ _ _ (b4 .loop-test .taken) (judge-got _ _ _ _ _ _ _ (says identifierSays (c .before .d2 .given .1) (b3 .identifier .ensures)))
 
--- src/sections.rt:17:1
 returns-3 : tie.Need-returns-3 Inv-loop μ-loop
 returns-3 c =
     let b3 = c .before .before .before in

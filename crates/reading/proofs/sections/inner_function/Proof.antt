@@ -12,10 +12,6 @@ use borrow.Author.Needs.{needs}
 use Rattle.hir.proofs.Answers.{says}
 use Rattle.reading.proofs.sections.inner_function.Statement.{statement}
 use Rattle.reading.proofs.sections.inner_function.Tie as tie
-use Rattle.reading.proofs.sections.inner_function.Reads as reads
-use Rattle.reading.proofs.sections.inner_function.Lts as lts
-use Rattle.hir.proofs.Cursor.at_most.Reads as at-most-reads
-use Rattle.hir.proofs.Cursor.count.Reads as count-reads
 
 abbrev Inv-loop : tie.InvT-loop
 Inv-loop s count c₀ left₀ c left = judge (times left₀ diagnostic) (each skip) tt s (c₀ .at) ≡ judge (times left diagnostic) (each skip) tt s (c .at)
@@ -23,41 +19,32 @@ Inv-loop s count c₀ left₀ c left = judge (times left₀ diagnostic) (each sk
 abbrev μ-loop : tie.MeasureT-loop
 μ-loop s count c₀ left₀ c left = left
 
--- src/sections.rt:52:11
 count-requires : tie.Need-count-requires Inv-loop μ-loop
 count-requires c κs = tt
 
--- src/sections.rt:53:23
 enum-known-k : tie.Need-enum-known-k Inv-loop μ-loop
 enum-known-k c = search needs
 
--- src/sections.rt:57:27
 enum-known-k1 : tie.Need-enum-known-k1 Inv-loop μ-loop
 enum-known-k1 c = search needs
 
--- src/sections.rt:58:13
 returns : tie.Need-returns Inv-loop μ-loop
 returns c =
     let b3 = c .before .before .before in
     sym (inner-refused _ _ _ (says wordSays (c .before .k1 .given .1) (b3 .count .ensures)))
 
--- src/sections.rt:62:5
 loop-holds : tie.Need-loop-holds Inv-loop μ-loop
 loop-holds c = refl
 
--- src/sections.rt:63:15
 at-most-requires : tie.Need-at-most-requires Inv-loop μ-loop
 at-most-requires c κs = tt
 
--- src/sections.rt:64:30
 enum-known-d2 : tie.Need-enum-known-d2 Inv-loop μ-loop
 enum-known-d2 c = search needs
 
--- src/sections.rt:67:31
 enum-known-k2 : tie.Need-enum-known-k2 Inv-loop μ-loop
 enum-known-k2 c = search needs
 
--- src/sections.rt:68:17
 returns-2 : tie.Need-returns-2 Inv-loop μ-loop
 unfolding diagnostic
 returns-2 c =
@@ -70,15 +57,12 @@ returns-2 c =
     ∙ b5 .loop .inv
     ∙ times-stop _ _ _ _ _ _ _ (b4 .loop-test .taken) (judge-refused _ _ _ _ _ _ (says wordSays (c .before .k2 .given .1) (b3 .at-most .ensures))))
 
--- src/sections.rt:71:9
 sub-left : tie.Need-sub-left Inv-loop μ-loop
 sub-left c = omega arith
 
--- src/sections.rt:62:5
 loop-less : tie.Need-loop-less Inv-loop μ-loop
 loop-less c = omega arith
 
--- src/sections.rt:62:5
 loop-again : tie.Need-loop-again Inv-loop μ-loop
 unfolding diagnostic
 loop-again c =
@@ -88,7 +72,6 @@ loop-again c =
     b5 .loop .inv
     ∙ times-next _ _ _ _ _ _ _ _ (b4 .loop-test .taken) (judge-got _ _ _ _ _ _ _ (says wordSays (c .before .d2 .given .1) (b3 .at-most .ensures)))
 
--- src/sections.rt:47:1
 returns-3 : tie.Need-returns-3 Inv-loop μ-loop
 returns-3 c =
     let b3 = c .before .before .before in

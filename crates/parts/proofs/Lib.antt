@@ -1,0 +1,4 @@
+pub mod SecondPass
+pub mod Positions
+pub mod ByPosition
+pub mod HeadLaws
