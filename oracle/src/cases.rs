@@ -90,8 +90,29 @@ fn case_2() -> Result<(), String> {
     is("effects", answer.effects, vec![one(9, 2), two(5, 1, 0)])
 }
 
+/// The sheets of cases 3 to 7, in order; case 6 has two.
+pub fn graph_sheets() -> [Sheet; 6] {
+    let (x, y, p) = (0, 1, 2);
+    let mut first = block(0, &[one(1, x), two(6, x, y)]);
+    first.phis.push(Phi { place: place(p), operands: vec![(1, place(x))] });
+    let joined = |mutated| {
+        let mut last = block(2, &[one(1, mutated)]);
+        last.phis.push(Phi { place: place(p), operands: vec![(0, place(0)), (1, place(1))] });
+        sheet(4, &[0, 1], 3, vec![block(0, &[]), block(1, &[]), last])
+    };
+    let effects = [two(6, 0, 1), two(7, 0, 1), one(1, 0)];
+    [
+        sheet(3, &[], 2, vec![block(0, &[two(10, 0, 1), one(1, 1)])]),
+        sheet(3, &[0, 1], 2, vec![block(0, &[two(5, 0, 1), one(1, 1)])]),
+        sheet(4, &[x, y], 3, vec![first, block(1, &[])]),
+        joined(0),
+        joined(p),
+        sheet(3, &[0, 1], 2, vec![block(0, &effects)]),
+    ]
+}
+
 fn case_3() -> Result<(), String> {
-    let sheet = sheet(3, &[], 2, vec![block(0, &[two(10, 0, 1), one(1, 1)])]);
+    let [sheet, ..] = graph_sheets();
     let answer = agreed(&sheet)?;
     is("entries", answer.walks[0], 2)?;
     is("end of 0", answer.ranges[0].1, 0)?;
@@ -99,7 +120,7 @@ fn case_3() -> Result<(), String> {
 }
 
 fn case_4() -> Result<(), String> {
-    let sheet = sheet(3, &[0, 1], 2, vec![block(0, &[two(5, 0, 1), one(1, 1)])]);
+    let [_, sheet, ..] = graph_sheets();
     let answer = agreed(&sheet)?;
     is("entries", answer.walks[0], 1)?;
     is("accepted", accepted(&sheet, 0), vec![1])?;
@@ -107,24 +128,20 @@ fn case_4() -> Result<(), String> {
 }
 
 fn case_5() -> Result<(), String> {
-    let (x, y, p) = (0, 1, 2);
-    let mut first = block(0, &[one(1, x), two(6, x, y)]);
-    first.phis.push(Phi { place: place(p), operands: vec![(1, place(x))] });
-    let sheet = sheet(4, &[x, y], 3, vec![first, block(1, &[])]);
+    let [_, _, sheet, ..] = graph_sheets();
     let answer = agreed(&sheet)?;
     is("entries", answer.walks[0], 1)?;
-    is("end of the phi", answer.ranges[p as usize].1, 0)?;
+    is("end of the phi", answer.ranges[2].1, 0)?;
     let built = build(&sheet);
-    let edges = &built.nodes[x as usize].as_ref().ok_or("x has no node")?.edges;
+    let edges = &built.nodes[0].as_ref().ok_or("x has no node")?.edges;
     is("stored order", edges.iter().map(|e| e.index).collect(), vec![2, 0])
 }
 
 fn case_6() -> Result<(), String> {
-    let (a, b, p) = (0, 1, 2);
-    for (mutated, entries, reached) in [(a, 2, vec![a, p]), (p, 5, vec![p, b, a])] {
-        let mut last = block(2, &[one(1, mutated)]);
-        last.phis.push(Phi { place: place(p), operands: vec![(0, place(a)), (1, place(b))] });
-        let sheet = sheet(4, &[a, b], 3, vec![block(0, &[]), block(1, &[]), last]);
+    let [_, _, _, from_operand, from_phi, _] = graph_sheets();
+    for (sheet, entries, reached) in
+        [(from_operand, 2, vec![0, 2]), (from_phi, 5, vec![2, 1, 0])]
+    {
         is("entries", agreed(&sheet)?.walks[0], entries)?;
         is("accepted", accepted(&sheet, 0), reached)?;
     }
@@ -132,8 +149,7 @@ fn case_6() -> Result<(), String> {
 }
 
 fn case_7() -> Result<(), String> {
-    let effects = [two(6, 0, 1), two(7, 0, 1), one(1, 0)];
-    let sheet = sheet(3, &[0, 1], 2, vec![block(0, &effects)]);
+    let [.., sheet] = graph_sheets();
     is("entries", agreed(&sheet)?.walks[0], 7)?;
     is("accepted", accepted(&sheet, 0), vec![0, 1, 1])
 }

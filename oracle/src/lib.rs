@@ -4,8 +4,10 @@
 pub mod cases;
 pub mod compare;
 pub mod damage;
+pub mod dense;
 pub mod generate;
 pub mod original_side;
 pub mod ours;
 pub mod plain;
 pub mod random;
+pub mod steps;

@@ -7,8 +7,8 @@ ghost use Rattle.model.specs.Reading.{counted};
 ghost use Rattle.model.specs.Sections.{effects, phi, terminal};
 ghost use Rattle.copies.specs.Copies.{Past};
 use hir::Cursor;
-use hir::TerminalKind;
 use hir::KindStep;
+use hir::TerminalKind;
 use hir::WordStep;
 
 // k words further, where the sheet has them.

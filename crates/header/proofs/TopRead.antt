@@ -30,7 +30,6 @@ counted-at {f} {ws} {l} {d} {n} {c} x e h =
     let q : x .next ≡ c = got-next g in
     (subst (λ (j : Position). times n f ws j ≡ got l d) q (subst (λ (k : ℕ). times k f ws (x .next) ≡ got l d) p (x .reads)), sym (x .long ∙ p))
 
-
 module _ (ws : List ℕ) (s : Sheet) (d : Position) (h : sheet ws 0 ≡ got s d) where
   pub flags-of : (f : Flags) (c : Position) → flags ws 0 ≡ got f c → (s .flags ≡ f) × (top-got ws s d h .after-flags ≡ c)
   flags-of f c e = let p = top-got ws s d h in (got-value (sym (p .flags-read) ∙ e), got-next (sym (p .flags-read) ∙ e))

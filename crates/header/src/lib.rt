@@ -142,6 +142,12 @@ pub fn read_top(sheet: &[u32], ws: &mut [u32]) -> TopStep
         return TopStep::Refused;
     };
     let errors = records_errors(flags);
-    let top = Top { errors, identifiers: c2, n, m, next: c5 };
+    let top = Top {
+        errors,
+        identifiers: c2,
+        n,
+        m,
+        next: c5,
+    };
     TopStep::Got(top)
 }

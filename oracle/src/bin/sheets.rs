@@ -1,4 +1,4 @@
-//! sheets verdicts N DIR | sheets answers N DIR | sheets graphs N DIR
+//! sheets verdicts N DIR | sheets answers N DIR | sheets graphs N DIR | sheets steps N DIR
 //!
 //! Writes test data from fixed seeds, N records in each file. A file is a list of
 //! records of 32-bit words, lowest byte first; each begins with
@@ -31,19 +31,29 @@
 //!   for each identifier after the real walks: end, reason, largest index,
 //!     local kind (0 none), its span, transitive kind (0 none), its span
 //!     (all but the end are 0 without a node)
+//!
+//! steps/{stdin,stdout}: records of another layout (head of src/steps.rs and of
+//!   its `record`), for bench cases 3 to 7, N sheets with mutations, those at
+//!   each limit and those of src/dense.rs, in parts of 16,384 words that are filled
+//!   up with zeros; and the line of counts that a program without a difference prints
 
 use std::path::Path;
 use std::process::ExitCode;
 
+use oracle::cases::graph_sheets;
 use oracle::damage::{Call, damaged};
+use oracle::dense;
 use oracle::generate::{self, LIMITS, PASSABLE};
 use oracle::plain::building::{Entry, Record, Relation, Value, build};
 use oracle::plain::sheet::Sheet;
 use oracle::plain::walks::{render, trace};
 use oracle::plain::{self, Outcome};
 use oracle::random::Random;
+use oracle::steps::{Recorded, record};
 
 type Words = Vec<u32>;
+
+const KINDS: [&str; 4] = ["verdicts", "answers", "graphs", "steps"];
 
 fn put_list(words: &mut Words, list: &[u32]) {
     words.push(list.len() as u32);
@@ -145,7 +155,7 @@ fn graph(sheet: &Sheet) -> Words {
     rest.push(built.renders.len() as u32);
     for r in &built.renders {
         rest.extend([r.index, r.place.identifier]);
-        put_list(&mut rest, &render(built, r));
+        put_list(&mut rest, &render(built, r).functions);
     }
     for (node, end) in built.nodes.iter().zip(&traced.ends) {
         rest.push(*end);
@@ -162,6 +172,55 @@ fn graph(sheet: &Sheet) -> Words {
     put_list(&mut words, &sheet.words());
     put_list(&mut words, &rest);
     words
+}
+
+// =============================================================================
+// Steps
+// =============================================================================
+
+/// A generated sheet whose record is longer is not taken, for the size of the file.
+const LONGEST: usize = 6_000;
+
+/// What a reader takes at once.
+const PART: usize = 16_384;
+
+fn step_records(count: usize) -> Vec<Recorded> {
+    let mut random = Random::new(14);
+    let mut records: Vec<Recorded> = graph_sheets().iter().map(record).collect();
+    let generated = std::iter::from_fn(|| Some(record(&generate::sheet(&mut random))));
+    records.extend(generated.filter(|r| r.walks > 0 && r.words.len() <= LONGEST).take(count));
+    records.extend(LIMITS.iter().map(|&limit| record(&generate::at_limit(&mut random, limit))));
+    records.extend(dense::all().iter().map(|(_, sheet)| record(sheet)));
+    records
+}
+
+/// The records in parts of `PART` words, each filled up with zeros: no record stands in two.
+fn parts(records: &[Recorded]) -> Words {
+    let mut words = Vec::new();
+    for record in records {
+        if words.len() % PART + record.words.len() > PART {
+            words.resize(words.len().next_multiple_of(PART), 0);
+        }
+        words.extend(&record.words);
+    }
+    words.resize(words.len().next_multiple_of(PART), 0);
+    words
+}
+
+fn write_steps(folder: &Path, count: usize) -> std::io::Result<()> {
+    let records = step_records(count);
+    let walks: usize = records.iter().map(|r| r.walks).sum();
+    let renders: usize = records.iter().map(|r| r.renders).sum();
+    let line = format!(
+        "{} graphs, {walks} walks, {renders} renders, 0 differences\n",
+        records.len()
+    );
+    let bytes: Vec<u8> = parts(&records).iter().flat_map(|w| w.to_le_bytes()).collect();
+    std::fs::create_dir_all(folder)?;
+    std::fs::write(folder.join("stdin"), &bytes)?;
+    std::fs::write(folder.join("stdout"), &line)?;
+    print!("{}: {} words, {line}", folder.display(), bytes.len() / 4);
+    Ok(())
 }
 
 // =============================================================================
@@ -211,6 +270,7 @@ fn make(what: &str, count: usize, folder: &Path) -> std::io::Result<()> {
             })?;
             write(&folder, "damaged.bin", count, |_| answer(&damaged(&mut random)))
         }
+        "steps" => write_steps(&folder, count),
         _ => {
             let mut random = Random::new(13);
             write(&folder, "tiny.bin", count, |_| graph(&generate::tiny(&mut random)))?;
@@ -222,13 +282,13 @@ fn make(what: &str, count: usize, folder: &Path) -> std::io::Result<()> {
 fn main() -> ExitCode {
     let arguments: Vec<String> = std::env::args().skip(1).collect();
     let parsed = match &arguments[..] {
-        [what, count, folder] if ["verdicts", "answers", "graphs"].contains(&what.as_str()) => {
+        [what, count, folder] if KINDS.contains(&what.as_str()) => {
             count.parse().ok().map(|count| (what, count, folder))
         }
         _ => None,
     };
     let Some((what, count, folder)) = parsed else {
-        eprintln!("sheets verdicts|answers|graphs N DIR");
+        eprintln!("sheets {} N DIR", KINDS.join("|"));
         return ExitCode::from(2);
     };
     match make(what, count, Path::new(folder)) {

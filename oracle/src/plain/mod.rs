@@ -108,7 +108,7 @@ pub fn answer(sheet: &Sheet) -> Answer {
 
     if errors {
         let mutated = traced.walks.iter().flat_map(|w| w.functions.clone());
-        let rendered = built.renders.iter().flat_map(|r| render(&built, r));
+        let rendered = built.renders.iter().flat_map(|r| render(&built, r).functions);
         for function in mutated.chain(rendered) {
             diagnostics.extend(&sheet.functions[function as usize]);
         }

@@ -101,12 +101,22 @@ pub fn walk(built: &mut Built, mutation: &Mutation, mut ends: Option<(&mut [u32]
     walk
 }
 
-/// The inner functions that a render hands over.
-pub fn render(built: &Built, render: &Render) -> Vec<u32> {
-    let mut functions = Vec::new();
+/// What a render did.
+#[derive(Debug, Clone, PartialEq, Eq, Default)]
+pub struct Rendered {
+    /// Entries taken, skipped ones included.
+    pub taken: u32,
+    /// The inner functions handed over, in order.
+    pub functions: Vec<u32>,
+}
+
+/// Walk a render.
+pub fn render(built: &Built, render: &Render) -> Rendered {
+    let mut rendered = Rendered::default();
     let mut taken = vec![false; built.nodes.len()];
     let mut queue = vec![render.place.identifier];
     while let Some(identifier) = queue.pop() {
+        rendered.taken += 1;
         if std::mem::replace(&mut taken[identifier as usize], true) {
             continue;
         }
@@ -115,13 +125,13 @@ pub fn render(built: &Built, render: &Render) -> Vec<u32> {
             continue;
         }
         if let Value::Function(function) = node.value {
-            functions.push(function);
+            rendered.functions.push(function);
         }
         for list in [&node.created_from, &node.aliases, &node.captures] {
             queue.extend(list.iter().filter(|e| e.index < render.index).map(|e| e.from));
         }
     }
-    functions
+    rendered
 }
 
 /// What the real walks of a sheet leave.
