@@ -64,7 +64,7 @@ fn value_word(value: NodeValue) -> u32
 
 impl Building {
     // The running index.
-    fn index(self) -> u32
+    pub fn index(self) -> u32
         requires { ⌜ (self .relations ≤ 1024) × ((self .mutations ≤ 512) × (self .renders ≤ 256)) ⌝ }
         ensures { λ r. ⌜ r ≡ indexOf self ⌝ }
     {

@@ -11,7 +11,7 @@ use Rattle.model.proofs.Got.{got-value, got-next, not-both, bind-got}
 use Rattle.writing.specs.Wrote.{Wrote}
 use Rattle.copies.specs.Copies.{Copies, Past}
 use Rattle.copies.specs.Words.{copyWords, instructionWords, blockWords}
-use Rattle.copies.specs.declared.instructions.Section.{Section}
+use Rattle.copies.specs.declared.effect_lists.Section.{Section}
 
 module _ (n m : ℕ) (ws : List ℕ) (c : Position) where
   -- an order, then effects

@@ -9,8 +9,8 @@ use Rattle.model.specs.Lists.{gather, listIf}
 use Rattle.model.specs.Sheet.{Effect}
 use Rattle.model.specs.Effects.{Row, rowOf}
 use Rattle.copies.specs.Words.{takes, takenWords, copyWords}
-use Rattle.copies.specs.declared.instructions.Section.{Section}
-use Rattle.copies.specs.declared.instructions.Section.the-variants.{Diagnostics, Effects}
+use Rattle.copies.specs.declared.effect_lists.Section.{Section}
+use Rattle.copies.specs.declared.effect_lists.Section.the-variants.{Diagnostics, Effects}
 
 -- lists of one length
 pub gather-length : {A : Type 0} (w : A → List ℕ) (k : ℕ) → ((a : A) → length (w a) ≡ k) → (l : List A) → length (gather w l) ≡ k * length l

@@ -14,8 +14,8 @@ use Rattle.model.specs.Answer.{diagnosticWords, effectWords, section}
 use Rattle.writing.specs.Wrote.{Wrote}
 use Rattle.writing.proofs.Writing.{patched}
 use Rattle.copies.specs.Words.{copyWords, instructionWords, blockWords}
-use Rattle.copies.specs.declared.instructions.Section.{Section}
-use Rattle.copies.specs.declared.instructions.Section.the-variants.{Diagnostics, Effects}
+use Rattle.copies.specs.declared.effect_lists.Section.{Section}
+use Rattle.copies.specs.declared.effect_lists.Section.the-variants.{Diagnostics, Effects}
 use Rattle.copies.proofs.Gathers.{gather-gather, gather-same, gather-keep, gather-map}
 use Rattle.copies.proofs.Lengths.{gather-length}
 

@@ -6,8 +6,8 @@ use Rattle.model.specs.Lists.{gather, listIf}
 use Rattle.model.specs.Sheet.{Effect, Instruction, Block}
 use Rattle.model.specs.Effects.{Role, Row, rowOf, isRender, isDiagnosis, diagnosticOf}
 use Rattle.model.specs.Answer.{diagnosticWords, effectWords}
-use Rattle.copies.specs.declared.instructions.Section.{Section}
-use Rattle.copies.specs.declared.instructions.Section.the-variants.{Diagnostics, Effects}
+use Rattle.copies.specs.declared.effect_lists.Section.{Section}
+use Rattle.copies.specs.declared.effect_lists.Section.the-variants.{Diagnostics, Effects}
 
 -- whether the section takes an effect of this role: kinds 14 to 16 are diagnoses, 17 is the render
 abbrev pub takes : Section → Role → Bool

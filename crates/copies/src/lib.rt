@@ -12,8 +12,8 @@ use hir::Place;
 use hir::places::traits_word;
 use writing::put;
 
+pub mod effect_lists;
 pub mod functions;
-pub mod instructions;
 pub mod past;
 pub mod returns;
 

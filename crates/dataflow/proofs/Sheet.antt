@@ -27,7 +27,7 @@ use Rattle.instructions.specs.Cost.{costs}
 use Rattle.instructions.specs.Builds.{Ready, Builds}
 use Rattle.instructions.proofs.Gots.{both-got}
 use Rattle.dataflow.specs.Cost.{blockCost}
-use Rattle.dataflow.specs.Whole.{firstBuilt, First, WholeAt}
+use Rattle.dataflow.specs.Whole.{createdFor, firstBuilt, First, WholeAt}
 
 -- as many parts as the count says
 numbered-length : {A : Type 0} (k : ℕ) (used : List BlockId) (f : BlockId → Read A) → Reads (numbered k used f) (λ (l : List A). length l ≡ k)
@@ -161,9 +161,6 @@ pub sheet-ready : (s : List ℕ) (t : Sheet) (d : Position) (p : Sections s t d)
 sheet-ready s t d p first h = blocks-ready t s (length (t .identifiers)) (length (t .functions)) (p .blockCount) (p .afterCount) d (p .blocks) first (p .few) h
 
 -- the first nodes, created one after another, are the building before the first block
-abbrev pub createdFor : Place → Built → Built
-createdFor p = changed (create (p .identifier) object)
-
 created : (l : List Place) (b : Built) → each createdFor l b ≡ changed (each (λ (p : Place). create (p .identifier) object) l) b
 created [] b = refl
 created (p ∷ l) b = created l (createdFor p b)

@@ -3,16 +3,21 @@ use Prim.Native.Nat.{ℕ}
 use mathlib.Core.List.{List, []}
 use mathlib.Core.Path.{_≡_}
 use lib.ListN.{length, take, drop}
-use Rattle.model.specs.Sheet.{Sheet}
+use Rattle.model.specs.Sheet.{Place, Sheet}
+use Rattle.model.specs.Graph.{object, create}
 use Rattle.model.specs.Totals.{totals}
 use Rattle.model.specs.Reading.{Position}
-use Rattle.model.specs.Built.{Built}
+use Rattle.model.specs.Built.{Built, changed}
 use Rattle.model.specs.Building.{firstNodes, build}
 use Rattle.rows.specs.Layout.{SEEN, FUNCTIONS}
 use Rattle.building.specs.declared.Building.{Building}
 use Rattle.building.specs.Built.{builtOf, Sound}
 use Rattle.instructions.specs.declared.BuildStep.{BuildStep}
 use Rattle.instructions.specs.declared.BuildStep.the-variants.{Got, Refused}
+
+-- a node for the place
+abbrev pub createdFor : Place → Built → Built
+createdFor p = changed (create (p .identifier) object)
 
 -- the building before the first block: "Parameters, context, returns get nodes first"
 unfoldable pub firstBuilt : Sheet → Built

@@ -1,30 +1,30 @@
 use Rattle.copies.proofs.Blocks.{copies-block}
 use borrow.Author.Needs.{needs}
-use Rattle.copies.proofs.instructions.copy_block.Statement.{statement}
-use Rattle.copies.proofs.instructions.copy_block.Tie as tie
-use Rattle.copies.proofs.instructions.copy_block.Reads as reads
-use Rattle.copies.proofs.instructions.copy_block.Lts as lts
-use Rattle.copies.proofs.instructions.copy_instructions.Reads as copy-instructions-reads
+use Rattle.copies.proofs.effect_lists.copy_block.Statement.{statement}
+use Rattle.copies.proofs.effect_lists.copy_block.Tie as tie
+use Rattle.copies.proofs.effect_lists.copy_block.Reads as reads
+use Rattle.copies.proofs.effect_lists.copy_block.Lts as lts
+use Rattle.copies.proofs.effect_lists.copy_instructions.Reads as copy-instructions-reads
 use Rattle.copies.proofs.past.past_phis.Reads as past-phis-reads
 use Rattle.copies.proofs.past.past_terminal.Reads as past-terminal-reads
 
--- src/instructions.rt:177:9
+-- src/effect_lists.rt:177:9
 past-phis-requires : tie.Need-past-phis-requires
 past-phis-requires c κs = search needs
 
--- src/instructions.rt:178:9
+-- src/effect_lists.rt:178:9
 copy-instructions-requires : tie.Need-copy-instructions-requires
 copy-instructions-requires c κs = search needs
 
--- src/instructions.rt:179:9
+-- src/effect_lists.rt:179:9
 past-terminal-requires : tie.Need-past-terminal-requires
 past-terminal-requires c κs = search needs
 
--- src/instructions.rt:165:1
+-- src/effect_lists.rt:165:1
 same-length : tie.Need-same-length
 same-length c = search needs
 
--- src/instructions.rt:165:1
+-- src/effect_lists.rt:165:1
 returns : tie.Need-returns
 returns c =
     let b3 = c .before .before .before in

@@ -1,0 +1,88 @@
+// The section of diagnostics: those recorded while building, then those handed over by mutations and by renders.
+ghost use mathlib.Core.Path.{_≡_};
+ghost use Prim.Native.Nat.{ℕ, _+_, _≤_};
+ghost use Rattle.rows.specs.Layout.{MUTATIONS};
+ghost use Rattle.rows.specs.Rows.{Indexed};
+ghost use Rattle.writing.specs.Wrote.{farthest};
+ghost use Rattle.function.specs.Function.{Limited};
+ghost use Rattle.diagnostics.specs.Diagnosed.{RendersPut, RecordedPut, DiagnosticsPut};
+use copies::effect_lists::Section;
+use copies::effect_lists::copy_effects;
+use copies::functions::put_handed;
+use function::HirFunction;
+use hir::IdentifierId;
+use renders::render;
+use rows::RENDERS;
+use writing::patch;
+use writing::put;
+
+// Process renders: the pending ones in order; the diagnostics of the functions that each hands over.
+pub fn process_renders(
+    sheet: &[u32],
+    ws: &mut [u32],
+    count: u32,
+    renders: usize,
+    answer: &mut [u32],
+    at: usize,
+) -> usize
+    requires { ⌜ Indexed (now ws) ⌝ }
+    requires { ⌜ (count ≤ 64) × ((renders ≤ 256) × (at + 8388608 ≤ farthest)) ⌝ }
+    ensures { λ r. ⌜ RendersPut (now (sheet .entry)) (now (ws .entry)) count renders (now (answer .entry)) at (now (ws .exit)) (now (answer .exit)) r ⌝ }
+{
+    let mut to = at;
+    let mut i = 0;
+    while i < renders {
+        let w = ws[RENDERS + i];
+        let r = render(ws, w / 512, IdentifierId(w % 512));
+        to = put_handed(sheet, ws, count, r.hand, answer, to);
+        i += 1;
+    }
+    to
+}
+
+// The diagnostics that are recorded: none unless errors are.
+fn put_recorded(sheet: &[u32], f: HirFunction, answer: &mut [u32], at: usize) -> usize
+    requires { ⌜ Limited f ⌝ }
+    requires { ⌜ at + 2147483648 ≤ farthest ⌝ }
+    ensures { λ r. ⌜ RecordedPut (now (sheet .entry)) f (now (answer .entry)) at (now (answer .exit)) r ⌝ }
+{
+    if f.errors {
+        let r = copy_effects(
+            sheet,
+            f.blocks,
+            f.count,
+            f.n,
+            f.m,
+            Section::Diagnostics,
+            answer,
+            at,
+        );
+        return r.at;
+    }
+    at
+}
+
+// The section; mutations handed over the functions up to `hand`.
+pub fn put_diagnostics(
+    sheet: &[u32],
+    ws: &mut [u32],
+    f: HirFunction,
+    renders: usize,
+    hand: usize,
+    answer: &mut [u32],
+    at: usize,
+) -> usize
+    requires { ⌜ Limited f ⌝ }
+    requires { ⌜ Indexed (now ws) ⌝ }
+    requires { ⌜ (renders ≤ 256) × ((hand ≤ MUTATIONS) × (at + 4294967296 ≤ farthest)) ⌝ }
+    ensures { λ r. ⌜ DiagnosticsPut (now (sheet .entry)) (now (ws .entry)) f renders hand (now (answer .entry)) at (now (ws .exit)) (now (answer .exit)) r ⌝ }
+{
+    let a1 = put(answer, at, 0);
+    let a2 = put_recorded(sheet, f, answer, a1);
+    let mut a3 = put_handed(sheet, ws, f.m, hand, answer, a2);
+    if f.errors {
+        a3 = process_renders(sheet, ws, f.m, renders, answer, a3);
+    }
+    patch(answer, at, (a3 - a1) as u32);
+    a3
+}

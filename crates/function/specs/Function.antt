@@ -1,0 +1,40 @@
+-- The function of a sheet as the call keeps it, and what of the sheet stands in the workspace.
+use Prim.Native.Nat.{ℕ, _+_, _≤_, _<_}
+use mathlib.Core.Path.{_≡_}
+use mathlib.Core.List.{List, [], _∷_, _++_}
+use lib.ListN.{length}
+use Rattle.model.specs.Sheet.{Sheet}
+use Rattle.model.specs.Reading.{Position, Result, got, times, numbered}
+use Rattle.model.specs.Sections.{identifier, block}
+use Rattle.model.specs.Summary.{errors}
+use Rattle.hir.specs.Says.{placeIs}
+use Rattle.rows.specs.Layout.{LEAST}
+use Rattle.copies.specs.Functions.{Functions}
+use Rattle.summary.specs.Tracked.{trackedOf}
+use Rattle.function.specs.declared.HirFunction.{HirFunction}
+
+-- no count is above its limit, and returns has an identifier
+pub record Limited (f : HirFunction) : Type 0 where
+  pub n : f .n ≤ 512
+  pub m : f .m ≤ 64
+  pub params : f .params ≤ 64
+  pub context : f .context ≤ 64
+  pub count : f .count ≤ 256
+  pub returns : f .returns .identifier .0 < f .n
+
+-- f is the function of the sheet s, which stands in the words
+pub record Describes (s : Sheet) (sheet : List ℕ) (f : HirFunction) : Type 0 where
+  pub errors : f .errors ≡ errors s
+  pub n : f .n ≡ length (s .identifiers)
+  pub m : f .m ≡ length (s .functions)
+  pub params : f .params ≡ length (s .params)
+  pub context : f .context ≡ length (s .context)
+  pub returns : placeIs (f .returns) ≡ s .returns
+  pub identifiers : (e : Position) × (times (f .n) identifier sheet (f .identifiers .at) ≡ got (s .identifiers) e)
+  pub blocks : (e : Position) × (numbered (f .count) [] (block (f .n) (f .m)) sheet (f .blocks .at) ≡ got (s .blocks) e)
+
+-- what stands in the workspace from here to the call's end: where each inner function's list stands in the sheet, and the tracked places
+pub record Stands (s : Sheet) (sheet ws : List ℕ) : Type 0 where
+  pub size : LEAST ≤ length ws
+  pub functions : Functions sheet ws (s .functions)
+  pub tracked : trackedOf ws (length (s .params) + length (s .context) + 1) ≡ s .params ++ (s .context ++ (s .returns ∷ []))

@@ -1,0 +1,74 @@
+-- Places read a second time: each is tracked and gets a node.
+use Prim.Native.Nat.{ℕ, _+_, _≤_, _<_}
+use mathlib.Core.Path.{_≡_}
+use mathlib.Core.List.{List, [], _++_}
+use lib.ListN.{length, take}
+use lib.Seq.{slice}
+use Rattle.model.specs.Lists.{each}
+use Rattle.model.specs.Sheet.{Place, Sheet}
+use Rattle.model.specs.Reading.{Position, Result, got, numbered}
+use Rattle.model.specs.Sections.{block}
+use Rattle.model.specs.Building.{firstPlaces}
+use Rattle.hir.specs.Says.{placeIs}
+use Rattle.rows.specs.Layout.{SEEN, FUNCTIONS}
+use Rattle.building.specs.declared.Building.{Building}
+use Rattle.building.specs.Built.{builtOf, Sound}
+use Rattle.dataflow.specs.Whole.{createdFor}
+use Rattle.instructions.specs.declared.BuildStep.{BuildStep}
+use Rattle.instructions.specs.declared.BuildStep.the-variants.{Got, Refused}
+use Rattle.header.specs.Read.{afterFunctions}
+use Rattle.summary.specs.Tracked.{TRACKED, trackedOf}
+use Rattle.parameters.specs.declared.ListStep.{ListStep}
+use Rattle.parameters.specs.declared.ListStep.the-variants.{Got as GotList, Refused as NoList}
+use Rattle.parameters.specs.declared.Tracked.{Tracked}
+use Rattle.parameters.specs.declared.TrackedStep.{TrackedStep}
+use Rattle.parameters.specs.declared.TrackedStep.the-variants.{Got as GotTracked, Refused as NoTracked}
+
+-- the places ps were tracked from number `first` on, and each got a node
+pub record Places (ps : List Place) (first : ℕ) (ws : List ℕ) (b : Building) (ws′ : List ℕ) (r : Building) : Type 0 where
+  pub built : builtOf ws′ r ≡ each createdFor ps (builtOf ws b)
+  pub sound : Sound ws′ r
+  pub relations : r .relations ≡ b .relations
+  pub mutations : r .mutations ≡ b .mutations
+  pub renders : r .renders ≡ b .renders
+  pub come : r .come ≡ b .come
+  pub tracked : trackedOf ws′ (first + length ps) ≡ trackedOf ws first ++ ps
+  pub low : take SEEN ws′ ≡ take SEEN ws
+  pub between : slice FUNCTIONS TRACKED ws′ ≡ slice FUNCTIONS TRACKED ws
+  pub same : length ws′ ≡ length ws
+
+-- the reading stands at d; a refusal is no answer
+abbrev pub placesAre : List Place → Position → ℕ → List ℕ → Building → List ℕ → BuildStep → Type 0
+placesAre ps d first ws b ws′ (Got r c) = Places ps first ws b ws′ r × (c .at ≡ d)
+placesAre ps d first ws b ws′ (Refused k) = ⊥
+
+pub record ReadsPlaces (x : Result (List Place)) (first : ℕ) (ws : List ℕ) (b : Building) (ws′ : List ℕ) (r : BuildStep) : Type 0 where
+  pub read : (ps : List Place) (d : Position) → x ≡ got ps d → placesAre ps d first ws b ws′ r
+
+-- the same after a count
+abbrev pub listIs : List Place → Position → ℕ → List ℕ → Building → List ℕ → ListStep → Type 0
+listIs ps d first ws b ws′ (GotList k r c) = Places ps first ws b ws′ r × ((k ≡ length ps) × (c .at ≡ d))
+listIs ps d first ws b ws′ NoList = ⊥
+
+pub record ReadsList (x : Result (List Place)) (first : ℕ) (ws : List ℕ) (b : Building) (ws′ : List ℕ) (r : ListStep) : Type 0 where
+  pub read : (ps : List Place) (d : Position) → x ≡ got ps d → listIs ps d first ws b ws′ r
+
+-- parameters, context, returns and the count of blocks
+pub record TrackedRead (s : Sheet) (d : Position) (sheet : List ℕ) (n : ℕ) (ws : List ℕ) (b : Building) (ws′ : List ℕ) (t : Tracked) (r : Building) : Type 0 where
+  pub places : Places (firstPlaces s) 0 ws b ws′ r
+  pub params : t .params ≡ length (s .params)
+  pub context : t .context ≡ length (s .context)
+  pub returns : placeIs (t .returns) ≡ s .returns
+  pub below : t .returns .identifier .0 < n
+  pub blocks : numbered (t .count) [] (block n (length (s .functions))) sheet (t .next .at) ≡ got (s .blocks) d
+  pub fewParams : t .params ≤ 64
+  pub fewContext : t .context ≤ 64
+  pub fewBlocks : t .count ≤ 256
+
+-- a refusal is given to no sheet
+abbrev pub trackedIs : Sheet → Position → List ℕ → ℕ → List ℕ → Building → List ℕ → TrackedStep → Type 0
+trackedIs s d sheet n ws b ws′ (GotTracked t r) = TrackedRead s d sheet n ws b ws′ t r
+trackedIs s d sheet n ws b ws′ NoTracked = ⊥
+
+pub record ReadsTracked (sheet : List ℕ) (c : Position) (n : ℕ) (ws : List ℕ) (b : Building) (ws′ : List ℕ) (r : TrackedStep) : Type 0 where
+  pub read : (s : Sheet) (d : Position) → n ≡ length (s .identifiers) → afterFunctions (s .flags) (s .identifiers) (s .functions) sheet c ≡ got s d → trackedIs s d sheet n ws b ws′ r

@@ -1,0 +1,83 @@
+// The service: calls over the state that the host lends.
+use inference::Outcome;
+use inference::infer_mutation_aliasing_ranges;
+
+// The next serial.
+#[repr(C)]
+pub struct ServiceState {
+    pub next: u32,
+}
+
+// The refusal's number, 0 for none; the serial of an accepted call, else 0; the answer's length.
+#[repr(C)]
+pub struct Reply {
+    pub refusal: u32,
+    pub serial: u32,
+    pub length: usize,
+}
+
+// A reply, and the serial that is next.
+pub struct Turn {
+    pub reply: Reply,
+    pub next: u32,
+}
+
+// The whole call, with the serial as a number.
+pub fn turn_from(serial: u32, sheet: &[u32], workspace: &mut [u32], answer: &mut [u32]) -> Turn {
+    match infer_mutation_aliasing_ranges(sheet, workspace, answer) {
+        Outcome::Refused(k) => {
+            let reply = Reply {
+                refusal: k,
+                serial: 0,
+                length: 0,
+            };
+            Turn {
+                reply,
+                next: serial,
+            }
+        }
+        Outcome::Accepted(length) => {
+            let reply = Reply {
+                refusal: 0,
+                serial,
+                length,
+            };
+            Turn {
+                reply,
+                next: serial.wrapping_add(1),
+            }
+        }
+    }
+}
+
+// The service call: it takes the serial, calls the inference, and stores the successor.
+#[no_mangle]
+pub extern "C" fn service_infer(
+    state: &mut ServiceState,
+    sheet: &[u32],
+    workspace: &mut [u32],
+    answer: &mut [u32],
+) -> Reply {
+    let serial = state.next;
+    let turn = turn_from(serial, sheet, workspace, answer);
+    state.next = turn.next;
+    turn.reply
+}
+
+// A new state.
+#[no_mangle]
+pub extern "C" fn service_new() -> ServiceState {
+    ServiceState { next: 0 }
+}
+
+// How many words a workspace has at least.
+#[no_mangle]
+pub extern "C" fn service_least_workspace() -> usize {
+    16384
+}
+
+// How many words a sheet has at most.
+#[no_mangle]
+pub extern "C" fn service_most_sheet() -> usize {
+    16384
+}

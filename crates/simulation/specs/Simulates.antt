@@ -1,0 +1,55 @@
+-- The simulated walks, and the section of effects.
+use Prim.Native.Nat.{ℕ, _+_, _*_, _≤_}
+use mathlib.Core.Path.{_≡_}
+use mathlib.Core.List.{List, [], map}
+use lib.ListN.{length}
+use lib.Seq.{slice}
+use Rattle.model.specs.Lists.{gather}
+use Rattle.model.specs.Sheet.{Sheet}
+use Rattle.model.specs.Building.{build}
+use Rattle.model.specs.State.{State}
+use Rattle.model.specs.Walks.{Walk}
+use Rattle.model.specs.Summary.{afterRenders}
+use Rattle.model.specs.Simulated.{Simulated, tracked, simulate}
+use Rattle.model.specs.Answer.{effectWords, section, summary}
+use Rattle.rows.specs.Layout.{HANDED, MUTATIONS, SIMULATED}
+use Rattle.aliasing.specs.State.{stateOf}
+use Rattle.writing.specs.Wrote.{Wrote}
+use Rattle.summary.specs.Tracked.{trackedOf}
+use Rattle.summary.specs.Sections.{simulatedOf}
+use Rattle.function.specs.declared.HirFunction.{HirFunction}
+use Rattle.function.specs.Function.{Describes, Stands}
+
+-- the state with nothing handed over
+abbrev pub unhanded : State → State
+unhanded t = record { graph = t .graph; records = t .records; ends = t .ends; handed = [] }
+
+-- the workspace before the simulated walks of s, of which the first has this index
+pub record Marked (s : Sheet) (ws : List ℕ) (count index returns : ℕ) : Type 0 where
+  pub places : tracked s ≡ trackedOf ws count
+  pub identifier : s .returns .identifier ≡ returns
+  pub state : stateOf ws HANDED ≡ unhanded (afterRenders s)
+  pub first : index ≡ build s .index
+
+-- the simulated walks were run: what they found was written, and the entries that each took stand in the words
+pub record Simulates (ws : List ℕ) (count index returns : ℕ) (answer : List ℕ) (at : ℕ) (ws′ answer′ : List ℕ) (r : ℕ) : Type 0 where
+  pub wrote : (s : Sheet) → Marked s ws count index returns → Wrote (gather effectWords (simulate s .effects)) answer at answer′ r
+  pub counts : (s : Sheet) → Marked s ws count index returns → simulatedOf ws′ count ≡ map (λ (w : Walk). w .taken) (simulate s .walks)
+  pub kept : slice MUTATIONS SIMULATED ws′ ≡ slice MUTATIONS SIMULATED ws
+  pub few : r ≤ at + 1032 * count
+  pub same : length ws′ ≡ length ws
+
+-- the workspace before the section of effects of s is written
+pub record Before (s : Sheet) (sheet ws : List ℕ) (f : HirFunction) (index : ℕ) : Type 0 where
+  pub describes : Describes s sheet f
+  pub stands : Stands s sheet ws
+  pub state : stateOf ws HANDED ≡ unhanded (afterRenders s)
+  pub first : index ≡ build s .index
+
+-- the section was written, and the entries that each simulated walk took stand in the words
+pub record EffectsPut (sheet ws : List ℕ) (f : HirFunction) (index : ℕ) (answer : List ℕ) (at : ℕ) (ws′ answer′ : List ℕ) (r : ℕ) : Type 0 where
+  pub wrote : (s : Sheet) → Before s sheet ws f index → Wrote (section effectWords (summary s)) answer at answer′ r
+  pub counts : (s : Sheet) → Before s sheet ws f index → simulatedOf ws′ (f .params + f .context + 1) ≡ map (λ (w : Walk). w .taken) (simulate s .walks)
+  pub kept : slice MUTATIONS SIMULATED ws′ ≡ slice MUTATIONS SIMULATED ws
+  pub few : r ≤ at + 4294967296
+  pub same : length ws′ ≡ length ws

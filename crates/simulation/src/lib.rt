@@ -1,0 +1,121 @@
+// The section of effects: those copied, the records of context and parameters, Create for returns, and what simulated walks find.
+ghost use mathlib.Core.Path.{_≡_};
+ghost use Prim.Native.Nat.{ℕ, _+_, _≤_, _<_};
+ghost use Rattle.model.specs.Sheet.{Sheet};
+ghost use Rattle.model.specs.State.{simulated};
+ghost use Rattle.model.specs.Simulated.{simulation};
+ghost use Rattle.hir.specs.Says.{placeIs};
+ghost use Rattle.rows.specs.Rows.{Indexed};
+ghost use Rattle.aliasing.specs.Says.{modeSays, mutationSays};
+ghost use Rattle.aliasing.specs.Walks.{Callable};
+ghost use Rattle.writing.specs.Wrote.{farthest};
+ghost use Rattle.function.specs.Function.{Limited};
+ghost use Rattle.simulation.specs.Simulates.{Marked, Simulates, Before, EffectsPut};
+use aliasing::Mutation;
+use aliasing::MutationKind;
+use aliasing::mutate;
+use copies::effect_lists::Section;
+use copies::effect_lists::copy_effects;
+use copies::returns::put_create_returns;
+use function::HirFunction;
+use hir::EvaluationOrder;
+use hir::IdentifierId;
+use hir::Place;
+use rows::HANDED;
+use rows::SIMULATED;
+use summary::flows::put_flows;
+use summary::records::collect_effects;
+use summary::tracked::mark_tracked;
+use summary::tracked::tracked;
+use writing::patch;
+use writing::put;
+
+// The simulated mutation of a place: transitive, Conditional, moving no end.
+fn simulated(index: u32, into: Place) -> Mutation
+    requires { ⌜ into .identifier .0 < 512 ⌝ }
+    ensures { λ r. ⌜ (mutationSays r ≡ simulation index (placeIs into)) × ((modeSays r ≡ simulated) × Callable r) ⌝ }
+{
+    Mutation {
+        index,
+        start: into.identifier,
+        end: EvaluationOrder::UNSET,
+        transitive: true,
+        kind: MutationKind::Conditional,
+        span: into.span,
+        reason: 0,
+        should_record_errors: false,
+    }
+}
+
+// One simulated walk for each of `count` tracked places, from this index on; the entries that each took are kept, and what each finds is written.
+pub fn simulate(
+    ws: &mut [u32],
+    count: usize,
+    index: u32,
+    returns: IdentifierId,
+    answer: &mut [u32],
+    at: usize,
+) -> usize
+    requires { ⌜ Indexed (now ws) ⌝ }
+    requires { ⌜ ((s : Sheet) × Marked s (now ws) count index (returns .0)) ⌝ }
+    requires { ⌜ (count ≤ 129) × ((index ≤ 4096) × (at + 133128 ≤ farthest)) ⌝ }
+    ensures { λ r. ⌜ Simulates (now (ws .entry)) count index (returns .0) (now (answer .entry)) at (now (ws .exit)) (now (answer .exit)) r ⌝ }
+{
+    let mut to = at;
+    let mut i = 0;
+    let mut next = index;
+    while i < count {
+        let into = tracked(ws, i);
+        let r = mutate(ws, HANDED, simulated(next, into));
+        ws[SIMULATED + i] = r.count;
+        to = put_flows(ws, count, into, next, returns, answer, to);
+        next += 1;
+        i += 1;
+    }
+    to
+}
+
+// The section, the first simulated walk having this index.
+pub fn put_effects(
+    sheet: &[u32],
+    ws: &mut [u32],
+    f: HirFunction,
+    index: u32,
+    answer: &mut [u32],
+    at: usize,
+) -> usize
+    requires { ⌜ Limited f ⌝ }
+    requires { ⌜ Indexed (now ws) ⌝ }
+    requires { ⌜ ((s : Sheet) × Before s (now sheet) (now ws) f index) ⌝ }
+    requires { ⌜ (index ≤ 4096) × (at + 4294967296 ≤ farthest) ⌝ }
+    ensures { λ r. ⌜ EffectsPut (now (sheet .entry)) (now (ws .entry)) f index (now (answer .entry)) at (now (ws .exit)) (now (answer .exit)) r ⌝ }
+{
+    let params = f.params as usize;
+    let context = f.context as usize;
+    let returns = f.returns;
+    let a1 = put(answer, at, 0);
+    let copied = copy_effects(
+        sheet,
+        f.blocks,
+        f.count,
+        f.n,
+        f.m,
+        Section::Effects,
+        answer,
+        a1,
+    );
+    let a2 = collect_effects(ws, params, context, answer, copied.at);
+    let a3 = collect_effects(ws, 0, params, answer, a2);
+    let a4 = put_create_returns(sheet, f.identifiers, returns, answer, a3);
+    mark_tracked(ws, params + context);
+    let a5 = simulate(
+        ws,
+        params + context + 1,
+        index,
+        returns.identifier,
+        answer,
+        a4,
+    );
+    patch(answer, at, ((a5 - a1) / 8) as u32);
+    a5
+}
