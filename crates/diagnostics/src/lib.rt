@@ -1,10 +1,11 @@
 // The section of diagnostics: those recorded while building, then those handed over by mutations and by renders.
 ghost use mathlib.Core.Path.{_≡_};
 ghost use Prim.Native.Nat.{ℕ, _+_, _≤_};
+ghost use Rattle.model.specs.Sheet.{Sheet};
 ghost use Rattle.rows.specs.Layout.{MUTATIONS};
 ghost use Rattle.rows.specs.Rows.{Indexed};
 ghost use Rattle.writing.specs.Wrote.{farthest};
-ghost use Rattle.function.specs.Function.{Limited};
+ghost use Rattle.function.specs.Function.{Limited, Describes, Stands};
 ghost use Rattle.diagnostics.specs.Diagnosed.{RendersPut, RecordedPut, DiagnosticsPut};
 use copies::effect_lists::Section;
 use copies::effect_lists::copy_effects;
@@ -62,7 +63,7 @@ fn put_recorded(sheet: &[u32], f: HirFunction, answer: &mut [u32], at: usize) ->
     at
 }
 
-// The section; mutations handed over the functions up to `hand`.
+// The section; mutations handed over the functions up to `hand`. A sheet is asked for because without one nothing says that the positions rise.
 pub fn put_diagnostics(
     sheet: &[u32],
     ws: &mut [u32],
@@ -74,6 +75,7 @@ pub fn put_diagnostics(
 ) -> usize
     requires { ⌜ Limited f ⌝ }
     requires { ⌜ Indexed (now ws) ⌝ }
+    requires { ⌜ ((s : Sheet) × (Describes s (now sheet) f × Stands s (now sheet) (now ws))) ⌝ }
     requires { ⌜ (renders ≤ 256) × ((hand ≤ MUTATIONS) × (at + 4294967296 ≤ farthest)) ⌝ }
     ensures { λ r. ⌜ DiagnosticsPut (now (sheet .entry)) (now (ws .entry)) f renders hand (now (answer .entry)) at (now (ws .exit)) (now (answer .exit)) r ⌝ }
 {

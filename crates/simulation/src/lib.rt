@@ -35,9 +35,10 @@ fn simulated(index: u32, into: Place) -> Mutation
     requires { ⌜ into .identifier .0 < 512 ⌝ }
     ensures { λ r. ⌜ (mutationSays r ≡ simulation index (placeIs into)) × ((modeSays r ≡ simulated) × Callable r) ⌝ }
 {
+    let start = into.identifier;
     Mutation {
         index,
-        start: into.identifier,
+        start,
         end: EvaluationOrder::UNSET,
         transitive: true,
         kind: MutationKind::Conditional,

@@ -1,0 +1,148 @@
+-- The section of diagnostics from its parts.
+use Prim.Native.Nat.{ℕ, _+_, _-_, _≤_}
+use native.Mathlib.Omega.{arith}
+use mathlib.Core.Path.{_≡_, sym, ap, subst, _∙_}
+use mathlib.Core.Bool.{Bool, true, false}
+use mathlib.Core.List.{List, [], _∷_, _++_}
+use lib.ListN.{length, set}
+use lib.Seq.{slice}
+use Rattle.model.specs.Lists.{gather, listIf}
+use Rattle.model.specs.Sheet.{Diagnostic, InnerFunction, Sheet}
+use Rattle.model.specs.Reading.{Position, numbered}
+use Rattle.model.specs.Sections.{block}
+use Rattle.model.specs.Mutation.{RenderOf}
+use Rattle.model.specs.State.{State}
+use Rattle.model.specs.Runs.{rendered}
+use Rattle.model.specs.Building.{build}
+use Rattle.model.specs.Summary.{errors, recorded, afterReal, afterRenders}
+use Rattle.model.specs.Simulated.{simulate}
+use Rattle.model.specs.Answer.{functionErrors, diagnosticWords, section, diagnosed}
+use Rattle.model.proofs.Quiet.{quiet}
+use Rattle.model.proofs.Rendering.{rendered-handed}
+use Rattle.rows.specs.Layout.{HANDED}
+use Rattle.rows.specs.Pending.{rendersOf}
+use Rattle.aliasing.specs.State.{stateOf}
+use Rattle.renders.specs.Renders.{Unmoved}
+use Rattle.writing.specs.Wrote.{Wrote}
+use Rattle.writing.proofs.Writing.{wrote-then, wrote-as, wrote-none}
+use Rattle.copies.specs.Copies.{Copies}
+use Rattle.copies.specs.Words.{blockWords}
+use Rattle.copies.specs.Functions.{AllAppended}
+use Rattle.copies.specs.declared.effect_lists.Section.the-variants.{Diagnostics}
+use Rattle.copies.proofs.Gathers.{gather-append}
+use Rattle.copies.proofs.Sections.{recorded-words, recorded-none, section-patched, diagnostics-count}
+use Rattle.function.specs.declared.HirFunction.{HirFunction}
+use Rattle.function.specs.Function.{Describes, Stands}
+use Rattle.diagnostics.specs.Diagnosed.{RendersPut, RecordedPut, DiagnosticsPut}
+use Rattle.diagnostics.proofs.Rendering.{unmoved-none, handed-words, rendered-words}
+
+-- ---- those recorded while building
+module _ (sheet : List ℕ) (f : HirFunction) (a : List ℕ) (at : ℕ) where
+  pub recorded-put : f .errors ≡ true → {a′ : List ℕ} {at′ : ℕ} {next : Position}
+      → Copies (numbered (f .count) [] (block (f .n) (f .m)) sheet (f .blocks .at)) (gather (blockWords Diagnostics)) 2147483648 a at a′ at′ next → RecordedPut sheet f a at a′ at′
+  recorded-put e p = record {
+    wrote = λ s d. wrote-as (p .wrote (s .blocks) (d .blocks .0) (d .blocks .1)) (recorded-words s (sym (d .errors) ∙ e));
+    few = p .few;
+  }
+
+  pub recorded-not : f .errors ≡ false → RecordedPut sheet f a at a at
+  recorded-not e = record {
+    wrote = λ s d. wrote-as (wrote-none a at) (ap (gather diagnosticWords) (sym (recorded-none s (sym (d .errors) ∙ e))));
+    few = omega arith;
+  }
+
+-- ---- those handed over
+-- what renders hand over comes after what was handed over before, and is the same as on the bare state
+rendered-after : (rs : List RenderOf) (ws : List ℕ) (hand : ℕ) (t : State) → stateOf ws hand ≡ t → rendered rs t .handed ≡ slice HANDED hand ws ++ rendered rs (stateOf ws HANDED) .handed
+unfolding stateOf
+rendered-after rs ws hand t e =
+    ap (λ (u : State). rendered rs u .handed) (sym e)
+    ∙ rendered-handed rs (stateOf ws hand)
+    ∙ ap (λ (l : List ℕ). slice HANDED hand ws ++ l) (sym (rendered-words rs ws))
+
+-- all that was handed over, if errors are recorded
+handed-errors : (s : Sheet) (ws : List ℕ) (renders hand : ℕ) → errors s ≡ true → stateOf ws hand ≡ afterReal s → rendersOf ws renders ≡ build s .renders
+    → simulate s .state .handed ≡ slice HANDED hand ws ++ rendered (rendersOf ws renders) (stateOf ws HANDED) .handed
+unfolding afterRenders
+handed-errors s ws renders hand e t r =
+    quiet s .handed
+    ∙ ap (λ (b : Bool). rendered (listIf b (build s .renders)) (afterReal s) .handed) e
+    ∙ ap (λ (rs : List RenderOf). rendered rs (afterReal s) .handed) (sym r)
+    ∙ rendered-after (rendersOf ws renders) ws hand (afterReal s) t
+
+-- and if they are not
+handed-quiet : (s : Sheet) (ws : List ℕ) (hand : ℕ) → errors s ≡ false → stateOf ws hand ≡ afterReal s → simulate s .state .handed ≡ slice HANDED hand ws
+unfolding afterRenders rendered
+handed-quiet s ws hand e t =
+    quiet s .handed
+    ∙ ap (λ (b : Bool). rendered (listIf b (build s .renders)) (afterReal s) .handed) e
+    ∙ ap (λ (u : State). u .handed) (sym t)
+    ∙ sym (handed-words ws hand)
+
+-- where the arms meet: the renders were run if errors are recorded
+pub record HandedPut (sheet ws : List ℕ) (f : HirFunction) (renders hand : ℕ) (a : List ℕ) (at : ℕ) (ws′ a′ : List ℕ) (at′ : ℕ) : Type 0 where
+  pub wrote : (s : Sheet) → Describes s sheet f → Stands s sheet ws → stateOf ws hand ≡ afterReal s → rendersOf ws renders ≡ build s .renders
+      → Wrote (gather diagnosticWords (gather (functionErrors (s .functions)) (simulate s .state .handed))) a at a′ at′
+  pub least : (s : Sheet) → Describes s sheet f → Stands s sheet ws → at ≤ at′
+  pub few : at′ ≤ at + 8421376
+  pub unmoved : Unmoved ws ws′
+  pub same : length a′ ≡ length a
+
+-- after the functions that mutations handed over
+module _ (sheet ws : List ℕ) (f : HirFunction) (renders hand : ℕ) {a : List ℕ} {at : ℕ} {a₁ : List ℕ} {at₁ : ℕ} (p : AllAppended sheet ws (f .m) hand a at a₁ at₁) (same : length a₁ ≡ length a) where
+  pub handed-put : f .errors ≡ true → renders ≤ 256 → {ws′ a₂ : List ℕ} {at₂ : ℕ} → RendersPut sheet ws (f .m) renders a₁ at₁ ws′ a₂ at₂ → length a₂ ≡ length a₁
+      → HandedPut sheet ws f renders hand a at ws′ a₂ at₂
+  handed-put e h q same′ = record {
+    wrote = λ s d t u r.
+        let fs : List InnerFunction = s .functions in
+        let rs : List ℕ = rendered (rendersOf ws renders) (stateOf ws HANDED) .handed in
+        wrote-as (wrote-then (p .wrote fs (sym (d .m)) (t .functions)) (q .wrote fs (sym (d .m)) (t .functions)))
+        (sym (gather-append diagnosticWords (gather (functionErrors fs) (slice HANDED hand ws)) (gather (functionErrors fs) rs))
+        ∙ ap (gather diagnosticWords) (sym (gather-append (functionErrors fs) (slice HANDED hand ws) rs) ∙ ap (gather (functionErrors fs)) (sym (handed-errors s ws renders hand (sym (d .errors) ∙ e) u r))));
+    least = λ s d t. omega (arith, p .wrote (s .functions) (sym (d .m)) (t .functions) .next, q .wrote (s .functions) (sym (d .m)) (t .functions) .next);
+    few = omega (arith, p .few, q .few, h);
+    unmoved = q .unmoved;
+    same = same′ ∙ same;
+  }
+
+  pub handed-not : f .errors ≡ false → HandedPut sheet ws f renders hand a at ws a₁ at₁
+  handed-not e = record {
+    wrote = λ s d t u r.
+        wrote-as (p .wrote (s .functions) (sym (d .m)) (t .functions))
+        (ap (λ (l : List ℕ). gather diagnosticWords (gather (functionErrors (s .functions)) l)) (sym (handed-quiet s ws hand (sym (d .errors) ∙ e) u)));
+    least = λ s d t. omega (arith, p .wrote (s .functions) (sym (d .m)) (t .functions) .next);
+    few = omega (arith, p .few);
+    unmoved = unmoved-none ws;
+    same = same;
+  }
+
+-- the same by other names
+pub handed-as : {sheet ws : List ℕ} {f : HirFunction} {renders hand : ℕ} {a : List ℕ} {at : ℕ} {ws′ ws″ a′ a″ : List ℕ} {at′ at″ : ℕ} → HandedPut sheet ws f renders hand a at ws′ a′ at′
+    → ws″ ≡ ws′ → a″ ≡ a′ → at″ ≡ at′ → HandedPut sheet ws f renders hand a at ws″ a″ at″
+handed-as {sheet} {ws} {f} {renders} {hand} {a} {at} {ws′} {ws″} {a′} {a″} {at′} {at″} h p q r =
+    subst (λ (k : ℕ). HandedPut sheet ws f renders hand a at ws″ a″ k) (sym r)
+    (subst (λ (l : List ℕ). HandedPut sheet ws f renders hand a at ws″ l at′) (sym q) (subst (λ (l : List ℕ). HandedPut sheet ws f renders hand a at l a′ at′) (sym p) h))
+
+-- ---- the whole section
+module _ {sheet ws : List ℕ} {f : HirFunction} {renders hand : ℕ} {a : List ℕ} {at : ℕ} {a₁ : List ℕ} {at₁ : ℕ} {a₂ : List ℕ} {at₂ : ℕ} {ws′ a₃ : List ℕ} {at₃ : ℕ} (p : Wrote (0 ∷ []) a at a₁ at₁)
+    (q : RecordedPut sheet f a₁ at₁ a₂ at₂) (h : HandedPut sheet ws f renders hand a₂ at₂ ws′ a₃ at₃) where
+  -- the count is a difference of positions
+  pub count-least : (s : Sheet) → Describes s sheet f → Stands s sheet ws → at₁ ≤ at₃
+  count-least s d t = omega (arith, q .wrote s d .next, h .least s d t)
+
+  pub count-few : at₃ ≤ at₁ + 2155905024
+  count-few = omega (arith, q .few, h .few)
+
+  pub diagnostics-put : {a₄ : List ℕ} → a₄ ≡ set a₃ at (at₃ - at₁) → DiagnosticsPut sheet ws f renders hand a at ws′ a₄ at₃
+  unfolding diagnosed
+  diagnostics-put e = record {
+    wrote = λ s d t u r.
+        let l : List Diagnostic = diagnosed s in
+        let w : Wrote (0 ∷ gather diagnosticWords l) a at a₃ at₃ =
+        wrote-as (wrote-then p (wrote-then (q .wrote s d) (h .wrote s d t u r)))
+        (ap (λ (z : List ℕ). 0 ∷ z) (sym (gather-append diagnosticWords (recorded s) (gather (functionErrors (s .functions)) (simulate s .state .handed))))) in
+        let n : length l ≡ at₃ - at₁ = omega (arith, p .next, diagnostics-count l w) in
+        subst (λ (b : List ℕ). Wrote (section diagnosticWords l) a at b at₃) (ap (set a₃ at) n ∙ sym e) (section-patched diagnosticWords l w);
+    few = omega (arith, p .next, q .few, h .few);
+    unmoved = h .unmoved;
+  }

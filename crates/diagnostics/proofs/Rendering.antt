@@ -1,0 +1,140 @@
+-- Renders one after another. None moves what the next one starts from, so each hands over what it would hand over first.
+use Prim.Native.Nat.{ℕ, _+_, _-_, _*_, _/_, _%_, _≤_, _<_}
+use native.Mathlib.Omega.{arith}
+use mathlib.Core.Path.{_≡_, refl, sym, ap, _∙_}
+use mathlib.Core.List.{List, [], _++_}
+use lib.ListN.{length, getD, drop}
+use lib.Seq.{slice, slice-empty}
+use Rattle.model.specs.Lists.{gather}
+use Rattle.model.specs.Sheet.{InnerFunction}
+use Rattle.model.specs.Sections.{innerFunction}
+use Rattle.model.specs.Mutation.{RenderOf}
+use Rattle.model.specs.State.{State}
+use Rattle.model.specs.Renders.{renderWalk}
+use Rattle.model.specs.Runs.{rendered}
+use Rattle.model.specs.Answer.{functionErrors, diagnosticWords}
+use Rattle.model.proofs.Handed.{withHanded}
+use Rattle.model.proofs.Rendering.{handsOver, rendered-handed}
+use Rattle.rows.specs.Layout.{HANDED, MUTATIONS, RENDERS, FUNCTIONS}
+use Rattle.rows.specs.Rows.{rowsOf, Indexed}
+use Rattle.rows.specs.Graph.{tab, graphOfRows}
+use Rattle.rows.specs.Pending.{renderOf, renderAt, rendersOf}
+use Rattle.rows.proofs.Parts.{drop-word}
+use Rattle.aliasing.specs.State.{nodesOf, recordsOf, endsOf, stateOf}
+use Rattle.aliasing.proofs.Walks.{aside-none, aside-then, indexed-after}
+use Rattle.renders.specs.Renders.{Unmoved, Rendered}
+use Rattle.writing.proofs.Writing.{wrote-as}
+use Rattle.copies.specs.Functions.{Functions, AllAppended}
+use Rattle.copies.proofs.Gathers.{gather-gather}
+use Rattle.copies.proofs.Loops.{Leaves, leaves-all, table-turn, table-end}
+use Rattle.diagnostics.specs.Diagnosed.{RendersPut}
+
+pub unmoved-none : (ws : List ℕ) → Unmoved ws ws
+unmoved-none ws = record { nodes = refl; aside = aside-none ws }
+
+pub unmoved-then : {ws₁ ws₂ ws₃ : List ℕ} → Unmoved ws₁ ws₂ → Unmoved ws₂ ws₃ → Unmoved ws₁ ws₃
+unmoved-then a b = record { nodes = b .nodes ∙ a .nodes; aside = aside-then (a .aside) (b .aside) }
+
+-- ---- what stays
+-- the places of the inner functions lie behind what a render writes
+functions-kept : (sheet ws ws′ : List ℕ) (fs : List InnerFunction) → Unmoved ws ws′ → Functions sheet ws fs → Functions sheet ws′ fs
+functions-kept sheet ws ws′ fs u g = record {
+  each = λ k h.
+      let p : getD ws′ (FUNCTIONS + k) 0 ≡ getD ws (FUNCTIONS + k) 0 = drop-word MUTATIONS (FUNCTIONS + k) ws ws′ (omega arith) (u .aside .behind) in
+      (g .each k h .0, ap (λ (w : ℕ). innerFunction sheet w) p ∙ g .each k h .1);
+}
+
+-- the render that is read there is the one of the start
+word-kept : (ws ws′ : List ℕ) (i : ℕ) → Unmoved ws ws′ → getD ws′ (RENDERS + i) 0 ≡ getD ws (RENDERS + i) 0
+word-kept ws ws′ i u = drop-word MUTATIONS (RENDERS + i) ws ws′ (omega arith) (u .aside .behind)
+
+-- nothing is handed over yet at HANDED
+pub state-bare : (ws : List ℕ) (hand : ℕ) → stateOf ws HANDED ≡ withHanded [] (stateOf ws hand)
+unfolding stateOf
+state-bare ws hand = ap (λ (l : List ℕ). withHanded l (stateOf ws hand)) (slice-empty HANDED ws)
+
+-- the state that a render starts from
+state-kept : (ws ws′ : List ℕ) → Unmoved ws ws′ → stateOf ws′ HANDED ≡ stateOf ws HANDED
+unfolding stateOf
+state-kept ws ws′ u =
+    state-bare ws′ HANDED
+    ∙ ap (λ (g : List ℕ). record { graph = graphOfRows g; records = recordsOf (nodesOf ws′); ends = endsOf (nodesOf ws′); handed = [] }) (u .aside .graph)
+    ∙ ap (λ (n : List ℕ). record { graph = graphOfRows (rowsOf ws); records = recordsOf n; ends = endsOf n; handed = [] }) (u .nodes)
+    ∙ sym (state-bare ws HANDED)
+
+-- ---- what is handed over
+pub handed-words : (ws : List ℕ) (hand : ℕ) → slice HANDED hand ws ≡ stateOf ws hand .handed
+unfolding stateOf
+handed-words ws hand = refl
+
+-- by all renders, one after another
+pub rendered-words : (rs : List RenderOf) (ws : List ℕ) → rendered rs (stateOf ws HANDED) .handed ≡ gather (handsOver (stateOf ws HANDED)) rs
+rendered-words rs ws =
+    rendered-handed rs (stateOf ws HANDED)
+    ∙ ap (λ (l : List ℕ). l ++ gather (handsOver (stateOf ws HANDED)) rs) (sym (handed-words ws HANDED) ∙ slice-empty HANDED ws)
+
+-- by one
+render-words : (ws ws′ : List ℕ) (w : ℕ) {count hand : ℕ} → Rendered (w / 512) (w % 512) ws ws′ count hand
+    → slice HANDED hand ws′ ≡ handsOver (stateOf ws HANDED) (renderOf w)
+unfolding renderOf
+render-words ws ws′ w {count} {hand} r =
+    handed-words ws′ hand ∙ ap (λ (s : State). s .handed) (r .state) ∙ ap (λ (s : State). renderWalk (renderOf w) s .state .handed) (state-bare ws HANDED)
+
+-- ---- the loop
+-- the diagnostics of the functions that one render hands over, in words
+abbrev pub renderWords : State → List InnerFunction → RenderOf → List ℕ
+renderWords t fs r = gather diagnosticWords (gather (functionErrors fs) (handsOver t r))
+
+-- from render i on
+pub record Rendering (sheet ws₀ : List ℕ) (m n : ℕ) (a₀ : List ℕ) (at₀ : ℕ) (ws a : List ℕ) (at i : ℕ) : Type 0 where
+  pub leaves : (fs : List InnerFunction) → length fs ≡ m → Functions sheet ws₀ fs
+      → Leaves (gather (renderWords (stateOf ws₀ HANDED) fs) (tab n (renderAt ws₀))) (gather (renderWords (stateOf ws₀ HANDED) fs) (drop i (tab n (renderAt ws₀)))) a₀ at₀ a at
+  pub few : at + 32768 * (n - i) ≤ at₀ + 32768 * n
+  pub unmoved : Unmoved ws₀ ws
+  pub indexed : Indexed ws
+  pub same : length a ≡ length a₀
+
+pub rendering-start : (sheet ws : List ℕ) (m n : ℕ) (a : List ℕ) (at : ℕ) → Indexed ws → Rendering sheet ws m n a at ws a at 0
+rendering-start sheet ws m n a at indexed = record {
+  leaves = λ fs q g. leaves-all (gather (renderWords (stateOf ws HANDED) fs) (tab n (renderAt ws))) a at;
+  few = omega arith;
+  unmoved = unmoved-none ws;
+  indexed = indexed;
+  same = refl;
+}
+
+module _ {sheet ws₀ : List ℕ} {m n : ℕ} {a₀ : List ℕ} {at₀ : ℕ} {ws a : List ℕ} {at i : ℕ} (v : Rendering sheet ws₀ m n a₀ at₀ ws a at i) where
+  -- what this render hands over, by the state and the words of the start
+  turn-words : (ws′ : List ℕ) {count hand : ℕ} → Rendered (getD ws (RENDERS + i) 0 / 512) (getD ws (RENDERS + i) 0 % 512) ws ws′ count hand
+      → slice HANDED hand ws′ ≡ handsOver (stateOf ws₀ HANDED) (renderAt ws₀ i)
+  unfolding renderAt
+  turn-words ws′ r =
+      render-words ws ws′ (getD ws (RENDERS + i) 0) r
+      ∙ ap (λ (s : State). handsOver s (renderOf (getD ws (RENDERS + i) 0))) (state-kept ws₀ ws (v .unmoved))
+      ∙ ap (λ (w : ℕ). handsOver (stateOf ws₀ HANDED) (renderOf w)) (word-kept ws₀ ws i (v .unmoved))
+
+  pub rendering-turn : i < n → {ws′ : List ℕ} {count hand : ℕ} → Rendered (getD ws (RENDERS + i) 0 / 512) (getD ws (RENDERS + i) 0 % 512) ws ws′ count hand
+      → {a′ : List ℕ} {at′ : ℕ} → AllAppended sheet ws′ m hand a at a′ at′ → length a′ ≡ length a → Rendering sheet ws₀ m n a₀ at₀ ws′ a′ at′ (i + 1)
+  rendering-turn h {ws′} r p e =
+      let u : Unmoved ws₀ ws′ = unmoved-then (v .unmoved) (r .unmoved) in
+      record {
+        leaves = λ fs q g. table-turn (renderWords (stateOf ws₀ HANDED) fs) n (renderAt ws₀) i (v .leaves fs q g) h
+            (wrote-as (p .wrote fs q (functions-kept sheet ws₀ ws′ fs u g)) (ap (λ (l : List ℕ). gather diagnosticWords (gather (functionErrors fs) l)) (turn-words ws′ r)));
+        few = omega (arith, v .few, p .few, h);
+        unmoved = u;
+        indexed = indexed-after (v .indexed) (r .unmoved .aside .graph) (r .unmoved .aside .same);
+        same = e ∙ v .same;
+      }
+
+  pub rendering-end : n ≤ i → RendersPut sheet ws₀ m n a₀ at₀ ws a at
+  unfolding rendersOf
+  rendering-end h = record {
+    wrote = λ fs q g.
+        let t : State = stateOf ws₀ HANDED in
+        let rs : List RenderOf = tab n (renderAt ws₀) in
+        wrote-as (table-end (renderWords t fs) n (renderAt ws₀) i (v .leaves fs q g) h)
+        (sym (gather-gather diagnosticWords (λ (r : RenderOf). gather (functionErrors fs) (handsOver t r)) rs)
+        ∙ ap (gather diagnosticWords) (sym (gather-gather (functionErrors fs) (handsOver t) rs) ∙ ap (gather (functionErrors fs)) (sym (rendered-words rs ws₀))));
+    few = omega (arith, v .few);
+    unmoved = v .unmoved;
+  }

@@ -1,0 +1,50 @@
+-- The call by its verdict: refusal 1, a refusal of the reading, or the answer of the sheet.
+use Prim.Native.Nat.{ℕ, _≤_, _<_}
+use mathlib.Core.Path.{_≡_, refl, sym, subst, ap, _∙_}
+use mathlib.Core.Bool.{Bool, true, false, false≢true}
+use mathlib.Core.List.{List}
+use lib.ListN.{length}
+use lib.Dec.{ltb}
+use borrow.Author.Tests.{lt-ltb, le-ltb, ltb-false}
+use Rattle.model.specs.Limits.{leastWorkspace, mostSheet}
+use Rattle.model.specs.Lists.{pick}
+use Rattle.model.specs.Sheet.{Sheet}
+use Rattle.model.specs.Reading.{Position, Result, got, refused}
+use Rattle.model.specs.Sections.{sheet as sheetReader}
+use Rattle.model.specs.Totals.{judged}
+use Rattle.model.specs.Answer.{answer, answerWords}
+use Rattle.model.specs.Call.{Outcome as TheOutcome, refusal, ended, read, IsSheet, fits, answered, outcome}
+use Rattle.model.proofs.ReadLaws.{isGot}
+use Rattle.inference.specs.declared.Outcome.{Outcome}
+use Rattle.inference.specs.Outcome.{Came, Inferred}
+use Rattle.inference.proofs.Ending.{came-as}
+
+-- a sheet that was read has at most 16,384 words
+pub short-sheet : (sheet : List ℕ) (s : Sheet) → IsSheet sheet s → length sheet ≤ mostSheet
+unfolding read
+short-sheet sheet s h = go (ltb mostSheet (length sheet)) refl (h .1)
+  where
+    go : (b : Bool) → ltb mostSheet (length sheet) ≡ b → pick b (refused 2) (judged (ended (sheetReader sheet 0) (length sheet))) ≡ got s (h .0) → length sheet ≤ mostSheet
+    go true e f = absurd (false≢true (ap isGot f))
+    go false e f = ltb-false mostSheet (length sheet) e
+
+module _ (sheet ws ans : List ℕ) where
+  pub inferred-one : {r : Outcome} {ws′ ans′ : List ℕ} → length ws < 16384 → Came (refusal 1) ws ans r ws′ ans′ → Inferred sheet ws ans r ws′ ans′
+  unfolding outcome
+  inferred-one h c = came-as (ap (λ (b : Bool). pick b (refusal 1) (answered (length ans) (read sheet))) (sym (lt-ltb (length ws) 16384 h))) c
+
+  enough : 16384 ≤ length ws → outcome sheet (length ws) (length ans) ≡ answered (length ans) (read sheet)
+  unfolding outcome
+  enough h = ap (λ (b : Bool). pick b (refusal 1) (answered (length ans) (read sheet))) (le-ltb (length ws) 16384 h)
+
+  pub inferred-refused : {k : ℕ} {r : Outcome} {ws′ ans′ : List ℕ} → 16384 ≤ length ws → read sheet ≡ refused k → Came (refusal k) ws ans r ws′ ans′ → Inferred sheet ws ans r ws′ ans′
+  unfolding answered
+  inferred-refused {k} h e c =
+      let o : answered (length ans) (read sheet) ≡ refusal k = ap (answered (length ans)) e in
+      came-as (sym (enough h ∙ o)) c
+
+  pub inferred-answered : (s : Sheet) {r : Outcome} {ws′ ans′ : List ℕ} → 16384 ≤ length ws → IsSheet sheet s → Came (fits (length ans) (answerWords (answer s))) ws ans r ws′ ans′ → Inferred sheet ws ans r ws′ ans′
+  unfolding answered
+  inferred-answered s h e c =
+      let o : answered (length ans) (read sheet) ≡ fits (length ans) (answerWords (answer s)) = ap (answered (length ans)) (e .1) in
+      came-as (sym (enough h ∙ o)) c

@@ -1,0 +1,6 @@
+pub mod Orders
+pub mod Preparing
+pub mod Answering
+pub mod Stages
+pub mod Ending
+pub mod Calling

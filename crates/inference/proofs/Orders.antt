@@ -1,0 +1,156 @@
+-- Every mutation of a sheet that was read has an instruction's order, at most 999,999.
+use Prim.Native.Nat.{ℕ, zero, suc, _≤_}
+use mathlib.Core.Path.{_≡_, refl, subst, ap}
+use mathlib.Core.Bool.{Bool, true, false}
+use mathlib.Core.List.{List, [], _∷_, _++_, List·Memᴰ}
+use mathlib.Core.Option.{Option}
+use lib.ListN.{length}
+use lib.Dec.{leb}
+use borrow.Author.Tests.{leb-true}
+use Rattle.model.specs.Limits.{mostIdentifiers, mostFunctions, mostParams, mostContext, returnsCount, mostBlocks, mostCount, mostOrder}
+use Rattle.model.specs.Lists.{pick, each, among, keep, Every}
+use Rattle.model.specs.Sheet.{BlockId, EvaluationOrder, Place, EffectKind, Freeze, Mutate, MutateConditionally, MutateTransitive, MutateTransitiveConditionally, Capture, Alias, MaybeAlias, Assign, Create, CreateFrom, ImmutableCapture, Apply, CreateFunction, MutateFrozen, MutateGlobal, Impure, Render, Effect, Operand, Phi, Instruction, Terminal, Other, Return, MaybeThrow, Block, Sheet}
+use Rattle.model.specs.Effects.{isAlias}
+use Rattle.model.specs.Reading.{Position, Result, got, refused, Read, andThen, _>>=_, pure, refuse, word, count, fixed, atMost, numbered, counted}
+use Rattle.model.specs.Sections.{flags, identifier, innerFunction, place, effects, phi, instruction, terminal, block, sheet}
+use Rattle.model.specs.Mutation.{Kind, Reason, Mutation}
+use Rattle.model.specs.Graph.{intoAliases, relate}
+use Rattle.model.specs.Built.{Waiting, Built, changed, between}
+use Rattle.model.specs.Building.{instructionEffect, operand, phiNode, wake, waitingFor, stillWaiting, terminalEffect, build}
+use Rattle.model.specs.Building.{instruction as instructionStep, terminal as terminalStep, block as blockStep}
+use Rattle.model.proofs.ReadLaws.{Reads, pure-reads, refuse-reads, pick-reads, any-reads, bind-reads, numbered-reads, counted-reads}
+use Rattle.model.proofs.Everywhere.{every-append}
+use Rattle.model.proofs.Steady.{each-keeps}
+
+-- ---- what was read
+then-reads : {A B : Type 0} (m : Read A) (f : A → Read B) (Q : B → Type 0) → ((a : A) → Reads (f a) Q) → Reads (m >>= f) Q
+then-reads {A} m f Q k = bind-reads m f (λ (a : A). Unit {0}) Q (any-reads m) (λ a u. k a)
+
+atMost-reads : (most : ℕ) → Reads (atMost most) (λ (w : ℕ). w ≤ most)
+unfolding atMost
+atMost-reads most =
+    bind-reads word (λ (w : ℕ). pick (leb w most) (pure w) (refuse 5)) (λ (w : ℕ). Unit {0}) (λ (w : ℕ). w ≤ most) (any-reads word)
+    (λ w u. pick-reads (leb w most) (pure w) (refuse 5) (λ (w : ℕ). w ≤ most) (λ h. pure-reads w (λ (w : ℕ). w ≤ most) (leb-true w most h)) (λ h. refuse-reads 5 (λ (w : ℕ). w ≤ most)))
+
+abbrev Ordered : Instruction → Type 0
+Ordered i = i .order ≤ mostOrder
+
+abbrev BlockOrdered : Block → Type 0
+BlockOrdered k = Every Ordered (k .instructions)
+
+instruction-reads : (n m : ℕ) → Reads (instruction n m) Ordered
+unfolding instruction
+instruction-reads n m =
+    bind-reads (atMost mostOrder) _ (λ (w : ℕ). w ≤ mostOrder) Ordered (atMost-reads mostOrder)
+    (λ o h. then-reads (effects n m) _ Ordered (λ l. pure-reads _ Ordered h))
+
+block-reads : (n m : ℕ) (b : BlockId) → Reads (block n m b) BlockOrdered
+unfolding block
+block-reads n m b =
+    then-reads (counted mostCount (phi n)) _ BlockOrdered
+    (λ ps. bind-reads (counted mostCount (instruction n m)) _ (Every Ordered) BlockOrdered (counted-reads Ordered mostCount (instruction n m) (instruction-reads n m))
+    (λ is h. then-reads (terminal n m) _ BlockOrdered (λ t. pure-reads _ BlockOrdered h)))
+
+abbrev SheetOrdered : Sheet → Type 0
+SheetOrdered s = Every BlockOrdered (s .blocks)
+
+sheet-reads : Reads sheet SheetOrdered
+unfolding sheet
+sheet-reads =
+    then-reads flags _ SheetOrdered
+    (λ fs. then-reads (counted mostIdentifiers identifier) _ SheetOrdered
+    (λ ids. then-reads (counted mostFunctions innerFunction) _ SheetOrdered
+    (λ inner. then-reads (counted mostParams (place (length ids))) _ SheetOrdered
+    (λ ps. then-reads (counted mostContext (place (length ids))) _ SheetOrdered
+    (λ cs. then-reads (fixed returnsCount) _ SheetOrdered
+    (λ k. then-reads (place (length ids)) _ SheetOrdered
+    (λ r. then-reads (count mostBlocks) _ SheetOrdered
+    (λ b. bind-reads (numbered b [] (block (length ids) (length inner))) _ (Every BlockOrdered) SheetOrdered
+    (numbered-reads BlockOrdered b [] (block (length ids) (length inner)) (block-reads (length ids) (length inner)))
+    (λ bs h. pure-reads _ SheetOrdered h)))))))))
+
+-- ---- what is built of it
+abbrev Small : Mutation → Type 0
+Small m = m .order ≤ mostOrder
+
+abbrev Good : Built → Type 0
+Good b = Every Small (b .mutations)
+
+one-more : (l : List Mutation) (m : Mutation) → Every Small l → Small m → Every Small (l ++ (m ∷ []))
+one-more l m h k = every-append Small l (m ∷ []) h (k, tt)
+
+effect-good : (k : EffectKind) (o : EvaluationOrder) (e : Effect) (b : Built) → o ≤ mostOrder → Good b → Good (instructionEffect k o e b)
+unfolding instructionEffect
+effect-good Freeze o e b h g = g
+effect-good Mutate o e b h g = one-more (b .mutations) _ g h
+effect-good MutateConditionally o e b h g = one-more (b .mutations) _ g h
+effect-good MutateTransitive o e b h g = one-more (b .mutations) _ g h
+effect-good MutateTransitiveConditionally o e b h g = one-more (b .mutations) _ g h
+effect-good Capture o e b h g = g
+effect-good Alias o e b h g = g
+effect-good MaybeAlias o e b h g = g
+effect-good Assign o e b h g = g
+effect-good Create o e b h g = g
+effect-good CreateFrom o e b h g = g
+effect-good ImmutableCapture o e b h g = g
+effect-good Apply o e b h g = g
+effect-good CreateFunction o e b h g = g
+effect-good MutateFrozen o e b h g = g
+effect-good MutateGlobal o e b h g = g
+effect-good Impure o e b h g = g
+effect-good Render o e b h g = g
+
+instruction-good : (i : Instruction) (b : Built) → Ordered i → Good b → Good (instructionStep i b)
+unfolding instructionStep
+instruction-good i b h g =
+    each-keeps (λ (e : Effect). instructionEffect (e .kind) (i .order) e) Good (i .effects) b (λ e m c q. effect-good (e .kind) (i .order) e c h q) g
+
+instructions-good : (l : List Instruction) (b : Built) → Every Ordered l → Good b → Good (each instructionStep l b)
+instructions-good [] b h g = g
+instructions-good (i ∷ l) b h g = instructions-good l (instructionStep i b) (h .1) (instruction-good i b (h .0) g)
+
+pick-good : (t : Bool) (b c : Built) → Good b → Good c → Good (pick t b c)
+pick-good true b c g h = g
+pick-good false b c g h = h
+
+operand-good : (into : Place) (o : Operand) (b : Built) → Good b → Good (operand into o b)
+unfolding operand
+operand-good into o b g = pick-good (among (o .predecessor) (b .come)) _ _ g g
+
+phi-good : (p : Phi) (b : Built) → Good b → Good (phiNode p b)
+unfolding phiNode
+phi-good p b g = each-keeps (operand (p .place)) Good (p .operands) _ (λ o m c q. operand-good (p .place) o c q) g
+
+wake-good : (n : BlockId) (b : Built) → Good b → Good (wake n b)
+unfolding wake
+wake-good n b g =
+    each-keeps (λ (w : Waiting). changed (relate intoAliases (w .index) (w .origin) (w .into))) Good (keep (waitingFor n) (b .waiting)) (stillWaiting n b) (λ w m c q. q) g
+
+effect-last : (e : Effect) (b : Built) → Good b → Good (terminalEffect e b)
+unfolding terminalEffect
+effect-last e b g = pick-good (isAlias (e .kind)) _ _ g g
+
+effects-last : (l : List Effect) (b : Built) → Good b → Good (each terminalEffect l b)
+effects-last l b g = each-keeps terminalEffect Good l b (λ e m c q. effect-last e c q) g
+
+terminal-good : (r : Place) (t : Terminal) (b : Built) → Good b → Good (terminalStep r t b)
+unfolding terminalStep
+terminal-good r (Other o) b g = g
+terminal-good r (Return o p l) b g = effects-last l (between (relate intoAliases) p r b) g
+terminal-good r (MaybeThrow o l) b g = effects-last l b g
+
+block-good : (r : Place) (k : Block) (b : Built) → BlockOrdered k → Good b → Good (blockStep r k b)
+unfolding blockStep
+block-good r k b h g =
+    terminal-good r (k .terminal) _
+    (wake-good (k .number) _
+    (instructions-good (k .instructions) _ h
+    (each-keeps phiNode Good (k .phis) b (λ p m c q. phi-good p c q) g)))
+
+blocks-good : (r : Place) (l : List Block) (b : Built) → Every BlockOrdered l → Good b → Good (each (blockStep r) l b)
+blocks-good r [] b h g = g
+blocks-good r (k ∷ l) b h g = blocks-good r l (blockStep r k b) (h .1) (block-good r k b (h .0) g)
+
+pub orders : (ws : List ℕ) (s : Sheet) (d : Position) → sheet ws 0 ≡ got s d → Every Small (build s .mutations)
+unfolding build
+orders ws s d e = blocks-good (s .returns) (s .blocks) _ (sheet-reads ws 0 s d e) tt

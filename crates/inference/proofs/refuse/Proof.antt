@@ -1,0 +1,32 @@
+use native.Mathlib.Omega.{arith}
+use Rattle.inference.proofs.Ending.{refused-all}
+use borrow.Author.Needs.{needs}
+use Rattle.inference.proofs.refuse.Statement.{statement}
+use Rattle.inference.proofs.refuse.Tie as tie
+use Rattle.inference.proofs.refuse.Reads as reads
+use Rattle.inference.proofs.refuse.Lts as lts
+use Rattle.rows.proofs.clear.Reads as clear-reads
+
+-- src/lib.rt:39:5
+clear-requires : tie.Need-clear-requires
+clear-requires c κs = search needs
+
+-- src/lib.rt:41:5
+clear-requires-2 : tie.Need-clear-requires-2
+clear-requires-2 c κs = search needs
+
+-- src/lib.rt:35:1
+same-length : tie.Need-same-length
+same-length c = search needs
+
+-- src/lib.rt:35:1
+same-length-2 : tie.Need-same-length-2
+same-length-2 c = search needs
+
+-- src/lib.rt:35:1
+returns : tie.Need-returns
+returns c = refused-all (c .before .before .before .before .before .before .clear .ensures) (c .before .before .clear2 .ensures)
+
+pub refuse-spec : {M : Type 1} → statement M
+refuse-spec =
+    tie.close (tie.spec clear-requires clear-requires-2 same-length same-length-2 returns)

@@ -1,0 +1,47 @@
+-- A call on an accepted sheet, stage by stage.
+use Prim.Native.Nat.{ℕ, _≤_}
+use mathlib.Core.Path.{_≡_}
+use mathlib.Core.List.{List, _++_, map}
+use lib.ListN.{length}
+use Rattle.model.specs.Sheet.{Sheet}
+use Rattle.model.specs.State.{State}
+use Rattle.model.specs.Building.{build}
+use Rattle.model.specs.Summary.{built, marked}
+use Rattle.model.specs.Answer.{answer, answerWords, rangesOf, rangeWords, placeWords, section}
+use Rattle.model.specs.Call.{IsSheet, fits}
+use Rattle.rows.specs.Layout.{HANDED}
+use Rattle.rows.specs.Rows.{Indexed}
+use Rattle.rows.specs.Pending.{mutationsOf, rendersOf}
+use Rattle.building.specs.declared.Building.{Building}
+use Rattle.building.specs.Built.{indexOf}
+use Rattle.aliasing.specs.State.{nodesOf, endsOf, stateOf}
+use Rattle.aliasing.specs.Pending.{Pending}
+use Rattle.writing.specs.Wrote.{Wrote}
+use Rattle.summary.specs.Records.{Holds}
+use Rattle.function.specs.declared.HirFunction.{HirFunction}
+use Rattle.function.specs.Function.{Limited, Describes, Stands}
+
+-- the sheet s is built: the state is that before the first mutation, and mutations and renders are pending
+pub record Prepared (s : Sheet) (sheet ws : List ℕ) (f : HirFunction) (b : Building) : Type 0 where
+  pub describes : Describes s sheet f
+  pub limited : Limited f
+  pub stands : Stands s sheet ws
+  pub indexed : Indexed ws
+  pub state : stateOf ws HANDED ≡ built s
+  pub mutations : mutationsOf ws (b .mutations) ≡ build s .mutations
+  pub renders : rendersOf ws (b .renders) ≡ build s .renders
+  pub index : indexOf b ≡ build s .index
+  pub pending : Pending ws (b .mutations)
+  pub fewRelations : b .relations ≤ 1024
+  pub fewRenders : b .renders ≤ 256
+
+-- the ranges, the params and the context of s were written, t having the records of the words
+pub record PlacesPut (sheet ws : List ℕ) (f : HirFunction) (ans ans′ : List ℕ) (r : ℕ) : Type 0 where
+  pub wrote : (s : Sheet) (t : State) → Describes s sheet f → Stands s sheet ws → Holds ws t
+      → Wrote (section rangeWords (rangesOf (s .identifiers) (endsOf (nodesOf ws))) ++ (section placeWords (map (marked t) (s .params)) ++ section placeWords (map (marked t) (s .context)))) ans 0 ans′ r
+  pub few : r ≤ 1411
+
+-- the answer of s was written, as far as there is room, and it is r words long
+pub record AnswerPut (sheet ws : List ℕ) (f : HirFunction) (b : Building) (ans ws′ ans′ : List ℕ) (r : ℕ) : Type 0 where
+  pub wrote : (s : Sheet) → Prepared s sheet ws f b → Wrote (answerWords (answer s)) ans 0 ans′ r
+  pub same : length ws′ ≡ length ws
