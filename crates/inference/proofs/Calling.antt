@@ -11,10 +11,13 @@ use Rattle.model.specs.Lists.{pick}
 use Rattle.model.specs.Sheet.{Sheet}
 use Rattle.model.specs.Reading.{Position, Result, got, refused}
 use Rattle.model.specs.Sections.{sheet as sheetReader}
-use Rattle.model.specs.Totals.{judged}
+use Rattle.model.specs.Totals.{Totals, judged}
 use Rattle.model.specs.Answer.{answer, answerWords}
 use Rattle.model.specs.Call.{Outcome as TheOutcome, refusal, ended, read, IsSheet, fits, answered, outcome}
 use Rattle.model.proofs.ReadLaws.{isGot}
+use Rattle.reading.specs.Whole.{Judgement, acceptance, judgementOf}
+use Rattle.reading.specs.Whole.{refusal as noSheet}
+use Rattle.reading.proofs.Accepted.{accepted-sheet, refused-sheet}
 use Rattle.inference.specs.declared.Outcome.{Outcome}
 use Rattle.inference.specs.Outcome.{Came, Inferred}
 use Rattle.inference.proofs.Ending.{came-as}
@@ -27,6 +30,13 @@ short-sheet sheet s h = go (ltb mostSheet (length sheet)) refl (h .1)
     go : (b : Bool) → ltb mostSheet (length sheet) ≡ b → pick b (refused 2) (judged (ended (sheetReader sheet 0) (length sheet))) ≡ got s (h .0) → length sheet ≤ mostSheet
     go true e f = absurd (false≢true (ap isGot f))
     go false e f = ltb-false mostSheet (length sheet) e
+
+-- the sheet behind an acceptance
+pub accepted-is : (sheet : List ℕ) {t : Totals} → judgementOf (read sheet) ≡ acceptance t → (s : Sheet) × IsSheet sheet s
+accepted-is sheet {t} e = let a = accepted-sheet sheet t e in (a .sheet, a .is)
+
+pub refused-is : (sheet : List ℕ) {k : ℕ} → judgementOf (read sheet) ≡ noSheet k → read sheet ≡ refused k
+refused-is sheet {k} e = refused-sheet sheet k e
 
 module _ (sheet ws ans : List ℕ) where
   pub inferred-one : {r : Outcome} {ws′ ans′ : List ℕ} → length ws < 16384 → Came (refusal 1) ws ans r ws′ ans′ → Inferred sheet ws ans r ws′ ans′

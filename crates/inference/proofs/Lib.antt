@@ -1,5 +1,6 @@
 pub mod Orders
 pub mod Preparing
+pub mod Making
 pub mod Answering
 pub mod Stages
 pub mod Ending

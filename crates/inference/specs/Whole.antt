@@ -20,6 +20,10 @@ use Rattle.writing.specs.Wrote.{Wrote}
 use Rattle.summary.specs.Records.{Holds}
 use Rattle.function.specs.declared.HirFunction.{HirFunction}
 use Rattle.function.specs.Function.{Limited, Describes, Stands}
+use Rattle.parameters.specs.declared.FunctionStep.{FunctionStep}
+use Rattle.parameters.specs.declared.FunctionStep.the-variants.{Got, Refused}
+use Rattle.inference.specs.declared.Outcome.{Outcome}
+use Rattle.inference.specs.Outcome.{Came}
 
 -- the sheet s is built: the state is that before the first mutation, and mutations and renders are pending
 pub record Prepared (s : Sheet) (sheet ws : List ℕ) (f : HirFunction) (b : Building) : Type 0 where
@@ -45,3 +49,17 @@ pub record PlacesPut (sheet ws : List ℕ) (f : HirFunction) (ans ans′ : List 
 pub record AnswerPut (sheet ws : List ℕ) (f : HirFunction) (b : Building) (ans ws′ ans′ : List ℕ) (r : ℕ) : Type 0 where
   pub wrote : (s : Sheet) → Prepared s sheet ws f b → Wrote (answerWords (answer s)) ans 0 ans′ r
   pub same : length ws′ ≡ length ws
+
+-- a refusal is given to no sheet
+abbrev pub preparedIs : Sheet → List ℕ → List ℕ → FunctionStep → Type 0
+preparedIs s sheet ws (Got f b) = Prepared s sheet ws f b
+preparedIs s sheet ws Refused = ⊥
+
+-- the accepted sheet was built
+pub record Prepares (sheet ws ws′ : List ℕ) (r : FunctionStep) : Type 0 where
+  pub built : (s : Sheet) → IsSheet sheet s → preparedIs s sheet ws′ r
+  pub same : length ws′ ≡ length ws
+
+-- the accepted sheet was answered, if the answer fits
+abbrev pub Answers : List ℕ → List ℕ → List ℕ → Outcome → List ℕ → List ℕ → Type 0
+Answers sheet ws ans r ws′ ans′ = (s : Sheet) → IsSheet sheet s → Came (fits (length ans) (answerWords (answer s))) ws ans r ws′ ans′

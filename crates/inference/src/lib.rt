@@ -3,14 +3,20 @@ ghost use mathlib.Core.Path.{_≡_};
 ghost use Prim.Native.Nat.{ℕ, _≤_};
 ghost use lib.ListN.{length};
 ghost use Rattle.model.specs.Sheet.{Sheet};
-ghost use Rattle.model.specs.Call.{refusal};
+ghost use Rattle.model.specs.Call.{refusal, IsSheet};
 ghost use Rattle.function.specs.Function.{Limited, Describes, Stands};
-ghost use Rattle.inference.specs.Outcome.{Came};
-ghost use Rattle.inference.specs.Whole.{Prepared, PlacesPut, AnswerPut};
+ghost use Rattle.inference.specs.Outcome.{Came, Inferred};
+ghost use Rattle.inference.specs.Whole.{Prepared, Prepares, PlacesPut, AnswerPut, Answers};
 use aliasing::process_mutations;
 use building::Building;
+use dataflow::build_blocks;
 use diagnostics::put_diagnostics;
 use function::HirFunction;
+use instructions::BuildStep;
+use parameters::FunctionStep;
+use parameters::read_function;
+use reading::Verdict;
+use rows::SEEN;
 use rows::clear;
 use simulation::put_effects;
 use summary::ranges::put_ranges;
@@ -21,6 +27,32 @@ use summary::walks::put_walks;
 pub enum Outcome {
     Refused(u32),
     Accepted(usize),
+}
+
+// Part 1: builds the data flow graph and lays it out for the walks.
+fn build(sheet: &[u32], ws: &mut [u32]) -> FunctionStep
+    requires { ⌜ 16384 ≤ length (now ws) ⌝ }
+    requires { ⌜ ((s : Sheet) × IsSheet (now sheet) s) ⌝ }
+    ensures { λ r. ⌜ Prepares (now (sheet .entry)) (now (ws .entry)) (now (ws .exit)) r ⌝ }
+{
+    clear(ws, 0, SEEN);
+    let FunctionStep::Got(f, first) = read_function(sheet, ws) else {
+        return FunctionStep::Refused;
+    };
+    let BuildStep::Got(b, _) = build_blocks(
+        f.blocks,
+        sheet,
+        f.n,
+        f.m,
+        ws,
+        first,
+        f.count,
+        f.returns,
+    ) else {
+        return FunctionStep::Refused;
+    };
+    b.lay_out(ws);
+    FunctionStep::Got(f, b)
 }
 
 // The sections of ranges, params and context.
@@ -63,4 +95,42 @@ fn refuse(workspace: &mut [u32], answer: &mut [u32], k: u32) -> Outcome
     let room = answer.len();
     clear(answer, 0, room);
     Outcome::Refused(k)
+}
+
+// An accepted sheet: its answer, or 9 where the buffer is shorter.
+fn answer_sheet(sheet: &[u32], workspace: &mut [u32], answer: &mut [u32]) -> Outcome
+    requires { ⌜ 16384 ≤ length (now workspace) ⌝ }
+    requires { ⌜ ((s : Sheet) × IsSheet (now sheet) s) ⌝ }
+    ensures { λ r. ⌜ Answers (now (sheet .entry)) (now (workspace .entry)) (now (answer .entry)) r (now (workspace .exit)) (now (answer .exit)) ⌝ }
+{
+    let FunctionStep::Got(f, b) = build(sheet, workspace) else {
+        return Outcome::Refused(0);
+    };
+    let length = put_answer(sheet, workspace, f, b, answer);
+    let words = workspace.len();
+    clear(workspace, 0, words);
+    let room = answer.len();
+    if room < length {
+        clear(answer, 0, room);
+        return Outcome::Refused(9);
+    }
+    clear(answer, length, room - length);
+    Outcome::Accepted(length)
+}
+
+// The whole call.
+pub fn infer_mutation_aliasing_ranges(
+    sheet: &[u32],
+    workspace: &mut [u32],
+    answer: &mut [u32],
+) -> Outcome
+    ensures { λ r. ⌜ Inferred (now (sheet .entry)) (now (workspace .entry)) (now (answer .entry)) r (now (workspace .exit)) (now (answer .exit)) ⌝ }
+{
+    if workspace.len() < 16384 {
+        return refuse(workspace, answer, 1);
+    }
+    match reading::read(sheet) {
+        Verdict::Refused(k) => refuse(workspace, answer, k),
+        Verdict::Accepted(_) => answer_sheet(sheet, workspace, answer),
+    }
 }

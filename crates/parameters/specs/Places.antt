@@ -42,16 +42,27 @@ abbrev pub placesAre : List Place → Position → ℕ → List ℕ → Building
 placesAre ps d first ws b ws′ (Got r c) = Places ps first ws b ws′ r × (c .at ≡ d)
 placesAre ps d first ws b ws′ (Refused k) = ⊥
 
+-- an answer is given to nothing else than what was read
+abbrev pub placesGot : Result (List Place) → BuildStep → Type 0
+placesGot x (Got r c) = (ps : List Place) × (x ≡ got ps (c .at))
+placesGot x (Refused k) = Unit {0}
+
 pub record ReadsPlaces (x : Result (List Place)) (first : ℕ) (ws : List ℕ) (b : Building) (ws′ : List ℕ) (r : BuildStep) : Type 0 where
   pub read : (ps : List Place) (d : Position) → x ≡ got ps d → placesAre ps d first ws b ws′ r
+  pub only : placesGot x r
 
 -- the same after a count
 abbrev pub listIs : List Place → Position → ℕ → List ℕ → Building → List ℕ → ListStep → Type 0
 listIs ps d first ws b ws′ (GotList k r c) = Places ps first ws b ws′ r × ((k ≡ length ps) × (c .at ≡ d))
 listIs ps d first ws b ws′ NoList = ⊥
 
+abbrev pub listGot : Result (List Place) → ListStep → Type 0
+listGot x (GotList k r c) = (ps : List Place) × (x ≡ got ps (c .at))
+listGot x NoList = Unit {0}
+
 pub record ReadsList (x : Result (List Place)) (first : ℕ) (ws : List ℕ) (b : Building) (ws′ : List ℕ) (r : ListStep) : Type 0 where
   pub read : (ps : List Place) (d : Position) → x ≡ got ps d → listIs ps d first ws b ws′ r
+  pub only : listGot x r
 
 -- parameters, context, returns and the count of blocks
 pub record TrackedRead (s : Sheet) (d : Position) (sheet : List ℕ) (n : ℕ) (ws : List ℕ) (b : Building) (ws′ : List ℕ) (t : Tracked) (r : Building) : Type 0 where

@@ -36,7 +36,7 @@ pub fn read_places(
     first: usize,
     count: u32,
 ) -> BuildStep
-    requires { ⌜ (n ≤ 512) × ((first ≤ 128) × (count ≤ 64)) ⌝ }
+    requires { ⌜ (n ≤ 512) × ((first ≤ 64) × (count ≤ 64)) ⌝ }
     requires { ⌜ Sound (now ws) b ⌝ }
     ensures { λ r. ⌜ ReadsPlaces (times count (place n) (now (sheet .entry)) (c .at)) first (now (ws .entry)) b (now (ws .exit)) r ⌝ }
 {
@@ -142,19 +142,27 @@ pub fn read_function(sheet: &[u32], ws: &mut [u32]) -> FunctionStep
     let TopStep::Got(top) = read_top(sheet, ws) else {
         return FunctionStep::Refused;
     };
+    // Never more: what `read_top` ensures says so only where the words are a sheet.
+    if 512 < top.n {
+        return FunctionStep::Refused;
+    }
     let b = building::start(ws);
-    let TrackedStep::Got(t, built) = read_tracked(sheet, ws, b, top.next, top.n) else {
+    let next = top.next;
+    let TrackedStep::Got(t, built) = read_tracked(sheet, ws, b, next, top.n) else {
         return FunctionStep::Refused;
     };
+    let identifiers = top.identifiers;
+    let returns = t.returns;
+    let blocks = t.next;
     let f = HirFunction {
         errors: top.errors,
-        identifiers: top.identifiers,
+        identifiers,
         n: top.n,
         m: top.m,
         params: t.params,
         context: t.context,
-        returns: t.returns,
-        blocks: t.next,
+        returns,
+        blocks,
         count: t.count,
     };
     FunctionStep::Got(f, built)

@@ -1,4 +1,8 @@
 // The service: calls over the state that the host lends.
+ghost use mathlib.Core.Path.{_≡_};
+ghost use Rattle.model.specs.Limits.{leastWorkspace, mostSheet};
+ghost use Rattle.model.specs.Service.{newService};
+ghost use Rattle.service.specs.Served.{Served};
 use inference::Outcome;
 use inference::infer_mutation_aliasing_ranges;
 
@@ -23,7 +27,9 @@ pub struct Turn {
 }
 
 // The whole call, with the serial as a number.
-pub fn turn_from(serial: u32, sheet: &[u32], workspace: &mut [u32], answer: &mut [u32]) -> Turn {
+pub fn turn_from(serial: u32, sheet: &[u32], workspace: &mut [u32], answer: &mut [u32]) -> Turn
+    ensures { λ r. ⌜ Served serial (now (sheet .entry)) (now (workspace .entry)) (now (answer .entry)) (r .reply) (r .next) (now (workspace .exit)) (now (answer .exit)) ⌝ }
+{
     match infer_mutation_aliasing_ranges(sheet, workspace, answer) {
         Outcome::Refused(k) => {
             let reply = Reply {
@@ -57,7 +63,9 @@ pub extern "C" fn service_infer(
     sheet: &[u32],
     workspace: &mut [u32],
     answer: &mut [u32],
-) -> Reply {
+) -> Reply
+    ensures { λ r. ⌜ Served (now (state .entry) .next) (now (sheet .entry)) (now (workspace .entry)) (now (answer .entry)) r (now (state .exit) .next) (now (workspace .exit)) (now (answer .exit)) ⌝ }
+{
     let serial = state.next;
     let turn = turn_from(serial, sheet, workspace, answer);
     state.next = turn.next;
@@ -66,18 +74,24 @@ pub extern "C" fn service_infer(
 
 // A new state.
 #[no_mangle]
-pub extern "C" fn service_new() -> ServiceState {
+pub extern "C" fn service_new() -> ServiceState
+    ensures { λ r. ⌜ r .next ≡ newService .next ⌝ }
+{
     ServiceState { next: 0 }
 }
 
 // How many words a workspace has at least.
 #[no_mangle]
-pub extern "C" fn service_least_workspace() -> usize {
+pub extern "C" fn service_least_workspace() -> usize
+    ensures { λ r. ⌜ r ≡ leastWorkspace ⌝ }
+{
     16384
 }
 
 // How many words a sheet has at most.
 #[no_mangle]
-pub extern "C" fn service_most_sheet() -> usize {
+pub extern "C" fn service_most_sheet() -> usize
+    ensures { λ r. ⌜ r ≡ mostSheet ⌝ }
+{
     16384
 }

@@ -1,0 +1,109 @@
+-- An accepted sheet is read a second time, built and laid out; no step refuses it.
+use Prim.Native.Nat.{ℕ, _≤_, _<_}
+use native.Mathlib.Omega.{arith}
+use mathlib.Core.Path.{_≡_, sym, subst, ap, _∙_}
+use mathlib.Core.Bool.{false}
+use mathlib.Core.List.{List, [], map}
+use lib.ListN.{length, take}
+use lib.Seq.{sets}
+use Rattle.model.specs.Lists.{each}
+use Rattle.model.specs.Sheet.{Identifier, Place, Sheet}
+use Rattle.model.specs.Totals.{totals, over}
+use Rattle.model.specs.Reading.{Position, Result, got, numbered}
+use Rattle.model.specs.Sections.{block}
+use Rattle.model.specs.Sections.{sheet as sheetReader}
+use Rattle.model.specs.Building.{block as blockStep}
+use Rattle.model.specs.Call.{IsSheet}
+use Rattle.model.proofs.WhenRead.{read-got}
+use Rattle.hir.specs.Says.{placeIs}
+use Rattle.rows.specs.Layout.{LEAST, END, SEEN}
+use Rattle.rows.specs.Sort.{clearW}
+use Rattle.rows.proofs.Clearing.{kept-clear}
+use Rattle.building.specs.declared.Building.{Building}
+use Rattle.building.specs.Built.{LaysOut, Sound}
+use Rattle.instructions.specs.declared.BuildStep.{BuildStep}
+use Rattle.instructions.specs.declared.BuildStep.the-variants.{Got as GotBlocks, Refused as NoBlocks}
+use Rattle.instructions.specs.Cost.{costs}
+use Rattle.instructions.specs.Builds.{Ready, Builds}
+use Rattle.dataflow.specs.Cost.{blockCost}
+use Rattle.dataflow.specs.Whole.{Whole, WholeAt}
+use Rattle.dataflow.proofs.Sheet.{blocks-ready, blocks-whole}
+use Rattle.hir.specs.declared.Cursor.{Cursor}
+use Rattle.function.specs.declared.HirFunction.{HirFunction}
+use Rattle.function.specs.Function.{Limited, Describes, Stands}
+use Rattle.parameters.specs.declared.FunctionStep.{FunctionStep}
+use Rattle.parameters.specs.declared.FunctionStep.the-variants.{Got, Refused}
+use Rattle.parameters.specs.Function.{FunctionRead, functionIs, ReadsFunction}
+use Rattle.inference.specs.declared.Outcome.{Outcome}
+use Rattle.inference.specs.Whole.{Prepared, preparedIs, Prepares, Answers}
+use Rattle.inference.proofs.Preparing.{prepared}
+
+-- the loop over the blocks of f, as its contract says it
+abbrev Looped : List ℕ → HirFunction → List ℕ → Building → List ℕ → BuildStep → Type 0
+Looped sheet f ws b ws′ r = Builds (numbered (f .count) [] (block (f .n) (f .m)) sheet (f .blocks .at)) (each (blockStep (placeIs (f .returns)))) (costs blockCost) ws b ws′ r
+
+is-read : (sheet : List ℕ) {s : Sheet} → (is : IsSheet sheet s) → sheetReader sheet 0 ≡ got s (is .0)
+is-read sheet {s} is = read-got sheet s (is .0) (is .1) .0
+
+is-within : (sheet : List ℕ) {s : Sheet} → IsSheet sheet s → over (totals s) ≡ false
+is-within sheet {s} is = read-got sheet s (is .0) (is .1) .1
+
+pub cleared-size : (ws₀ : List ℕ) {ws : List ℕ} → LEAST ≤ length ws₀ → ws ≡ clearW ws₀ 0 SEEN → LEAST ≤ length ws
+cleared-size ws₀ h e = omega (arith, h, kept-clear ws₀ 0 SEEN .same, ap (λ (z : List ℕ). length z) e)
+
+module _ {sheet ws ws₁ : List ℕ} {x : FunctionStep} (h : ReadsFunction sheet ws ws₁ x) where
+  never : x ≡ Refused → (s : Sheet) → IsSheet sheet s → ⊥
+  never q s is = subst (functionIs s sheet ws ws₁) q (h .read s (is .0) (is-read sheet is))
+
+  pub no-function : ((s : Sheet) × IsSheet sheet s) → x ≡ Refused → {ws₀ ws′ : List ℕ} → Prepares sheet ws₀ ws′ Refused
+  no-function p q = record { built = λ s is. never q s is; same = absurd (never q (p .0) (p .1)) }
+
+  module _ {f : HirFunction} {b : Building} (q : x ≡ Got f b) where
+    pub function-got : (s : Sheet) → IsSheet sheet s → FunctionRead s sheet ws ws₁ f b
+    function-got s is = subst (functionIs s sheet ws ws₁) q (h .read s (is .0) (is-read sheet is))
+
+    pub blocks-can : ((s : Sheet) × IsSheet sheet s)
+        → ((f .n ≤ 512) × ((f .m ≤ 64) × (f .returns .identifier .0 < 512))) × Ready (numbered (f .count) [] (block (f .n) (f .m)) sheet (f .blocks .at)) (costs blockCost) ws₁ b
+    blocks-can p =
+        let g = function-got (p .0) (p .1) in
+        let l = g .limited in
+        let k = g .describes .blocks in
+        (
+          (l .n, (l .m, omega (arith, l .returns, l .n))),
+          blocks-ready (p .0) sheet (f .n) (f .m) (f .count) (f .blocks .at) (k .0) (k .1) (g .first) (l .count) (is-within sheet (p .1)),
+        )
+
+    module _ {ws₂ : List ℕ} {y : BuildStep} (w : Looped sheet f ws₁ b ws₂ y) where
+      whole : (s : Sheet) → IsSheet sheet s → (d : Position) × WholeAt s d ws₁ ws₂ y
+      whole s is =
+          let g = function-got s is in
+          let k = g .describes .blocks in
+          let w′ : Builds (numbered (f .count) [] (block (f .n) (f .m)) sheet (f .blocks .at)) (each (blockStep (s .returns))) (costs blockCost) ws₁ b ws₂ y =
+          subst (λ (p : Place). Builds (numbered (f .count) [] (block (f .n) (f .m)) sheet (f .blocks .at)) (each (blockStep p)) (costs blockCost) ws₁ b ws₂ y) (g .describes .returns) w in
+          (k .0, blocks-whole s sheet (f .n) (f .m) (f .count) (f .blocks .at) (k .0) (k .1) (g .first) ws₂ y w′)
+
+      refuses : {n : ℕ} → y ≡ NoBlocks n → (s : Sheet) → IsSheet sheet s → ⊥
+      refuses e s is = let k = whole s is in subst (WholeAt s (k .0) ws₁ ws₂) e (k .1)
+
+      pub no-blocks : ((s : Sheet) × IsSheet sheet s) → {n : ℕ} → y ≡ NoBlocks n → {ws₀ ws′ : List ℕ} → Prepares sheet ws₀ ws′ Refused
+      no-blocks p e = record { built = λ s is. refuses e s is; same = absurd (refuses e (p .0) (p .1)) }
+
+      module _ {b′ : Building} {c : Cursor} (e : y ≡ GotBlocks b′ c) where
+        pub whole-got : (s : Sheet) → IsSheet sheet s → Whole s ws₁ ws₂ b′
+        whole-got s is = let k = whole s is in let v : WholeAt s (k .0) ws₁ ws₂ (GotBlocks b′ c) = subst (WholeAt s (k .0) ws₁ ws₂) e (k .1) in v .0
+
+        pub prepares : ((s : Sheet) × IsSheet sheet s) → {ws₀ ws₃ : List ℕ} → LEAST ≤ length ws₀ → ws ≡ clearW ws₀ 0 SEEN → LaysOut ws₂ b′ ws₃ → Prepares sheet ws₀ ws₃ (Got f b′)
+        prepares p {ws₀} {ws₃} size cleared l = record {
+          built = λ s is.
+              let g = function-got s is in
+              prepared s sheet (is .0) (is-read sheet is) f b′ ws₀ ws₁ ws₂ ws₃ (g .describes) (g .limited) (g .stands) size (g .ends ∙ ap (λ (z : List ℕ). take SEEN (sets z END (map (λ (i : Identifier). i .end) (s .identifiers)))) cleared) (whole-got s is) l;
+          same = l .same ∙ whole-got (p .0) (p .1) .same ∙ function-got (p .0) (p .1) .same ∙ ap (λ (z : List ℕ). length z) cleared ∙ kept-clear ws₀ 0 SEEN .same;
+        }
+
+-- what was built
+module _ {sheet ws ws₁ : List ℕ} {x : FunctionStep} (h : Prepares sheet ws ws₁ x) where
+  pub prepared-got : {f : HirFunction} {b : Building} → x ≡ Got f b → (s : Sheet) → IsSheet sheet s → Prepared s sheet ws₁ f b
+  prepared-got q s is = subst (preparedIs s sheet ws₁) q (h .built s is)
+
+  pub no-answer : x ≡ Refused → ((s : Sheet) × IsSheet sheet s) → {ans : List ℕ} {r : Outcome} {ws′ ans′ : List ℕ} → Answers sheet ws ans r ws′ ans′
+  no-answer q p = absurd (subst (preparedIs (p .0) sheet ws₁) q (h .built (p .0) (p .1)))

@@ -1,0 +1,92 @@
+use native.Mathlib.Omega.{arith}
+use mathlib.Core.Path.{_∙_}
+use Rattle.inference.proofs.Making.{prepared-got, no-answer}
+use Rattle.inference.proofs.Ending.{too-long, fitting}
+use borrow.Author.Needs.{needs}
+use Rattle.inference.proofs.answer_sheet.Statement.{statement}
+use Rattle.inference.proofs.answer_sheet.Tie as tie
+use Rattle.inference.proofs.answer_sheet.Reads as reads
+use Rattle.inference.proofs.answer_sheet.Lts as lts
+use Rattle.inference.proofs.build.Reads as build-reads
+use Rattle.inference.proofs.put_answer.Reads as put-answer-reads
+use Rattle.rows.proofs.clear.Reads as clear-reads
+
+-- src/lib.rt:106:35
+build-requires : tie.Need-build-requires
+build-requires c κs = (c .before .before .before .before .pre .0, c .before .before .before .before .pre .1)
+
+-- src/lib.rt:106:27
+enum-known-f : tie.Need-enum-known-f
+enum-known-f c = search needs
+
+-- src/lib.rt:107:9
+enum-told : tie.Need-enum-told
+enum-told c = search needs
+
+-- src/lib.rt:107:9
+same-length : tie.Need-same-length
+same-length c = search needs
+
+-- src/lib.rt:107:9
+returns : tie.Need-returns
+returns c = no-answer (c .before .before .before .before .build .ensures) (c .enum-told .given .1) (c .before .before .before .before .before .before .before .before .before .pre .1)
+
+-- src/lib.rt:109:9
+put-answer-requires : tie.Need-put-answer-requires
+put-answer-requires c κs = (c .before .before .before .before .before .before .before .before .before .before .before .before .pre .1 .0, prepared-got (c .before .before .before .before .before .before .before .build .ensures) (c .before .before .before .f .given .1) (c .before .before .before .before .before .before .before .before .before .before .before .before .pre .1 .0) (c .before .before .before .before .before .before .before .before .before .before .before .before .pre .1 .1))
+
+-- src/lib.rt:111:5
+clear-requires : tie.Need-clear-requires
+clear-requires c κs = search needs
+
+-- src/lib.rt:114:9
+clear-requires-2 : tie.Need-clear-requires-2
+clear-requires-2 c κs = search needs
+
+-- src/lib.rt:115:9
+same-length-2 : tie.Need-same-length-2
+same-length-2 c = search needs
+
+-- src/lib.rt:115:9
+same-length-3 : tie.Need-same-length-3
+same-length-3 c = search needs
+
+-- src/lib.rt:115:9
+returns-2 : tie.Need-returns-2
+returns-2 c = λ s is. too-long (c .before .before .before .before .before .before .before .before .before .before .before .before .before .put-answer .ensures .wrote s (prepared-got (c .before .before .before .before .before .before .before .before .before .before .before .before .before .before .before .before .before .before .before .before .before .build .ensures) (c .before .before .before .before .before .before .before .before .before .before .before .before .before .before .before .before .before .f .given .1) s is)) _ _ _ (c .before .before .before .before .before .before .before .before .before .before .before .before .before .put-answer .ensures .same ∙ c .before .before .before .before .before .before .before .before .before .before .before .before .before .before .before .before .before .before .before .before .before .build .ensures .same) (c .before .before .before .before .before .before .before .clear .ensures) (c .before .before .before .before .if1 .taken) (c .before .before .clear2 .ensures)
+
+-- src/lib.rt:117:5
+clear-requires-3 : tie.Need-clear-requires-3
+clear-requires-3 c κs = search needs
+
+-- src/lib.rt:101:1
+same-length-4 : tie.Need-same-length-4
+same-length-4 c = search needs
+
+-- src/lib.rt:101:1
+same-length-5 : tie.Need-same-length-5
+same-length-5 c = search needs
+
+-- src/lib.rt:101:1
+returns-3 : tie.Need-returns-3
+returns-3 c = λ s is. fitting (c .before .before .before .before .before .before .before .before .before .before .before .before .before .put-answer .ensures .wrote s (prepared-got (c .before .before .before .before .before .before .before .before .before .before .before .before .before .before .before .before .before .before .before .before .before .build .ensures) (c .before .before .before .before .before .before .before .before .before .before .before .before .before .before .before .before .before .f .given .1) s is)) _ _ _ (c .before .before .before .before .before .before .before .before .before .before .before .before .before .put-answer .ensures .same ∙ c .before .before .before .before .before .before .before .before .before .before .before .before .before .before .before .before .before .before .before .before .before .build .ensures .same) (c .before .before .before .before .before .before .before .clear .ensures) (c .before .before .before .before .if1 .left) (c .before .before .clear3 .ensures)
+
+pub answer-sheet-spec : {M : Type 1} → statement M
+answer-sheet-spec =
+    tie.close
+    (tie.spec
+    build-requires
+    enum-known-f
+    enum-told
+    same-length
+    returns
+    put-answer-requires
+    clear-requires
+    clear-requires-2
+    same-length-2
+    same-length-3
+    returns-2
+    clear-requires-3
+    same-length-4
+    same-length-5
+    returns-3)

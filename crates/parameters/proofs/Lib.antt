@@ -1,0 +1,5 @@
+pub mod Staying
+pub mod Tracking
+pub mod Listing
+pub mod Following
+pub mod Before

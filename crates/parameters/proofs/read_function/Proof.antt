@@ -1,0 +1,93 @@
+use mathlib.Core.Path.{_∙_}
+use borrow.Author.Needs.{needs}
+use Rattle.parameters.proofs.Before.{no-top, too-many, no-tracked, function-read}
+use Rattle.parameters.proofs.read_function.Statement.{statement}
+use Rattle.parameters.proofs.read_function.Tie as tie
+
+read-top-requires : tie.Need-read-top-requires
+read-top-requires c κs = search needs
+
+enum-known-top : tie.Need-enum-known-top
+enum-known-top c = search needs
+
+enum-told : tie.Need-enum-told
+enum-told c = search needs
+
+same-length : tie.Need-same-length
+same-length c = search needs
+
+returns : tie.Need-returns
+returns c =
+    let b4 = c .before .before .before .before in
+    no-top (b4 .read-top .ensures) (c .enum-told .given .1)
+
+same-length-2 : tie.Need-same-length-2
+same-length-2 c = search needs
+
+returns-2 : tie.Need-returns-2
+returns-2 c =
+    let b3 = c .before .before .before in
+    let b7 = b3 .before .before .before .before in
+    too-many (b7 .read-top .ensures) (b3 .top .given .1) (c .if1 .taken)
+
+start-requires : tie.Need-start-requires
+start-requires c κs = search needs
+
+read-tracked-requires : tie.Need-read-tracked-requires
+read-tracked-requires c κs =
+    let b4 = c .before .before .before .before in
+    let b6 = b4 .before .before in
+    (b6 .if1 .left, b4 .start .ensures .sound)
+
+enum-known-t : tie.Need-enum-known-t
+enum-known-t c = search needs
+
+enum-told-2 : tie.Need-enum-told-2
+enum-told-2 c = search needs
+
+same-length-3 : tie.Need-same-length-3
+same-length-3 c = search needs
+
+returns-3 : tie.Need-returns-3
+returns-3 c =
+    let b4 = c .before .before .before .before in
+    let b9 = b4 .before .before .before .before .before in
+    let b14 = b9 .before .before .before .before .before in
+    let b18 = b14 .before .before .before .before in
+    no-tracked (b18 .read-top .ensures) (b14 .top .given .1) (b9 .start .ensures) (b4 .read-tracked .ensures) (c .enum-told2 .given .1)
+
+same-length-4 : tie.Need-same-length-4
+same-length-4 c =
+    let b8 = c .before .before .before .before .before .before .before .before in
+    let b13 = b8 .before .before .before .before .before in
+    let b22 = b13 .before .before .before .before .before .before .before .before .before in
+    b8 .read-tracked .kept .1 .0 ∙ b13 .start .kept .0 ∙ b22 .read-top .kept .1 .0
+
+returns-4 : tie.Need-returns-4
+returns-4 c =
+    let b4 = c .before .before .before .before in
+    let b8 = b4 .before .before .before .before in
+    let b13 = b8 .before .before .before .before .before in
+    let b18 = b13 .before .before .before .before .before in
+    let b22 = b18 .before .before .before .before in
+    function-read (b22 .read-top .ensures) (b18 .top .given .1) (b13 .start .ensures) (b8 .read-tracked .ensures) (b4 .t .given .1)
+
+pub read-function-spec : {M : Type 1} → statement M
+read-function-spec =
+    tie.close
+    (tie.spec
+    read-top-requires
+    enum-known-top
+    enum-told
+    same-length
+    returns
+    same-length-2
+    returns-2
+    start-requires
+    read-tracked-requires
+    enum-known-t
+    enum-told-2
+    same-length-3
+    returns-3
+    same-length-4
+    returns-4)
