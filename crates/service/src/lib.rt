@@ -50,7 +50,7 @@ pub fn turn_from(serial: u32, sheet: &[u32], workspace: &mut [u32], answer: &mut
             };
             Turn {
                 reply,
-                next: serial.wrapping_add(1),
+                next: std::num::wrapping_add_u32(serial, 1),
             }
         }
     }

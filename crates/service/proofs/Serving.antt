@@ -1,0 +1,61 @@
+-- What a call comes to, as the host is told it.
+use Prim.Native.Nat.{ℕ, zero, suc, _+_, _%_, _^_, _<_}
+use native.Mathlib.Omega.{arith}
+use mathlib.Core.Path.{_≡_, refl, sym, subst, ap, _∙_}
+use mathlib.Core.Bool.{Bool, true, false, false≢true}
+use mathlib.Core.List.{List}
+use lib.ListN.{length as len}
+use lib.Dec.{eqb}
+use borrow.Author.Tests.{eqb-true, eqb-false}
+use Rattle.model.specs.Limits.{lastSerial}
+use Rattle.model.specs.Lists.{pick}
+use Rattle.model.specs.Call.{Outcome as TheOutcome, refusal, accepted, outcome}
+use Rattle.model.specs.Service.{taken, serves, call}
+use Rattle.inference.specs.declared.Outcome.{Outcome}
+use Rattle.inference.specs.declared.Outcome.the-variants.{Refused, Accepted}
+use Rattle.inference.specs.Outcome.{Returned, number, length, returnedBy, Came, Inferred}
+use Rattle.service.specs.Served.{stateWith, Tells, Served}
+
+abbrev isNumber : Returned → Bool
+isNumber (number k) = true
+isNumber (length n) = false
+
+abbrev told : Returned → ℕ
+told (number k) = k
+told (length n) = n
+
+-- the successor by wrapping add is the definition's
+successor : (n : ℕ) → n < 2 ^ 32 → (n + 1) % 2 ^ 32 ≡ taken (stateWith n) .next
+unfolding taken
+successor n h = go (eqb n lastSerial) refl
+  where
+    go : (b : Bool) → eqb n lastSerial ≡ b → (n + 1) % 2 ^ 32 ≡ pick b 0 (suc n)
+    go true e = ap (λ (k : ℕ). (k + 1) % 2 ^ 32) (eqb-true n lastSerial e)
+    go false e = let d = eqb-false n lastSerial e in below (omega (arith, h, d))
+      where
+        below : n + 1 < 4294967296 → (n + 1) % 4294967296 ≡ suc n
+        below q = omega (arith, q)
+
+module _ {ws ans ws′ ans′ : List ℕ} (n : ℕ) where
+  refused-as : (o : TheOutcome) {k : ℕ} → Came o ws ans (Refused k) ws′ ans′ → Tells (serves (stateWith n) o) ws ans (record { refusal = k; serial = 0; length = 0 }) n ws′ ans′
+  unfolding serves returnedBy
+  refused-as (refusal j) c = record { refusal = ap told (c .returned); serial = refl; long = refl; state = refl; answer = c .answer; workspace = c .workspace }
+  refused-as (accepted a) c = absurd (false≢true (sym (ap isNumber (c .returned))))
+
+  accepted-as : (o : TheOutcome) {m next : ℕ} → n < 2 ^ 32 → Came o ws ans (Accepted m) ws′ ans′ → next ≡ (n + 1) % 2 ^ 32
+      → Tells (serves (stateWith n) o) ws ans (record { refusal = 0; serial = n; length = m }) next ws′ ans′
+  unfolding serves returnedBy
+  accepted-as (refusal j) h c e = absurd (false≢true (ap isNumber (c .returned)))
+  accepted-as (accepted a) h c e = record { refusal = refl; serial = refl; long = ap told (c .returned); state = e ∙ successor n h; answer = c .answer; workspace = c .workspace }
+
+module _ (sheet ws ans : List ℕ) {r : Outcome} {ws′ ans′ : List ℕ} (n : ℕ) (i : Inferred sheet ws ans r ws′ ans′) where
+  came : {r′ : Outcome} → r ≡ r′ → Inferred sheet ws ans r′ ws′ ans′
+  came e = subst (λ (x : Outcome). Inferred sheet ws ans x ws′ ans′) e i
+
+  pub served-refused : {k : ℕ} → r ≡ Refused k → Served n sheet ws ans (record { refusal = k; serial = 0; length = 0 }) n ws′ ans′
+  unfolding call
+  served-refused e = refused-as n (outcome sheet (len ws) (len ans)) (came e)
+
+  pub served-accepted : {m next : ℕ} → r ≡ Accepted m → n < 2 ^ 32 → next ≡ (n + 1) % 2 ^ 32 → Served n sheet ws ans (record { refusal = 0; serial = n; length = m }) next ws′ ans′
+  unfolding call
+  served-accepted e h q = accepted-as n (outcome sheet (len ws) (len ans)) h (came e) q
