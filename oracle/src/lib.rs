@@ -10,4 +10,6 @@ pub mod original_side;
 pub mod ours;
 pub mod plain;
 pub mod random;
+pub mod replay;
 pub mod steps;
+pub mod text;
