@@ -148,9 +148,7 @@ fn case_5() -> Result<(), String> {
 
 fn case_6() -> Result<(), String> {
     let [_, _, _, from_operand, from_phi, _] = graph_sheets();
-    for (sheet, entries, reached) in
-        [(from_operand, 2, vec![0, 2]), (from_phi, 5, vec![2, 1, 0])]
-    {
+    for (sheet, entries, reached) in [(from_operand, 2, vec![0, 2]), (from_phi, 5, vec![2, 1, 0])] {
         is("entries", agreed(&sheet)?.walks[0], entries)?;
         is("accepted", accepted(&sheet, 0), reached)?;
     }

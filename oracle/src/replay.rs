@@ -16,7 +16,7 @@ use crate::random::Random;
 use crate::text;
 
 /// The longest answer buffer that the program lends.
-pub const ROOM: usize = 20_000;
+pub const ROOM: usize = 18_000;
 
 /// A generated sheet that is longer is not taken, for the size of the file.
 const LONGEST: usize = 2_500;

@@ -1,7 +1,7 @@
 // Calls the service on sheets of the oracle at several lengths of the lent buffers, which hold rubbish before each call,
 // compares every word of the answer, of the words behind it and of the workspace, and prints counts.
 // The file has parts of 32,768 words; in a part stand records, each after the number of its words, then zeros.
-// A record: the sheet's length and words; the refusal if 20,000 answer words are lent, 0 for none; the answer's length and words.
+// A record: the sheet's length and words; the refusal if 18,000 answer words are lent, 0 for none; the answer's length and words.
 ghost use Prim.Native.Nat.{_≤_};
 use files::load_words;
 use libc::STDOUT_FILENO;
@@ -181,7 +181,7 @@ fn accepted(
     let r1 = lend(run, sheet, 1, none, workspace, 16383, answer, full);
     let r2 = lend(r1, sheet, 0, expected, workspace, 16384, answer, full);
     let r3 = lend(r2, sheet, 9, none, workspace, 16384, answer, full - 1);
-    let r4 = lend(r3, sheet, 0, expected, workspace, 20000, answer, 20000);
+    let r4 = lend(r3, sheet, 0, expected, workspace, 18000, answer, 18000);
     lend(r4, sheet, 9, none, workspace, 16385, answer, 0)
 }
 
@@ -194,9 +194,9 @@ fn refused(
     answer: &mut [u32],
 ) -> Run {
     let none = &sheet[..0];
-    let r1 = lend(run, sheet, 1, none, workspace, 16383, answer, 20000);
-    let r2 = lend(r1, sheet, refusal, none, workspace, 16384, answer, 20000);
-    let r3 = lend(r2, sheet, refusal, none, workspace, 20000, answer, 0);
+    let r1 = lend(run, sheet, 1, none, workspace, 16383, answer, 300);
+    let r2 = lend(r1, sheet, refusal, none, workspace, 16384, answer, 18000);
+    let r3 = lend(r2, sheet, refusal, none, workspace, 18000, answer, 0);
     lend(r3, sheet, 1, none, workspace, 0, answer, 17)
 }
 
@@ -286,8 +286,8 @@ fn start() -> Run {
 }
 
 fn main() {
-    let mut workspace = [0u32; 20000];
-    let mut answer = [0u32; 20000];
+    let mut workspace = [0u32; 18000];
+    let mut answer = [0u32; 18000];
     let path = b"answers.bin";
     let file = os::open_read(path);
     if file < 0 {

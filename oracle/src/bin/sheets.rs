@@ -216,10 +216,8 @@ fn write_steps(folder: &Path, count: usize) -> std::io::Result<()> {
     let records = step_records(count);
     let walks: usize = records.iter().map(|r| r.walks).sum();
     let renders: usize = records.iter().map(|r| r.renders).sum();
-    let line = format!(
-        "{} graphs, {walks} walks, {renders} renders, 0 differences\n",
-        records.len()
-    );
+    let line =
+        format!("{} graphs, {walks} walks, {renders} renders, 0 differences\n", records.len());
     let words = parts(records.iter().map(|r| &r.words), 16_384);
     std::fs::create_dir_all(folder)?;
     std::fs::write(folder.join("stdin"), bytes(&words))?;
