@@ -7,6 +7,7 @@
 
 use crate::compare::Side;
 use crate::plain::Outcome;
+use crate::plain::sheet::{SHEET_WORDS, WORKSPACE_WORDS};
 use crate::random::Random;
 
 #[repr(C)]
@@ -25,6 +26,8 @@ struct Reply {
 
 unsafe extern "C" {
     fn service_new() -> ServiceState;
+    fn service_least_workspace() -> usize;
+    fn service_most_sheet() -> usize;
     fn service_infer(
         state: *mut ServiceState,
         sheet: *const u32,
@@ -91,9 +94,11 @@ pub struct Ours {
 impl Default for Ours {
     fn default() -> Ours {
         let mut random = Random::new(0);
-        // SAFETY: it takes nothing.
-        let mut state = unsafe { service_new() };
+        // SAFETY: they take nothing.
+        let (mut state, workspace, sheet) =
+            unsafe { (service_new(), service_least_workspace(), service_most_sheet()) };
         assert_eq!(state, ServiceState { next: 0 }, "a new state");
+        assert_eq!((workspace, sheet), (WORKSPACE_WORDS, SHEET_WORDS), "the lengths");
         // A few calls before the wrap.
         state.next = u32::MAX - 9;
         Ours {
