@@ -76,17 +76,26 @@ fn accepted(sheet: &Sheet, walk: usize) -> Vec<u32> {
     traced.walks[walk].accepted.iter().map(|s| s.identifier).collect()
 }
 
+fn case_1_words() -> Vec<u32> {
+    CASE_1.split_whitespace().filter_map(|w| w.parse().ok()).collect()
+}
+
 fn case_1() -> Result<(), String> {
-    let words: Vec<u32> = CASE_1.split_whitespace().filter_map(|w| w.parse().ok()).collect();
-    let sheet = plain::read(&words).map_err(|r| format!("refused {r}"))?;
+    let sheet = plain::read(&case_1_words()).map_err(|r| format!("refused {r}"))?;
     is("lines", agreed(&sheet)?.lines(), ANSWER_1.map(String::from).to_vec())
 }
 
+/// The two sheets of case 2. Cases 8 and 9 use the first one too.
+fn without_blocks() -> [Sheet; 2] {
+    [sheet(1, &[], 0, Vec::new()), sheet(3, &[0, 1], 2, Vec::new())]
+}
+
 fn case_2() -> Result<(), String> {
-    let answer = agreed(&sheet(1, &[], 0, Vec::new()))?;
+    let [first, second] = without_blocks();
+    let answer = agreed(&first)?;
     is("effects", answer.effects, vec![one(9, 0)])?;
     is("walks", answer.walks, vec![1])?;
-    let answer = agreed(&sheet(3, &[0, 1], 2, Vec::new()))?;
+    let answer = agreed(&second)?;
     is("effects", answer.effects, vec![one(9, 2), two(5, 1, 0)])
 }
 
@@ -139,9 +148,7 @@ fn case_5() -> Result<(), String> {
 
 fn case_6() -> Result<(), String> {
     let [_, _, _, from_operand, from_phi, _] = graph_sheets();
-    for (sheet, entries, reached) in
-        [(from_operand, 2, vec![0, 2]), (from_phi, 5, vec![2, 1, 0])]
-    {
+    for (sheet, entries, reached) in [(from_operand, 2, vec![0, 2]), (from_phi, 5, vec![2, 1, 0])] {
         is("entries", agreed(&sheet)?.walks[0], entries)?;
         is("accepted", accepted(&sheet, 0), reached)?;
     }
@@ -155,7 +162,7 @@ fn case_7() -> Result<(), String> {
 }
 
 fn case_8() -> Result<(), String> {
-    let words = sheet(1, &[], 0, Vec::new()).words();
+    let words = without_blocks()[0].words();
     let mut next = u32::MAX;
     for serial in [Some(u32::MAX), Some(0)] {
         is("serial", plain::turn(&mut next, &words, WORKSPACE_WORDS, 16_384).1, serial)?;
@@ -171,19 +178,28 @@ fn refusal(call: &Call) -> Result<u32, String> {
     }
 }
 
+/// Sheets with 1,024 relations, each before one with 1,025.
+fn relation_sheets() -> [Sheet; 4] {
+    let mut random = Random::new(9);
+    let mut made = |make: fn(&mut Random, Limit) -> Sheet, limit| make(&mut random, limit);
+    [
+        made(generate::at_limit, Limit::Relations),
+        made(generate::past_limit, Limit::Relations),
+        made(generate::at_limit, Limit::PhiRelations),
+        made(generate::past_limit, Limit::PhiRelations),
+    ]
+}
+
 fn case_9() -> Result<(), String> {
-    let good = roomy(&sheet(1, &[], 0, Vec::new()).words());
+    let good = roomy(&without_blocks()[0].words());
     let workspace = |workspace| Call { workspace, ..good.clone() };
     is("workspace 16,383", refusal(&workspace(16_383))?, 1)?;
     is("workspace 16,384", refusal(&workspace(16_384))?, 0)?;
-    let mut random = Random::new(9);
-    for limit in [Limit::Relations, Limit::PhiRelations] {
-        let at = generate::at_limit(&mut random, limit);
-        is("relations", at.totals().relations, 1_024)?;
-        is("1,024 relations", refusal(&roomy(&at.words()))?, 0)?;
-        let past = generate::past_limit(&mut random, limit);
-        is("relations", past.totals().relations, 1_025)?;
-        is("1,025 relations", refusal(&roomy(&past.words()))?, 8)?;
+    for pair in relation_sheets().chunks(2) {
+        is("relations", pair[0].totals().relations, 1_024)?;
+        is("1,024 relations", refusal(&roomy(&pair[0].words()))?, 0)?;
+        is("relations", pair[1].totals().relations, 1_025)?;
+        is("1,025 relations", refusal(&roomy(&pair[1].words()))?, 8)?;
     }
     is("room as the answer", refusal(&Call { room: Room::Exact, ..good.clone() })?, 0)?;
     is("one answer word short", refusal(&Call { room: Room::Short(1), ..good.clone() })?, 9)?;
@@ -219,8 +235,8 @@ fn limits() -> Result<(), String> {
     Ok(())
 }
 
-/// For one word the lower number, and the first faulty word decides.
-fn refusal_order() -> Result<(), String> {
+/// For one word the lower number, and the first faulty word decides: sheets with their refusals.
+fn ordered_sheets() -> Vec<(&'static str, Vec<u32>, u32)> {
     let good = sheet(1, &[], 0, vec![block(7, &[]), block(8, &[])]).words();
     // The words of the second block: number, phis, instructions, terminal, order.
     let number = good.len() - 5;
@@ -228,28 +244,47 @@ fn refusal_order() -> Result<(), String> {
         let mut words = good.clone();
         changes.iter().for_each(|&(at, word)| words[at] = word);
         words.resize(length, 0);
-        refusal(&roomy(&words))
+        words
     };
     let whole = good.len();
-    is("good", with(&[], whole)?, 0)?;
-    is("number again", with(&[(number, 7)], whole)?, 6)?;
-    is("number past its range", with(&[(number, 65_536)], whole)?, 5)?;
-    is("6 before 4", with(&[(number, 7), (number + 1, 1_025)], whole)?, 6)?;
-    is("4 before 5", with(&[(number + 1, 1_025), (number + 3, 3)], whole)?, 4)?;
-    is("5 before 3", with(&[(number + 3, 3)], whole - 1)?, 5)?;
-    is("3", with(&[], whole - 1)?, 3)?;
-    is("5 before 7", with(&[(number + 4, 1_000_000)], whole + 1)?, 5)?;
-    is("7", with(&[], whole + 1)?, 7)?;
-    is("2 before all others", with(&[(0, 9)], 16_385)?, 2)?;
-    is("7 up to 16,384 words", with(&[], 16_384)?, 7)?;
-    is("flags 3", with(&[(0, 3)], whole)?, 4)?;
-    is("empty", with(&[], 0)?, 3)?;
-    let mut past = generate::past_limit(&mut Random::new(1), Limit::Renders).words();
-    is("8", refusal(&roomy(&past))?, 8)?;
-    is("8 before 9", refusal(&Call { room: Room::None, ..roomy(&past) })?, 8)?;
-    past.push(0);
-    is("7 before 8", refusal(&roomy(&past))?, 7)?;
-    is("1 before 7", refusal(&Call { workspace: 0, ..roomy(&past) })?, 1)
+    let past = generate::past_limit(&mut Random::new(1), Limit::Renders).words();
+    let longer: Vec<u32> = past.iter().copied().chain([0]).collect();
+    vec![
+        ("good", with(&[], whole), 0),
+        ("number again", with(&[(number, 7)], whole), 6),
+        ("number past its range", with(&[(number, 65_536)], whole), 5),
+        ("6 before 4", with(&[(number, 7), (number + 1, 1_025)], whole), 6),
+        ("4 before 5", with(&[(number + 1, 1_025), (number + 3, 3)], whole), 4),
+        ("5 before 3", with(&[(number + 3, 3)], whole - 1), 5),
+        ("3", with(&[], whole - 1), 3),
+        ("5 before 7", with(&[(number + 4, 1_000_000)], whole + 1), 5),
+        ("7", with(&[], whole + 1), 7),
+        ("2 before all others", with(&[(0, 9)], 16_385), 2),
+        ("7 up to 16,384 words", with(&[], 16_384), 7),
+        ("flags 3", with(&[(0, 3)], whole), 4),
+        ("empty", with(&[], 0), 3),
+        ("8", past, 8),
+        ("7 before 8", longer, 7),
+    ]
+}
+
+fn refusal_order() -> Result<(), String> {
+    let sheets = ordered_sheets();
+    for (name, words, expected) in &sheets {
+        is(name, refusal(&roomy(words))?, *expected)?;
+    }
+    let [.., (_, past, _), (_, longer, _)] = &sheets[..] else { unreachable!("there are two") };
+    is("8 before 9", refusal(&Call { room: Room::None, ..roomy(past) })?, 8)?;
+    is("1 before 7", refusal(&Call { workspace: 0, ..roomy(longer) })?, 1)
+}
+
+/// The words of every sheet above; the first one is case 1's.
+pub fn sheets() -> Vec<Vec<u32>> {
+    let made = without_blocks().into_iter().chain(graph_sheets()).chain(relation_sheets());
+    let mut sheets = vec![case_1_words()];
+    sheets.extend(made.map(|sheet| sheet.words()));
+    sheets.extend(ordered_sheets().into_iter().map(|(_, words, _)| words));
+    sheets
 }
 
 pub const FURTHER: [(&str, fn() -> Result<(), String>); 2] =

@@ -11,10 +11,17 @@ use crate::plain::{self, Outcome, sheet};
 /// call, refusals 1 and 9 included, with all six sections.
 pub trait Side {
     fn name(&self) -> &'static str;
-    fn outcome(&mut self, sheet: &[u32], workspace_len: usize, answer_len: usize) -> Outcome;
+
+    /// What the call gave, or what is wrong with the buffers or the state that it left.
+    fn outcome(
+        &mut self,
+        sheet: &[u32],
+        workspace_len: usize,
+        answer_len: usize,
+    ) -> Result<Outcome, String>;
 }
 
-/// A difference between a side and the plain reader.
+/// A difference between a side and the plain reader, or the original.
 #[derive(Debug, Clone)]
 pub struct Difference {
     pub side: &'static str,
@@ -74,56 +81,104 @@ fn original_answer(sheet: &sheet::Sheet) -> Result<plain::Answer, String> {
     })
 }
 
+/// The plain reader's answer held to the original's, to the bound of a walk, and its reading of
+/// the sheet to the sheet's words.
+fn compare_answers(
+    words: &[u32],
+    sheet: &sheet::Sheet,
+    plain: &plain::Answer,
+    original: &Result<plain::Answer, String>,
+) -> Option<Difference> {
+    let difference = |side, expected, got| Some(Difference { side, expected, got });
+    match original {
+        Ok(original) => {
+            let five = plain::Answer { walks: Vec::new(), ..plain.clone() };
+            if *original != five {
+                return difference("original", plain.lines(), original.lines()[..5].to_vec());
+            }
+        }
+        Err(message) => return difference("original", plain.lines(), vec![message.clone()]),
+    }
+    // Every walk ends after at most 4R + 1 entries.
+    let bound = 4 * sheet.totals().relations as u32 + 1;
+    if plain.walks.iter().any(|&w| w > bound) {
+        return difference("bound of a walk", vec![format!("at most {bound}")], plain.lines());
+    }
+    if sheet.words() != words {
+        let (read, given) = (format!("{:?}", sheet.words()), format!("{words:?}"));
+        return difference("words of the sheet as read", vec![given], vec![read]);
+    }
+    None
+}
+
+/// The lengths at which a call is made: workspace and answer buffer. The first are the call's own;
+/// then an answer buffer that is full, one word short, and longer.
+fn lengths(call: &Call, answer: Option<usize>) -> Vec<(usize, usize)> {
+    let vary = call.sheet.len() + 31 * answer.unwrap_or(0);
+    let longer = sheet::WORKSPACE_WORDS + vary % 257;
+    let far = [1, 8, 61, 3_000][vary % 4];
+    let mut lengths = vec![(call.workspace, call.room.words(answer.unwrap_or(0)))];
+    match answer {
+        Some(full) => {
+            lengths.push((sheet::WORKSPACE_WORDS, full));
+            lengths.push((longer, full.saturating_sub(1)));
+            lengths.push((longer, full + far));
+        }
+        None => lengths.push((longer, far)),
+    }
+    lengths.dedup();
+    lengths
+}
+
+/// One side at one call's lengths, held to the plain reader; of the original only the five sections
+/// that it has.
+fn compare_side(
+    side: &mut dyn Side,
+    sheet: &[u32],
+    (workspace, room): (usize, usize),
+    judged: &Result<Vec<u32>, u32>,
+    original: Option<&[u32]>,
+) -> Option<Difference> {
+    let expected = plain::lend(judged.clone(), workspace, room);
+    let got = side.outcome(sheet, workspace, room);
+    let of_original = match (&got, original) {
+        (Ok(Outcome::Accepted(words)), Some(five)) => words.starts_with(five),
+        _ => true,
+    };
+    if of_original && got.as_ref() == Ok(&expected) {
+        return None;
+    }
+    let lent = format!("workspace {workspace}, answer buffer {room}");
+    let got = got.as_ref().map_or_else(|message| vec![message.clone()], lines);
+    Some(Difference { side: side.name(), expected: [vec![lent], lines(&expected)].concat(), got })
+}
+
 /// The refusal of a call (0 if it is accepted) and the first difference.
 pub fn compare(call: &Call, sides: &mut [Box<dyn Side>]) -> (u32, Option<Difference>) {
-    let read = plain::read(&call.sheet);
-    let mut answer_len = call.room.words(0);
     let mut difference = None;
-    if let Ok(sheet) = &read {
-        let plain = plain::answer(sheet);
-        answer_len = call.room.words(plain.words().len());
-        difference = match original_answer(sheet) {
-            Ok(original) => {
-                let five = plain::Answer { walks: Vec::new(), ..plain.clone() };
-                (original != five).then(|| Difference {
-                    side: "original",
-                    expected: plain.lines(),
-                    got: original.lines()[..5].to_vec(),
-                })
-            }
-            Err(message) => {
-                Some(Difference { side: "original", expected: plain.lines(), got: vec![message] })
-            }
-        };
-        // Every walk ends after at most 4R + 1 entries.
-        let bound = 4 * sheet.totals().relations as u32 + 1;
-        if difference.is_none() && plain.walks.iter().any(|&w| w > bound) {
-            difference = Some(Difference {
-                side: "bound of a walk",
-                expected: vec![format!("at most {bound}")],
-                got: plain.lines(),
-            });
-        }
-        if difference.is_none() && sheet.words() != call.sheet {
-            difference = Some(Difference {
-                side: "words of the sheet as read",
-                expected: vec![format!("{:?}", call.sheet)],
-                got: vec![format!("{:?}", sheet.words())],
-            });
-        }
-    }
-    let expected = plain::outcome(&call.sheet, call.workspace, answer_len);
+    let mut original_words = None;
+    let judged = plain::read(&call.sheet).map(|sheet| {
+        let plain = plain::answer(&sheet);
+        let original = original_answer(&sheet);
+        difference = compare_answers(&call.sheet, &sheet, &plain, &original);
+        // All but the count of walks, which is the last word.
+        original_words = original.ok().map(|answer| {
+            let mut words = answer.words();
+            words.pop();
+            words
+        });
+        plain.words()
+    });
+    let lengths = lengths(call, judged.as_ref().ok().map(Vec::len));
     for side in sides {
-        let got = side.outcome(&call.sheet, call.workspace, answer_len);
-        if got != expected && difference.is_none() {
-            difference = Some(Difference {
-                side: side.name(),
-                expected: lines(&expected),
-                got: lines(&got),
-            });
+        for &lent in &lengths {
+            let original = original_words.as_deref();
+            let of_side = compare_side(side.as_mut(), &call.sheet, lent, &judged, original);
+            difference = difference.or(of_side);
         }
     }
-    let refusal = match expected {
+    let (workspace, room) = lengths[0];
+    let refusal = match plain::lend(judged, workspace, room) {
         Outcome::Refused(number) => number,
         Outcome::Accepted(_) => 0,
     };
@@ -268,16 +323,21 @@ mod tests {
         fn name(&self) -> &'static str {
             "faulty"
         }
-        fn outcome(&mut self, words: &[u32], workspace_len: usize, answer_len: usize) -> Outcome {
+        fn outcome(
+            &mut self,
+            words: &[u32],
+            workspace_len: usize,
+            answer_len: usize,
+        ) -> Result<Outcome, String> {
             let outcome = plain::outcome(words, workspace_len, answer_len);
             let phi = plain::read(words).is_ok_and(|s| s.blocks.iter().any(|b| !b.phis.is_empty()));
-            match outcome {
+            Ok(match outcome {
                 Outcome::Accepted(mut words) if phi => {
                     words.pop();
                     Outcome::Accepted(words)
                 }
                 other => other,
-            }
+            })
         }
     }
 

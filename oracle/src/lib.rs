@@ -7,7 +7,11 @@ pub mod damage;
 pub mod dense;
 pub mod generate;
 pub mod original_side;
+#[cfg(feature = "service")]
 pub mod ours;
 pub mod plain;
+pub mod program;
 pub mod random;
+pub mod replay;
 pub mod steps;
+pub mod text;

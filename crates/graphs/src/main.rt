@@ -4,9 +4,9 @@
 ghost use Prim.Native.Nat.{_+_, _≤_, _<_};
 ghost use mathlib.Core.Path.{_≡_};
 ghost use lib.ListN.{length};
-ghost use Rattle.io.specs.Counts.{Counts};
 ghost use Rattle.rows.specs.Rows.{Indexed};
 ghost use Rattle.graphs.specs.Graphs.{Held};
+use files::load_words;
 use hir::IdentifierId;
 use libc::STDIN_FILENO;
 use libc::STDOUT_FILENO;
@@ -352,49 +352,6 @@ fn graphs(part: &[u32], ws: &mut [u32]) -> Tally
         i += n;
     }
     t
-}
-
-// Four bytes as a word, lowest first.
-fn word(a: u8, b: u8, c: u8, d: u8) -> u32 {
-    (a as u32) + (b as u32) * 256 + (c as u32) * 65536 + (d as u32) * 16777216
-}
-
-// The byte at a position, and 0 past the end.
-fn byte_at(bytes: &[u8], i: usize) -> u8 {
-    if i < bytes.len() { bytes[i] } else { 0 }
-}
-
-// The word of a number, and 0 past the end.
-fn word_of(bytes: &[u8], i: usize) -> u32 {
-    if i < 1000000 {
-        let at = i * 4;
-        word(
-            byte_at(bytes, at),
-            byte_at(bytes, at + 1),
-            byte_at(bytes, at + 2),
-            byte_at(bytes, at + 3),
-        )
-    } else {
-        0
-    }
-}
-
-fn least(a: usize, b: usize) -> usize
-    ensures { λ r. ⌜ r ≤ b ⌝ }
-{
-    if a < b { a } else { b }
-}
-
-// The bytes as words, as many as there is room for; the number of words.
-fn load_words(bytes: &[u8], words: &mut [u32]) -> usize
-    ensures { λ r. ⌜ Counts r (now (words .exit)) ⌝ }
-{
-    let mut i = 0;
-    while i < words.len() {
-        words[i] = word_of(bytes, i);
-        i += 1;
-    }
-    least(bytes.len() / 4, words.len())
 }
 
 fn print_count(n: u32, what: &[u8]) {

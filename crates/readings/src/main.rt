@@ -1,53 +1,10 @@
 // Reads sheets from files, each with the verdict that another reader gave, and counts those on which ours differs.
 ghost use Prim.Native.Nat.{_≤_, _<_};
 ghost use lib.ListN.{length};
-ghost use Rattle.io.specs.Counts.{Counts};
 ghost use Rattle.readings.specs.Steps.{Onward};
+use files::load_words;
 use libc::STDOUT_FILENO;
 use reading::Verdict;
-
-// Four bytes as a word, lowest first.
-fn word(a: u8, b: u8, c: u8, d: u8) -> u32 {
-    (a as u32) + (b as u32) * 256 + (c as u32) * 65536 + (d as u32) * 16777216
-}
-
-// The byte at a position, and 0 past the end.
-fn byte_at(bytes: &[u8], i: usize) -> u8 {
-    if i < bytes.len() { bytes[i] } else { 0 }
-}
-
-// The word at a position, and 0 past the end.
-fn word_at(bytes: &[u8], i: usize) -> u32 {
-    if i < 1000000 {
-        let at = i * 4;
-        word(
-            byte_at(bytes, at),
-            byte_at(bytes, at + 1),
-            byte_at(bytes, at + 2),
-            byte_at(bytes, at + 3),
-        )
-    } else {
-        0
-    }
-}
-
-fn least(a: usize, b: usize) -> usize
-    ensures { λ r. ⌜ r ≤ b ⌝ }
-{
-    if a < b { a } else { b }
-}
-
-// The bytes as words, as many as there is room for; how many they are.
-fn load_words(bytes: &[u8], words: &mut [u32]) -> usize
-    ensures { λ r. ⌜ Counts r (now (words .exit)) ⌝ }
-{
-    let mut i = 0;
-    while i < words.len() {
-        words[i] = word_at(bytes, i);
-        i += 1;
-    }
-    least(bytes.len() / 4, words.len())
-}
 
 // Whether a verdict is the expected one: a refusal's number, or 0 and the totals.
 fn agrees(verdict: Verdict, number: u32, relations: u32, mutations: u32, renders: u32) -> bool {

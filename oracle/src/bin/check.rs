@@ -1,35 +1,14 @@
 //! check --cases            the bench cases of document 01, its limits and refusals
 //! check --smallest FILE..  sheets with their answers, as text
 //!
-//! In such a file `#` begins a comment, a line that begins with `=` is a line of
-//! the answer, and every other line has words of the sheet, in decimal. The plain
-//! reader is held to all lines, the original to the first five.
+//! The plain reader is held to all lines of an answer, the original to the first five.
 
 use std::process::ExitCode;
 
 use oracle::cases::{CASES, FURTHER};
 use oracle::compare::{lines, original_lines};
 use oracle::plain;
-
-struct Text {
-    words: Vec<u32>,
-    answer: Vec<String>,
-}
-
-fn parse(text: &str) -> Result<Text, String> {
-    let mut parsed = Text { words: Vec::new(), answer: Vec::new() };
-    for line in text.lines() {
-        let line = line.split('#').next().unwrap_or_default().trim();
-        if let Some(answer) = line.strip_prefix('=') {
-            parsed.answer.push(answer.trim().to_string());
-            continue;
-        }
-        for word in line.split_whitespace() {
-            parsed.words.push(word.parse().map_err(|_| format!("{word} is no word"))?);
-        }
-    }
-    Ok(parsed)
-}
+use oracle::text::parse;
 
 fn check(file: &str) -> Result<(), String> {
     let text = std::fs::read_to_string(file).map_err(|e| e.to_string())?;

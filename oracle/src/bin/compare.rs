@@ -1,68 +1,146 @@
-//! compare --seed S --sheets N --damaged M [--files F..]
+//! compare --seed S --sheets N --damaged M [--threads T] [--program PATH --runs R] [--files F..]
 //!
 //! Makes N accepted sheets and M damaged calls from a seed and compares the
-//! original and the plain reader on them. With files, compares those instead.
+//! original, the plain reader and, with the feature `service`, our own library on
+//! them; then R runs of the program at PATH. With files, compares those instead.
 
+use std::path::{Path, PathBuf};
 use std::process::ExitCode;
 use std::time::{Duration, Instant};
 
 use oracle::compare::{Difference, Side, compare, lines, original_lines, roomy, shrink};
 use oracle::damage::{Call, damaged};
+use oracle::generate;
 use oracle::plain;
+use oracle::program::{compare_run, file_words};
 use oracle::random::Random;
-use oracle::{generate, ours};
 
 const REPORT: &str = "difference.txt";
 
+#[derive(Clone)]
 struct Arguments {
     seed: u64,
     sheets: u64,
     damaged: u64,
+    threads: u64,
+    program: Option<PathBuf>,
+    runs: u64,
     files: Vec<String>,
 }
 
 fn arguments() -> Result<Arguments, String> {
-    let mut arguments = Arguments { seed: 1, sheets: 100_000, damaged: 100_000, files: Vec::new() };
+    let mut arguments = Arguments {
+        seed: 1,
+        sheets: 100_000,
+        damaged: 100_000,
+        threads: 1,
+        program: None,
+        runs: 0,
+        files: Vec::new(),
+    };
     let mut words = std::env::args().skip(1);
     while let Some(word) = words.next() {
         if word == "--files" {
             arguments.files.extend(words.by_ref());
             break;
         }
-        let value = words.next().ok_or(format!("{word} needs a number"))?;
+        let value = words.next().ok_or(format!("{word} needs a value"))?;
+        if word == "--program" {
+            arguments.program = Some(value.into());
+            continue;
+        }
         let number = value.parse().map_err(|_| format!("{value} is no number"))?;
         match word.as_str() {
             "--seed" => arguments.seed = number,
             "--sheets" => arguments.sheets = number,
             "--damaged" => arguments.damaged = number,
+            "--threads" => arguments.threads = number.max(1),
+            "--runs" => arguments.runs = number,
             _ => return Err(format!("unknown argument {word}")),
         }
     }
     Ok(arguments)
 }
 
+/// Our own library, if it is linked.
+fn sides() -> Vec<Box<dyn Side>> {
+    vec![
+        #[cfg(feature = "service")]
+        Box::new(oracle::ours::Ours::default()),
+    ]
+}
+
 #[derive(Default)]
 struct Counts {
     sheets: u64,
     damaged: u64,
+    runs: u64,
     /// By refusal; 0 is accepted.
     refusals: [u64; 10],
     differences: u64,
-    first: Option<(Call, Difference)>,
+    /// That with the shortest sheet.
+    shortest: Option<(Call, Difference)>,
 }
 
 impl Counts {
+    fn differs(&mut self, call: Call, difference: Difference) {
+        self.differences += 1;
+        self.keep(call, difference);
+    }
+
+    fn keep(&mut self, call: Call, difference: Difference) {
+        let length = call.sheet.len();
+        if self.shortest.as_ref().is_none_or(|(other, _)| length < other.sheet.len()) {
+            self.shortest = Some((call, difference));
+        }
+    }
+
     fn compare(&mut self, call: Call, sides: &mut [Box<dyn Side>]) -> u32 {
         let (refusal, difference) = compare(&call, sides);
         if let Some(difference) = difference {
-            self.differences += 1;
-            let shorter = self.first.as_ref().is_none_or(|f| call.sheet.len() < f.0.sheet.len());
-            if shorter {
-                self.first = Some((call, difference));
-            }
+            self.differs(call, difference);
         }
         refusal
     }
+
+    fn add(&mut self, other: Counts) {
+        self.sheets += other.sheets;
+        self.damaged += other.damaged;
+        self.runs += other.runs;
+        self.differences += other.differences;
+        for (sum, n) in self.refusals.iter_mut().zip(other.refusals) {
+            *sum += n;
+        }
+        if let Some((call, difference)) = other.shortest {
+            self.keep(call, difference);
+        }
+    }
+
+    fn line(&self) -> String {
+        let mut parts = Vec::new();
+        if self.sheets > 0 {
+            parts.push(format!("{} sheets", self.sheets));
+        }
+        if self.damaged > 0 {
+            let per_refusal: Vec<String> = (0..)
+                .zip(self.refusals)
+                .filter(|(_, n)| *n > 0)
+                .map(|(r, n)| if r == 0 { format!("accepted:{n}") } else { format!("{r}:{n}") })
+                .collect();
+            parts.push(format!("{} damaged ({})", self.damaged, per_refusal.join(" ")));
+        }
+        if self.runs > 0 {
+            parts.push(format!("{} runs of the program", self.runs));
+        }
+        parts.push(format!("{} differences", self.differences));
+        let ours = if cfg!(feature = "service") { " and ours" } else { "" };
+        format!("original, plain reader{ours}: {}", parts.join(", "))
+    }
+}
+
+/// A file of the folder that the oracle is built in.
+fn target(name: &str) -> PathBuf {
+    std::env::var_os("ORACLE_TARGET").map_or(PathBuf::new(), PathBuf::from).join(name)
 }
 
 /// Write the smallest differing sheet found to a file and print it.
@@ -78,115 +156,124 @@ fn report(call: &Call, difference: &Difference, sides: &mut [Box<dyn Side>]) {
         words.join(" ")
     );
     for line in &difference.expected {
-        text.push_str(&format!("# plain: {line}\n"));
+        text.push_str(&format!("# expected: {line}\n"));
     }
     for line in &difference.got {
         text.push_str(&format!("# {}: {line}\n", difference.side));
     }
     print!("{text}");
-    let place =
-        std::env::var("ORACLE_TARGET").map_or(REPORT.to_string(), |t| format!("{t}/{REPORT}"));
+    let place = target(REPORT);
     match std::fs::write(&place, text) {
-        Ok(()) => println!("# written to {place}"),
-        Err(error) => println!("# not written to {place}: {error}"),
+        Ok(()) => println!("# written to {}", place.display()),
+        Err(error) => println!("# not written to {}: {error}", place.display()),
     }
 }
 
-/// Words of a sheet file; a cut last word is filled up with zeros.
-fn file_words(bytes: &[u8]) -> Vec<u32> {
-    let word = |part: &[u8]| {
-        let mut four = [0; 4];
-        four[..part.len()].copy_from_slice(part);
-        u32::from_le_bytes(four)
-    };
-    bytes.chunks(4).map(word).collect()
+/// The sheets and calls of which the number is `own` modulo the number of threads.
+fn compare_made(arguments: &Arguments, own: u64) -> Counts {
+    let start = Instant::now();
+    let mut shown = start;
+    let mut sides = sides();
+    let mut counts = Counts::default();
+    let mut random = Random::new(arguments.seed);
+    for i in 0..arguments.sheets + arguments.damaged {
+        // Each call has random numbers of its own, so that it can be made again.
+        let mut random = Random::new(random.word());
+        if i % arguments.threads != own {
+            continue;
+        }
+        if i < arguments.sheets {
+            counts.sheets += 1;
+            let sheet = generate::sheet(&mut random);
+            let refusal = counts.compare(Call::good(&sheet, &mut random), &mut sides);
+            if refusal != 0 {
+                println!("a made sheet is refused with {refusal}: {:?}", sheet.words());
+                counts.differences += 1;
+            }
+        } else {
+            counts.damaged += 1;
+            let refusal = counts.compare(damaged(&mut random), &mut sides);
+            counts.refusals[refusal as usize] += 1;
+        }
+        if own == 0 && shown.elapsed() > Duration::from_secs(5) {
+            shown = Instant::now();
+            let seconds = start.elapsed().as_secs();
+            eprintln!("{} of {} after {seconds} s", i + 1, arguments.sheets + arguments.damaged);
+        }
+    }
+    counts
+}
+
+/// Runs of the program.
+fn compare_runs(program: &Path, arguments: &Arguments) -> std::io::Result<Counts> {
+    let mut counts = Counts::default();
+    let mut random = Random::new(arguments.seed);
+    let place = target("program.sheet");
+    for _ in 0..arguments.runs {
+        counts.runs += 1;
+        if let Some((words, difference)) = compare_run(program, &place, &mut random)? {
+            counts.differs(roomy(&words), difference);
+        }
+    }
+    Ok(counts)
+}
+
+fn compare_file(file: &str, sides: &mut [Box<dyn Side>]) -> std::io::Result<Counts> {
+    let words = file_words(&std::fs::read(file)?);
+    let mut counts = Counts { sheets: 1, ..Counts::default() };
+    let refusal = counts.compare(roomy(&words), sides);
+    counts.refusals[refusal as usize] += 1;
+    println!("{file}");
+    for line in lines(&plain::outcome(&words, 16_384, usize::MAX)) {
+        println!("plain: {line}");
+    }
+    if let Ok(sheet) = plain::read(&words) {
+        for line in original_lines(&sheet) {
+            println!("original: {line}");
+        }
+    }
+    Ok(counts)
+}
+
+fn compare_all(arguments: &Arguments) -> Result<Counts, String> {
+    let mut counts = Counts::default();
+    for file in &arguments.files {
+        let of_file = compare_file(file, &mut sides()).map_err(|e| format!("{file}: {e}"))?;
+        counts.add(of_file);
+    }
+    if arguments.files.is_empty() {
+        let made: Vec<Counts> = std::thread::scope(|scope| {
+            let start = |own| scope.spawn(move || compare_made(arguments, own));
+            let threads: Vec<_> = (0..arguments.threads).map(start).collect();
+            threads.into_iter().map(|t| t.join().expect("a thread ends")).collect()
+        });
+        made.into_iter().for_each(|part| counts.add(part));
+    }
+    if let Some(program) = &arguments.program {
+        let runs = compare_runs(program, arguments);
+        counts.add(runs.map_err(|e| format!("{}: {e}", program.display()))?);
+    }
+    Ok(counts)
 }
 
 fn main() -> ExitCode {
+    let fail = |message: String| {
+        eprintln!("{message}");
+        ExitCode::from(2)
+    };
     let arguments = match arguments() {
         Ok(arguments) => arguments,
-        Err(message) => {
-            eprintln!("{message}");
-            return ExitCode::from(2);
-        }
+        Err(message) => return fail(message),
     };
     // A panic of the module is a difference and is reported as one.
     std::panic::set_hook(Box::new(|_| {}));
-    let mut sides = ours::sides();
-    let mut counts = Counts::default();
-
-    for file in &arguments.files {
-        let bytes = match std::fs::read(file) {
-            Ok(bytes) => bytes,
-            Err(error) => {
-                eprintln!("{file}: {error}");
-                return ExitCode::from(2);
-            }
-        };
-        let words = file_words(&bytes);
-        counts.sheets += 1;
-        let refusal = counts.compare(roomy(&words), &mut sides);
-        counts.refusals[refusal as usize] += 1;
-        println!("{file}");
-        for line in lines(&plain::outcome(&words, 16_384, usize::MAX)) {
-            println!("plain: {line}");
-        }
-        if let Ok(sheet) = plain::read(&words) {
-            for line in original_lines(&sheet) {
-                println!("original: {line}");
-            }
-        }
+    let mut counts = match compare_all(&arguments) {
+        Ok(counts) => counts,
+        Err(message) => return fail(message),
+    };
+    if let Some((call, difference)) = counts.shortest.take() {
+        report(&call, &difference, &mut sides());
     }
-
-    if arguments.files.is_empty() {
-        let start = Instant::now();
-        let mut shown = start;
-        let mut random = Random::new(arguments.seed);
-        for i in 0..arguments.sheets + arguments.damaged {
-            // Each call has random numbers of its own, so that it can be made again.
-            let mut own = Random::new(random.word());
-            if i < arguments.sheets {
-                counts.sheets += 1;
-                let sheet = generate::sheet(&mut own);
-                let refusal = counts.compare(Call::good(&sheet, &mut own), &mut sides);
-                if refusal != 0 {
-                    println!("a made sheet is refused with {refusal}: {:?}", sheet.words());
-                    counts.differences += 1;
-                }
-            } else {
-                counts.damaged += 1;
-                let refusal = counts.compare(damaged(&mut own), &mut sides);
-                counts.refusals[refusal as usize] += 1;
-            }
-            if shown.elapsed() > Duration::from_secs(3) {
-                shown = Instant::now();
-                eprintln!(
-                    "{} sheets, {} damaged, {} differences after {} s",
-                    counts.sheets,
-                    counts.damaged,
-                    counts.differences,
-                    start.elapsed().as_secs()
-                );
-            }
-        }
-    }
-
-    if let Some((call, difference)) = counts.first.take() {
-        report(&call, &difference, &mut sides);
-    }
-    let per_refusal: Vec<String> = counts
-        .refusals
-        .iter()
-        .enumerate()
-        .filter(|(_, n)| **n > 0)
-        .map(|(r, n)| if r == 0 { format!("accepted:{n}") } else { format!("{r}:{n}") })
-        .collect();
-    println!(
-        "{} sheets, {} damaged (per refusal: {}), {} differences",
-        counts.sheets,
-        counts.damaged,
-        per_refusal.join(" "),
-        counts.differences
-    );
+    println!("{}", counts.line());
     ExitCode::from((counts.differences > 0) as u8)
 }

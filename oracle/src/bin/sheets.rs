@@ -1,4 +1,4 @@
-//! sheets verdicts N DIR | sheets answers N DIR | sheets graphs N DIR | sheets steps N DIR
+//! sheets verdicts|answers|graphs|steps|replay N DIR
 //!
 //! Writes test data from fixed seeds, N records in each file. A file is a list of
 //! records of 32-bit words, lowest byte first; each begins with
@@ -36,6 +36,9 @@
 //!   its `record`), for bench cases 3 to 7, N sheets with mutations, those at
 //!   each limit and those of src/dense.rs, in parts of 16,384 words that are filled
 //!   up with zeros; and the line of counts that a program without a difference prints
+//!
+//! replay/{data/answers.bin,stdout}: records of src/replay.rs, with N accepted and N damaged
+//!   sheets, in parts of 32,768 words; and that program's line of counts
 
 use std::path::Path;
 use std::process::ExitCode;
@@ -49,11 +52,12 @@ use oracle::plain::sheet::Sheet;
 use oracle::plain::walks::{render, trace};
 use oracle::plain::{self, Outcome};
 use oracle::random::Random;
+use oracle::replay;
 use oracle::steps::{Recorded, record};
 
 type Words = Vec<u32>;
 
-const KINDS: [&str; 4] = ["verdicts", "answers", "graphs", "steps"];
+const KINDS: [&str; 5] = ["verdicts", "answers", "graphs", "steps", "replay"];
 
 fn put_list(words: &mut Words, list: &[u32]) {
     words.push(list.len() as u32);
@@ -181,9 +185,6 @@ fn graph(sheet: &Sheet) -> Words {
 /// A generated sheet whose record is longer is not taken, for the size of the file.
 const LONGEST: usize = 6_000;
 
-/// What a reader takes at once.
-const PART: usize = 16_384;
-
 fn step_records(count: usize) -> Vec<Recorded> {
     let mut random = Random::new(14);
     let mut records: Vec<Recorded> = graph_sheets().iter().map(record).collect();
@@ -194,32 +195,53 @@ fn step_records(count: usize) -> Vec<Recorded> {
     records
 }
 
-/// The records in parts of `PART` words, each filled up with zeros: no record stands in two.
-fn parts(records: &[Recorded]) -> Words {
+/// The records in parts of that many words, each filled up with zeros: no record stands in two.
+fn parts<'a>(records: impl Iterator<Item = &'a Words>, part: usize) -> Words {
     let mut words = Vec::new();
     for record in records {
-        if words.len() % PART + record.words.len() > PART {
-            words.resize(words.len().next_multiple_of(PART), 0);
+        if words.len() % part + record.len() > part {
+            words.resize(words.len().next_multiple_of(part), 0);
         }
-        words.extend(&record.words);
+        words.extend(record);
     }
-    words.resize(words.len().next_multiple_of(PART), 0);
+    words.resize(words.len().next_multiple_of(part), 0);
     words
+}
+
+fn bytes(words: &[u32]) -> Vec<u8> {
+    words.iter().flat_map(|w| w.to_le_bytes()).collect()
 }
 
 fn write_steps(folder: &Path, count: usize) -> std::io::Result<()> {
     let records = step_records(count);
     let walks: usize = records.iter().map(|r| r.walks).sum();
     let renders: usize = records.iter().map(|r| r.renders).sum();
-    let line = format!(
-        "{} graphs, {walks} walks, {renders} renders, 0 differences\n",
-        records.len()
-    );
-    let bytes: Vec<u8> = parts(&records).iter().flat_map(|w| w.to_le_bytes()).collect();
+    let line =
+        format!("{} graphs, {walks} walks, {renders} renders, 0 differences\n", records.len());
+    let words = parts(records.iter().map(|r| &r.words), 16_384);
     std::fs::create_dir_all(folder)?;
-    std::fs::write(folder.join("stdin"), &bytes)?;
+    std::fs::write(folder.join("stdin"), bytes(&words))?;
     std::fs::write(folder.join("stdout"), &line)?;
-    print!("{}: {} words, {line}", folder.display(), bytes.len() / 4);
+    print!("{}: {} words, {line}", folder.display(), words.len());
+    Ok(())
+}
+
+// =============================================================================
+// Replay
+// =============================================================================
+
+fn write_replay(folder: &Path, count: usize) -> std::io::Result<()> {
+    let records = replay::records(count);
+    let line = replay::line(&records);
+    let words = parts(records.iter().map(|r| &r.words), 32_768);
+    std::fs::create_dir_all(folder.join("data"))?;
+    std::fs::write(folder.join("data/answers.bin"), bytes(&words))?;
+    std::fs::write(folder.join("stdout"), &line)?;
+    for refusal in 0..10 {
+        let found = records.iter().filter(|r| r.refusal == refusal).count();
+        println!("refusal {refusal}: {found} sheets");
+    }
+    print!("{}: {} words, {line}", folder.display(), words.len());
     Ok(())
 }
 
@@ -233,14 +255,14 @@ fn write(
     count: usize,
     mut record: impl FnMut(usize) -> Words,
 ) -> std::io::Result<()> {
-    let mut bytes = Vec::new();
+    let mut words = Vec::new();
     for i in 0..count {
-        bytes.extend(record(i).iter().flat_map(|w| w.to_le_bytes()));
+        words.extend(record(i));
     }
     std::fs::create_dir_all(folder)?;
     let file = folder.join(name);
-    std::fs::write(&file, &bytes)?;
-    println!("{}: {count} records, {} words", file.display(), bytes.len() / 4);
+    std::fs::write(&file, bytes(&words))?;
+    println!("{}: {count} records, {} words", file.display(), words.len());
     Ok(())
 }
 
@@ -271,6 +293,7 @@ fn make(what: &str, count: usize, folder: &Path) -> std::io::Result<()> {
             write(&folder, "damaged.bin", count, |_| answer(&damaged(&mut random)))
         }
         "steps" => write_steps(&folder, count),
+        "replay" => write_replay(&folder, count),
         _ => {
             let mut random = Random::new(13);
             write(&folder, "tiny.bin", count, |_| graph(&generate::tiny(&mut random)))?;

@@ -1,8 +1,8 @@
 //! walk_time [ROUNDS]
 //!
 //! The time of the walks for each entry taken, ours and the original's, in one
-//! process. Built only with the feature `ours`, and the archive of crate `steps`
-//! (`rt staticlib steps`) in the folder that STEPS_ARCHIVE names.
+//! process. Built only with the feature `steps`, and the archive of crate `steps`
+//! (`rt staticlib steps`) in the folder that ARCHIVES names.
 //!
 //! Ours: the walks of all mutations over the graph as laid out in the workspace
 //! (`steps_walk`). The workspace is brought back to what building left before each
@@ -72,8 +72,7 @@ fn built(sheet: &Sheet) -> (Vec<u32>, Pending) {
     let mut ws = vec![0; WORKSPACE_WORDS];
     let words = steps(sheet);
     // SAFETY: the pointers are those of slices with these lengths, of which one is written.
-    let pending =
-        unsafe { steps_build(words.as_ptr(), words.len(), ws.as_mut_ptr(), ws.len()) };
+    let pending = unsafe { steps_build(words.as_ptr(), words.len(), ws.as_mut_ptr(), ws.len()) };
     (ws, pending)
 }
 

@@ -166,20 +166,26 @@ pub fn answer(sheet: &Sheet) -> Answer {
     Answer { ranges, params, context, diagnostics, effects, walks: counts }
 }
 
-/// The whole call, without the service state.
-pub fn outcome(sheet: &[u32], workspace_len: usize, answer_len: usize) -> Outcome {
+/// What the sheet alone decides: the answer's words, or refusals 2 to 8.
+pub fn judge(sheet: &[u32]) -> Result<Vec<u32>, u32> {
+    Ok(answer(&read(sheet)?).words())
+}
+
+/// What is then decided by the lengths of the lent buffers.
+pub fn lend(judged: Result<Vec<u32>, u32>, workspace_len: usize, answer_len: usize) -> Outcome {
     if workspace_len < WORKSPACE_WORDS {
         return Outcome::Refused(1);
     }
-    let sheet = match read(sheet) {
-        Ok(sheet) => sheet,
-        Err(refusal) => return Outcome::Refused(refusal),
-    };
-    let words = answer(&sheet).words();
-    if answer_len < words.len() {
-        return Outcome::Refused(9);
+    match judged {
+        Err(refusal) => Outcome::Refused(refusal),
+        Ok(words) if answer_len < words.len() => Outcome::Refused(9),
+        Ok(words) => Outcome::Accepted(words),
     }
-    Outcome::Accepted(words)
+}
+
+/// The whole call, without the service state.
+pub fn outcome(sheet: &[u32], workspace_len: usize, answer_len: usize) -> Outcome {
+    lend(judge(sheet), workspace_len, answer_len)
 }
 
 /// The service's call: an accepted one takes the next serial.

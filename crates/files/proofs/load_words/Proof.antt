@@ -4,8 +4,8 @@ use mathlib.Core.Path.{_≡_}
 use Prim.Native.Nat.{_≤_, _-_}
 use native.Mathlib.Omega.{arith}
 use borrow.Author.Needs.{needs}
-use Rattle.readings.proofs.load_words.Statement.{statement}
-use Rattle.readings.proofs.load_words.Tie as tie
+use Rattle.files.proofs.load_words.Statement.{statement}
+use Rattle.files.proofs.load_words.Tie as tie
 
 abbrev Inv-loop : tie.InvT-loop
 Inv-loop bytes words₀ i₀ words i = (i ≤ length words) × (length words ≡ length words₀)
@@ -34,6 +34,9 @@ loop-less c = omega arith
 loop-again : tie.Need-loop-again Inv-loop μ-loop
 loop-again c = simp length-set (omega arith)
 
+words-in-requires : tie.Need-words-in-requires Inv-loop μ-loop
+words-in-requires c κs = search needs
+
 least-requires : tie.Need-least-requires Inv-loop μ-loop
 least-requires c κs = search needs
 
@@ -56,6 +59,7 @@ load-words-spec =
     add-i
     loop-less
     loop-again
+    words-in-requires
     least-requires
     same-length
     returns)

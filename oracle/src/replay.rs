@@ -1,0 +1,69 @@
+//! Sheets with their answers for the program of crate `replay`, as words.
+//!
+//! A record:
+//!
+//!   length of the rest
+//!   sheet length, sheet words
+//!   refusal at a workspace that is long enough and an answer buffer of `ROOM` words (0 if accepted)
+//!   answer length (0 if refused), answer words
+
+use crate::cases;
+use crate::compare::{compare, roomy};
+use crate::damage::damaged;
+use crate::generate::{self, LIMITS, PASSABLE};
+use crate::plain::{self, Outcome, sheet::WORKSPACE_WORDS};
+use crate::random::Random;
+use crate::text;
+
+/// The longest answer buffer that the program lends.
+pub const ROOM: usize = 18_000;
+
+/// A generated sheet that is longer is not taken, for the size of the file.
+const LONGEST: usize = 2_500;
+
+/// The calls that the program makes with an accepted sheet (two of them accepted) and with a
+/// refused one.
+const CALLS: [usize; 2] = [5, 4];
+
+pub struct Recorded {
+    pub words: Vec<u32>,
+    pub refusal: u32,
+}
+
+fn record(sheet: &[u32]) -> Recorded {
+    let (_, difference) = compare(&roomy(sheet), &mut []);
+    assert!(difference.is_none(), "the original and the plain reader differ: {sheet:?}");
+    let (refusal, answer) = match plain::outcome(sheet, WORKSPACE_WORDS, ROOM) {
+        Outcome::Refused(number) => (number, Vec::new()),
+        Outcome::Accepted(answer) => (0, answer),
+    };
+    let mut words = vec![(sheet.len() + 3 + answer.len()) as u32, sheet.len() as u32];
+    words.extend(sheet);
+    words.extend([refusal, answer.len() as u32]);
+    words.extend(answer);
+    Recorded { words, refusal }
+}
+
+/// The bench cases, the order of refusals, the sheets of `smallest/`, those at each limit and one
+/// past it, and `count` accepted and `count` damaged sheets from a fixed seed.
+pub fn records(count: usize) -> Vec<Recorded> {
+    let mut random = Random::new(15);
+    let mut sheets = cases::sheets();
+    sheets.extend(text::smallest().into_iter().map(|text| text.words));
+    sheets.extend(LIMITS.map(|limit| generate::at_limit(&mut random, limit).words()));
+    sheets.extend(PASSABLE.map(|limit| generate::past_limit(&mut random, limit).words()));
+    let good = std::iter::from_fn(|| Some(generate::sheet(&mut random).words()));
+    sheets.extend(good.filter(|words| words.len() <= LONGEST).take(count));
+    let bad = std::iter::from_fn(|| Some(damaged(&mut random).sheet));
+    sheets.extend(bad.filter(|words| words.len() <= LONGEST).take(count));
+    sheets.iter().map(|sheet| record(sheet)).collect()
+}
+
+/// The line that the program prints if nothing differs. Its first serial is the largest.
+pub fn line(records: &[Recorded]) -> String {
+    let refused = records.iter().filter(|r| r.refusal > 0).count();
+    let accepted = records.len() - refused;
+    let calls = accepted * CALLS[0] + refused * CALLS[1];
+    let next = (u32::MAX).wrapping_add(2 * accepted as u32);
+    format!("{} sheets, {calls} calls, 0 different, next serial {next}\n", records.len())
+}
