@@ -17,36 +17,8 @@
 //!   terminal Return list at 3
 //! ```
 //!
-//! Words are parted by blanks; indentation is free; `#` begins a comment. What a line leaves out
-//! (here in brackets) is 0 in the sheet's words.
-//!
-//! | line | |
-//! |---|---|
-//! | `flags [function-expression] [validations]` | `flags none` if neither is set |
-//! | `identifier NAME [range START END] [type TYPE]` | numbered 0, 1, .. in this order |
-//! | `function NAME [diagnostics NUMBER ..]` | an inner function |
-//! | `param PLACE`, `context PLACE` | any number of each |
-//! | `returns PLACE` | once |
-//! | `block NUMBER` | what follows up to its terminal belongs to it |
-//! | `phi PLACE` | before the block's instructions |
-//! | `operand PLACE from NUMBER` | of the phi above, from that block |
-//! | `instruction at ORDER` | |
-//! | `terminal Return PLACE at ORDER`, `terminal MaybeThrow at ORDER`, `terminal Other at ORDER` | ends the block |
-//! | an effect | of the instruction or terminal above |
-//!
-//! A PLACE is `NAME [EFFECT] [reactive] [span NUMBER]`, with EFFECT a case of
-//! [`Effect`]. An effect is the name of its kind, then:
-//!
-//! | kinds | |
-//! |---|---|
-//! | `Capture`, `Alias`, `MaybeAlias`, `Assign`, `CreateFrom`, `ImmutableCapture` | `PLACE into PLACE` |
-//! | `Create` | `PLACE [value VALUEKIND] [reason VALUEREASON]` |
-//! | `Freeze` | `PLACE [reason VALUEREASON]` |
-//! | `Mutate` | `PLACE [reason AssignCurrentProperty]` |
-//! | `MutateConditionally`, `MutateTransitive`, `MutateTransitiveConditionally`, `Render` | `PLACE` |
-//! | `CreateFunction` | `PLACE function NAME` |
-//! | `MutateFrozen`, `MutateGlobal`, `Impure` | `PLACE diagnostic NUMBER` |
-//! | `Apply` | nothing |
+//! What a line leaves out is 0 in the sheet's words. The repository's docs/TEXT.md describes every
+//! line.
 
 use std::collections::HashMap;
 use std::fmt::{self, Write};
