@@ -1,0 +1,4 @@
+//! The library beside the original module, in one process.
+
+pub mod shapes;
+pub mod sides;
