@@ -1,0 +1,88 @@
+/* Calls with known outcomes (files of `oracle/run --sheets-to answers`), each in buffers of
+ * exactly the words that are lent and with rubbish, or nothing, in them. Run under valgrind, which
+ * sees every word that the library touches outside, and every branch on a word never written. */
+#include <stdio.h>
+#include <stdlib.h>
+#include <string.h>
+
+#include "service.h"
+
+static uint32_t *file_words(const char *name, size_t *count) {
+    FILE *file = fopen(name, "rb");
+    if (file == NULL || fseek(file, 0, SEEK_END) != 0) {
+        perror(name);
+        exit(2);
+    }
+    *count = (size_t)ftell(file) / 4;
+    rewind(file);
+    uint32_t *words = malloc(*count * 4);
+    if (words == NULL || fread(words, 4, *count, file) != *count) {
+        perror(name);
+        exit(2);
+    }
+    fclose(file);
+    return words;
+}
+
+static int zeros(const uint32_t *words, size_t count) {
+    for (size_t i = 0; i < count; i++) {
+        if (words[i] != 0) {
+            return 0;
+        }
+    }
+    return 1;
+}
+
+static struct ServiceState state;
+static unsigned long calls, accepted;
+
+/* A record: sheet, workspace length, answer room, refusal, answer; lists after their length.
+ * Returns where the next one begins. */
+static const uint32_t *replay(const uint32_t *at) {
+    size_t sheet_words = *at++;
+    uint32_t *sheet = malloc(sheet_words * 4);
+    memcpy(sheet, at, sheet_words * 4);
+    at += sheet_words;
+    size_t workspace_words = *at++;
+    size_t room = *at++;
+    uint32_t refusal = *at++;
+    size_t length = *at++;
+
+    /* Never written: the library may not look at what they hold. */
+    uint32_t *workspace = malloc(workspace_words * 4);
+    uint32_t *answer = malloc(room * 4);
+    uint32_t before = state.next;
+    struct Reply reply = service_infer(&state, sheet, sheet_words, workspace, workspace_words,
+                                       answer, room);
+    int right = reply.refusal == refusal && reply.length == length &&
+                memcmp(answer, at, length * 4) == 0 && zeros(answer + length, room - length) &&
+                zeros(workspace, workspace_words) &&
+                memcmp(sheet, at - 4 - sheet_words, sheet_words * 4) == 0 &&
+                (refusal == 0 ? reply.serial == before && state.next == (uint32_t)(before + 1)
+                              : reply.serial == 0 && state.next == before);
+    free(sheet);
+    free(workspace);
+    free(answer);
+    if (!right) {
+        printf("call %lu differs\n", calls);
+        exit(1);
+    }
+    calls++;
+    accepted += refusal == 0;
+    return at + length;
+}
+
+int main(int count, char **names) {
+    state = service_new();
+    state.next = UINT32_MAX - 100;
+    for (int i = 1; i < count; i++) {
+        size_t words;
+        uint32_t *all = file_words(names[i], &words);
+        for (const uint32_t *at = all; at < all + words;) {
+            at = replay(at);
+        }
+        free(all);
+    }
+    printf("%lu calls as expected, %lu of them accepted\n", calls, accepted);
+    return 0;
+}

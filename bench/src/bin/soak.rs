@@ -1,0 +1,447 @@
+//! soak [CALLS [SEED]]
+//!
+//! Calls over one state in one process: random, damaged and hostile sheets. Buffers stand right
+//! before forbidden pages (the workspace between two), and sheets in memory that cannot be
+//! written, so that a word touched outside stops the process.
+//!
+//! Every call is held to what is cheap to check (`check`). Calls from the pool are held to their
+//! whole answer, by a hash of what the plain implementation and the original said when the pool
+//! was made. A sample of the others is compared with both as well.
+//!
+//! Prints a line for each of 20 slices: memory and time are to stay flat.
+
+use std::process::ExitCode;
+use std::time::Instant;
+
+use bench::guarded::Guarded;
+use oracle::compare::{Side, compare};
+use oracle::damage::{Call, Room, damaged};
+use oracle::generate;
+use oracle::plain::{self, Outcome};
+use oracle::random::Random;
+use service_host::Service;
+use service_host::ffi::{self, Reply, ServiceState};
+
+const SLICES: u64 = 20;
+const POOL: usize = 4_096;
+const LEAST_WORKSPACE: usize = 16_384;
+/// Words of the answer buffer: the longest answer of a pool fits.
+const ROOM: usize = 1 << 16;
+/// One of so many calls is looked at in full, and one of so many compared.
+const LOOKED_AT: u64 = 16;
+const COMPARED: u64 = 256;
+
+/// A call whose outcome is known.
+struct Known {
+    /// The sheet's words in the pool's memory.
+    at: usize,
+    words: usize,
+    workspace: usize,
+    room: usize,
+    refusal: u32,
+    length: usize,
+    hash: u64,
+}
+
+/// Calls with known outcomes, their sheets in memory that cannot be written.
+struct Pool {
+    memory: Guarded,
+    calls: Vec<Known>,
+}
+
+fn hash(words: &[u32]) -> u64 {
+    let mix = |h: u64, &w: &u32| (h ^ u64::from(w)).wrapping_mul(0x0100_0000_01b3).rotate_left(17);
+    words.iter().fold(0xcbf2_9ce4_8422_2325, mix)
+}
+
+impl Pool {
+    fn new(random: &mut Random) -> Pool {
+        let mut all: Vec<(Call, Vec<u32>, u32)> = Vec::new();
+        while all.len() < POOL {
+            let call = if random.percent(50) {
+                damaged(random)
+            } else if random.percent(85) {
+                Call::good(&generate::tiny(random), random)
+            } else {
+                Call::good(&generate::sheet(random), random)
+            };
+            // The original and the plain implementation agree, or the soak is over.
+            let (refusal, difference) = compare(&call, &mut []);
+            assert!(difference.is_none(), "{difference:?}");
+            let answer = match plain::outcome(&call.sheet, LEAST_WORKSPACE, usize::MAX) {
+                Outcome::Accepted(words) => words,
+                Outcome::Refused(_) => Vec::new(),
+            };
+            if answer.len() + 40 < ROOM {
+                all.push((call, answer, refusal));
+            }
+        }
+        let mut memory = Guarded::new(all.iter().map(|(call, ..)| call.sheet.len()).sum());
+        let mut calls = Vec::new();
+        let mut at = 0;
+        for (call, answer, refusal) in &all {
+            memory.words_mut()[at..][..call.sheet.len()].copy_from_slice(&call.sheet);
+            let accepted = *refusal == 0;
+            calls.push(Known {
+                at,
+                words: call.sheet.len(),
+                workspace: call.workspace.min(LEAST_WORKSPACE),
+                room: call.room.words(answer.len()),
+                refusal: *refusal,
+                length: if accepted { answer.len() } else { 0 },
+                hash: hash(if accepted { answer } else { &[] }),
+            });
+            at += call.sheet.len();
+        }
+        memory.read_only();
+        Pool { memory, calls }
+    }
+
+    fn sheet(&self, known: &Known) -> &[u32] {
+        &self.memory.words()[known.at..][..known.words]
+    }
+}
+
+/// What a host lends, and the state.
+struct Host {
+    state: ServiceState,
+    sheet: Guarded,
+    workspace: Guarded,
+    answer: Guarded,
+}
+
+/// The counts of a slice.
+#[derive(Default)]
+struct Tally {
+    refusals: [u64; 10],
+    compared: u64,
+    looked_at: u64,
+}
+
+fn is(what: &str, holds: bool) -> Result<(), String> {
+    if holds { Ok(()) } else { Err(what.to_string()) }
+}
+
+/// What every call promises, as far as it is cheap to check.
+fn check(
+    before: u32,
+    state: ServiceState,
+    reply: Reply,
+    sheet: &[u32],
+    workspace: usize,
+    answer: &[u32],
+) -> Result<(), String> {
+    is("the refusal's number", reply.refusal <= 9)?;
+    is("refusal 1", (reply.refusal == 1) == (workspace < LEAST_WORKSPACE))?;
+    if reply.refusal != 0 {
+        is("length and serial of a refusal", reply.length == 0 && reply.serial == 0)?;
+        return is("the state after a refusal", state.next == before);
+    }
+    is("the serial", reply.serial == before)?;
+    is("the state after acceptance", state.next == before.wrapping_add(1))?;
+    is("the length", reply.length <= answer.len())?;
+    // The sections, each after its count.
+    let mut sections = [&answer[..0]; 6];
+    let mut rest = &answer[..reply.length];
+    for (section, size) in sections.iter_mut().zip([2, 3, 3, 1, 8, 1]) {
+        let (count, after) = rest.split_first().ok_or("a section is missing")?;
+        (*section, rest) =
+            after.split_at_checked(*count as usize * size).ok_or("a section is cut")?;
+    }
+    is("the sections' length", rest.is_empty())?;
+    // The sheet's identifiers stand from word 4 on.
+    let identifiers = sheet[3] as usize;
+    is("the count of ranges", sections[0].len() == 2 * identifiers)?;
+    let ranges = sections[0].chunks_exact(2).zip(sheet[4..].chunks_exact(3));
+    for (range, identifier) in ranges {
+        is("a range's start", range[0] == identifier[0])?;
+        is("a range's end", range[1] >= identifier[1] && range[1] <= 1_000_000)?;
+    }
+    is("a walk's entries", sections[5].iter().all(|w| (1..=4_097).contains(w)))?;
+    let tracked = (sections[1].len() + sections[2].len()) / 3 + 1;
+    is("the count of walks", sections[5].len() >= tracked)?;
+    is("an effect's kind", sections[4].chunks_exact(8).all(|e| e[0] <= 17))
+}
+
+impl Host {
+    fn new(next: u32) -> Host {
+        Host {
+            state: ServiceState { next },
+            sheet: Guarded::new(20_000),
+            workspace: Guarded::new(LEAST_WORKSPACE),
+            answer: Guarded::new(ROOM),
+        }
+    }
+
+    /// One call on a sheet that stands elsewhere, or on the host's own.
+    fn call(
+        &mut self,
+        sheet: Option<&[u32]>,
+        own: usize,
+        workspace: usize,
+        room: usize,
+        look: bool,
+        tally: &mut Tally,
+    ) -> Result<(Reply, &[u32]), String> {
+        let before = self.state.next;
+        let sheet = match sheet {
+            Some(sheet) => sheet,
+            None => self.sheet.last_mut(own),
+        };
+        let workspace = self.workspace.last_mut(workspace);
+        let answer = self.answer.last_mut(room);
+        if look {
+            workspace.fill(0xdead_beef);
+            answer.fill(0xbadd_cafe);
+        }
+        let reply = ffi::infer(&mut self.state, sheet, workspace, answer);
+        check(before, self.state, reply, sheet, workspace.len(), answer)?;
+        if look {
+            tally.looked_at += 1;
+            is("zeros in the workspace", workspace.iter().all(|&w| w == 0))?;
+            is("zeros behind the answer", answer[reply.length..].iter().all(|&w| w == 0))?;
+        }
+        tally.refusals[reply.refusal as usize] += 1;
+        Ok((reply, &self.answer.words()[self.answer.room() - room..][..reply.length]))
+    }
+}
+
+/// The original and the plain implementation beside what the library said.
+struct Said<'a> {
+    reply: Reply,
+    answer: &'a [u32],
+}
+
+impl Side for Said<'_> {
+    fn name(&self) -> &'static str {
+        "library"
+    }
+
+    fn outcome(&mut self, _: &[u32], _: usize, _: usize) -> Outcome {
+        match self.reply.refusal {
+            0 => Outcome::Accepted(self.answer.to_vec()),
+            number => Outcome::Refused(number),
+        }
+    }
+}
+
+fn compared(sheet: &[u32], workspace: usize, room: usize, said: Said) -> Result<(), String> {
+    let mut said = said;
+    let expected = plain::outcome(sheet, workspace, room);
+    is("the plain implementation's outcome", said.outcome(sheet, 0, 0) == expected)?;
+    let call = Call { sheet: sheet.to_vec(), workspace, room: Room::Exact };
+    is("the original's answer", compare(&call, &mut []).1.is_none())
+}
+
+/// Words that tend to be at a limit.
+const EDGES: [u32; 20] = [
+    0,
+    1,
+    2,
+    3,
+    8,
+    12,
+    16,
+    17,
+    18,
+    63,
+    64,
+    65,
+    511,
+    512,
+    513,
+    1_024,
+    1_025,
+    65_536,
+    1_000_001,
+    0xffff_ffff,
+];
+
+/// Makes a sheet in the host's own memory and gives its length.
+fn hostile(memory: &mut [u32], good: &[u32], random: &mut Random) -> usize {
+    let room = memory.len();
+    match random.below(100) {
+        // One to four words of a sheet changed.
+        0..70 => {
+            let words = &mut memory[room - good.len()..];
+            words.copy_from_slice(good);
+            for _ in 0..random.between(1, 4) {
+                if words.is_empty() {
+                    break;
+                }
+                let at = random.below(words.len());
+                words[at] = match random.below(4) {
+                    0 => words[at].wrapping_add(1),
+                    1 => words[at].wrapping_sub(1),
+                    2 => random.below(16) as u32,
+                    _ => random.choose(&EDGES),
+                };
+            }
+            good.len()
+        }
+        // Cut anywhere.
+        70..80 => {
+            let length = random.below(good.len() + 1);
+            memory[room - length..].copy_from_slice(&good[..length]);
+            length
+        }
+        // More words behind.
+        80..88 => {
+            let length = (good.len() + random.between(1, 50)).min(room);
+            let words = &mut memory[room - length..];
+            words.fill(random.choose(&EDGES));
+            words[..good.len()].copy_from_slice(good);
+            length
+        }
+        // Any words.
+        88..96 => {
+            let length = random.below(200);
+            memory[room - length..].iter_mut().for_each(|w| *w = random.choose(&EDGES));
+            if length > 4 {
+                memory[room - length..][..4].copy_from_slice(&[2, 0, 1, 3]);
+            }
+            length
+        }
+        // All words alike, up to and above the longest sheet.
+        _ => {
+            let length = random.choose(&[0, 1, 16_383, 16_384, 16_385, 20_000]);
+            memory[room - length..].fill(random.choose(&EDGES));
+            length
+        }
+    }
+}
+
+/// A line of /proc/self/status, in kB.
+fn memory(line: &str) -> u64 {
+    let status = std::fs::read_to_string("/proc/self/status").unwrap_or_default();
+    let line = status.lines().find_map(|l| l.strip_prefix(line));
+    line.and_then(|l| l.trim().strip_suffix(" kB")?.parse().ok()).unwrap_or(0)
+}
+
+/// The processor's time of this process, in seconds.
+fn processor() -> f64 {
+    let stat = std::fs::read_to_string("/proc/self/stat").unwrap_or_default();
+    let after = stat.rsplit(')').next().unwrap_or_default();
+    // Clock ticks of a hundredth of a second.
+    after.split_whitespace().nth(11).and_then(|t| t.parse::<f64>().ok()).unwrap_or(0.0) / 100.0
+}
+
+/// The time of one call in a fixed set of calls, in nanoseconds: the same in every slice.
+fn probe(host: &mut Host, probes: &Pool, tally: &mut Tally) -> Result<f64, String> {
+    let mut best = f64::INFINITY;
+    for _ in 0..5 {
+        let start = Instant::now();
+        for known in &probes.calls {
+            host.call(Some(probes.sheet(known)), 0, known.workspace, known.room, false, tally)?;
+        }
+        best = best.min(start.elapsed().as_nanos() as f64 / probes.calls.len() as f64);
+    }
+    Ok(best)
+}
+
+fn slice(
+    calls: u64,
+    host: &mut Host,
+    service: &mut Service,
+    random: &mut Random,
+    tally: &mut Tally,
+) -> Result<(), String> {
+    let pool = Pool::new(random);
+    for i in 0..calls {
+        let known = &pool.calls[random.below(POOL)];
+        let sheet = pool.sheet(known);
+        let look = i % LOOKED_AT == 0;
+        if random.percent(40) {
+            let (workspace, room) = (known.workspace, known.room);
+            let (reply, answer) = host.call(Some(sheet), 0, workspace, room, look, tally)?;
+            is("the pool's refusal", reply.refusal == known.refusal)?;
+            is("the pool's answer", reply.length == known.length && hash(answer) == known.hash)?;
+            continue;
+        }
+        let own = hostile(host.sheet.words_mut(), sheet, random);
+        let workspace =
+            if random.percent(1) { random.below(LEAST_WORKSPACE) } else { LEAST_WORKSPACE };
+        let room = match random.below(8) {
+            0 => random.below(200),
+            _ => 1_024 + random.below(64),
+        };
+        let chosen = i % COMPARED == 1;
+        let sheet = if chosen { host.sheet.last_mut(own).to_vec() } else { Vec::new() };
+        let (reply, answer) = host.call(None, own, workspace, room, look, tally)?;
+        if chosen {
+            tally.compared += 1;
+            compared(&sheet, workspace, room, Said { reply, answer })?;
+            // The wrapper says the same, but for buffers, which it has itself.
+            match service.infer(&sheet) {
+                Ok(wrapped) if reply.refusal == 0 => {
+                    is("the wrapper's answer", wrapped.words() == answer)?;
+                }
+                Ok(_) => is("the wrapper's acceptance", matches!(reply.refusal, 1 | 9))?,
+                Err(refusal) => is(
+                    "the wrapper's refusal",
+                    refusal.number() == reply.refusal || reply.refusal == 1,
+                )?,
+            }
+        }
+    }
+    Ok(())
+}
+
+fn soak(calls: u64, seed: u64) -> Result<(), String> {
+    let mut random = Random::new(seed);
+    // The serial wraps within the first slice.
+    let mut host = Host::new(u32::MAX - (calls / 200) as u32);
+    let mut service = Service::new();
+    let probes = Pool::new(&mut Random::new(99));
+    let first = host.state.next;
+    let (mut wrapped, mut accepted, mut compared, mut looked_at) = (false, 0, 0, 0);
+    println!(
+        "slice | calls | accepted | refused 1 to 9 | compared | memory kB | most kB | processor s | µs a call | probe µs"
+    );
+    for number in 1..=SLICES {
+        let mut tally = Tally::default();
+        let before = processor();
+        slice(calls / SLICES, &mut host, &mut service, &mut random, &mut tally)?;
+        let took = processor() - before;
+        let mut aside = Tally::default();
+        let probed = probe(&mut host, &probes, &mut aside)?;
+        accepted += tally.refusals[0] + aside.refusals[0];
+        compared += tally.compared;
+        looked_at += tally.looked_at;
+        wrapped |= host.state.next < first;
+        let made: u64 = tally.refusals.iter().sum();
+        println!(
+            "{number} | {made} | {} | {} | {} | {} | {} | {took:.1} | {:.2} | {:.2}",
+            tally.refusals[0],
+            tally.refusals[1..].iter().map(u64::to_string).collect::<Vec<_>>().join(" "),
+            tally.compared,
+            memory("VmRSS:"),
+            memory("VmHWM:"),
+            1e6 * took / made as f64,
+            probed / 1e3,
+        );
+    }
+    let next = u64::from(first) + accepted;
+    is("the serial at the end", u64::from(host.state.next) == next % (1 << 32))?;
+    is("the serial has wrapped", wrapped)?;
+    println!(
+        "{calls} calls over one state, {accepted} accepted with the probes', {looked_at} looked at \
+         in full, {compared} compared with the original; the serial wrapped; nothing differs"
+    );
+    Ok(())
+}
+
+fn main() -> ExitCode {
+    let mut args = std::env::args().skip(1);
+    let mut number = |default: u64| {
+        args.next().map_or(default, |n| n.replace('_', "").parse().expect("a number"))
+    };
+    let (calls, seed) = (number(100_000_000), number(1));
+    match soak(calls, seed) {
+        Ok(()) => ExitCode::SUCCESS,
+        Err(what) => {
+            println!("differs: {what}");
+            ExitCode::FAILURE
+        }
+    }
+}

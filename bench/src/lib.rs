@@ -1,0 +1,5 @@
+//! The library beside the original module, in one process.
+
+pub mod guarded;
+pub mod shapes;
+pub mod sides;

@@ -1,0 +1,350 @@
+//! bench [ROUNDS]
+//!
+//! Our library and the original module in one process on the same sheets, both optimised, one
+//! after the other in every round. Prints the tables of docs/PERFORMANCE.md.
+//!
+//! - ours: the whole call on lent buffers, clearing included.
+//! - same job: the original from the sheet's words to the answer's words, its HIR built on the way.
+//! - analysis: the original's pass alone, its HIR built before.
+
+use std::time::{Duration, Instant};
+
+use bench::shapes;
+use bench::sides::{LENT, Ours, analysis, compare, same_job, time};
+use oracle::cases::CASE_1;
+use oracle::generate::{self, LIMITS};
+use oracle::plain;
+use oracle::plain::sheet::Sheet;
+use oracle::random::Random;
+use service_host::Service;
+
+/// The q-th part of the times, which are sorted.
+fn quantile(sorted: &[f64], q: f64) -> f64 {
+    sorted[((sorted.len() - 1) as f64 * q).round() as usize]
+}
+
+fn sorted(mut times: Vec<f64>) -> Vec<f64> {
+    times.sort_by(f64::total_cmp);
+    times
+}
+
+/// The times of all rounds, in nanoseconds.
+#[derive(Default)]
+struct Times(Vec<f64>);
+
+impl Times {
+    fn median(&self) -> f64 {
+        quantile(&sorted(self.0.clone()), 0.5)
+    }
+
+    /// From the lower to the upper quartile, as a part of the median.
+    fn spread(&self) -> f64 {
+        let all = sorted(self.0.clone());
+        (quantile(&all, 0.75) - quantile(&all, 0.25)) / quantile(&all, 0.5)
+    }
+}
+
+/// The medians of one sheet.
+struct Row {
+    ours: f64,
+    job: f64,
+    analysis: f64,
+    /// The largest spread of the three.
+    spread: f64,
+}
+
+struct Bench {
+    ours: Ours,
+    rounds: usize,
+    /// Clearing the lent words, as the library does it: a call that is refused at once.
+    clearing: f64,
+}
+
+impl Bench {
+    fn new(rounds: usize) -> Bench {
+        let mut bench = Bench { ours: Ours::new(), rounds, clearing: 0.0 };
+        bench.clearing = bench.refused(&[]);
+        bench
+    }
+
+    /// The median time of a call that is refused.
+    fn refused(&mut self, words: &[u32]) -> f64 {
+        let call = |_| {
+            let (t, reply) = time(|| self.ours.call(words));
+            assert!(reply.refusal != 0);
+            t
+        };
+        Times((0..self.rounds.max(1_001)).map(call).collect()).median()
+    }
+
+    /// Each side once in every round, for at most three seconds but at least five rounds.
+    fn measure(&mut self, sheet: &Sheet) -> Row {
+        let words = sheet.words();
+        self.ours.lend(LENT.max(same_job(&words).len() + 1_000));
+        compare(&mut self.ours, &words);
+        let [mut ours, mut job, mut alone] = [(); 3].map(|()| Times::default());
+        let start = Instant::now();
+        while ours.0.len() < self.rounds
+            && (ours.0.len() < 5 || start.elapsed() < Duration::from_secs(3))
+        {
+            ours.0.push(time(|| self.ours.call(&words)).0);
+            job.0.push(time(|| same_job(&words)).0);
+            alone.0.push(analysis(sheet));
+        }
+        self.ours.lend(LENT);
+        let spread = ours.spread().max(job.spread()).max(alone.spread());
+        Row { ours: ours.median(), job: job.median(), analysis: alone.median(), spread }
+    }
+
+    /// The same for many sheets, a round over all of them at a time.
+    fn measure_all(&mut self, sheets: &[Sheet], rounds: usize) -> Vec<Row> {
+        let words: Vec<Vec<u32>> = sheets.iter().map(Sheet::words).collect();
+        let mut times: Vec<[Times; 3]> = sheets.iter().map(|_| Default::default()).collect();
+        for round in 0..rounds {
+            for ((sheet, words), [ours, job, alone]) in sheets.iter().zip(&words).zip(&mut times) {
+                if round == 0 {
+                    compare(&mut self.ours, words);
+                }
+                ours.0.push(time(|| self.ours.call(words)).0);
+                job.0.push(time(|| same_job(words)).0);
+                alone.0.push(analysis(sheet));
+            }
+        }
+        let row = |[ours, job, alone]: &[Times; 3]| Row {
+            ours: ours.median(),
+            job: job.median(),
+            analysis: alone.median(),
+            spread: ours.spread(),
+        };
+        times.iter().map(row).collect()
+    }
+}
+
+fn micro(nanoseconds: f64) -> String {
+    match nanoseconds / 1_000.0 {
+        t if t < 9.95 => format!("{t:.2}"),
+        t if t < 99.5 => format!("{t:.1}"),
+        t => format!("{t:.0}"),
+    }
+}
+
+fn ratio(r: f64) -> String {
+    if r < 9.95 { format!("{r:.2}") } else { format!("{r:.1}") }
+}
+
+/// Whether what is asked holds.
+struct Demand {
+    what: String,
+    measured: f64,
+    holds: bool,
+}
+
+fn corpora(bench: &mut Bench, demands: &mut Vec<Demand>) {
+    println!("## Corpora\n");
+    println!(
+        "Ratios are taken sheet by sheet; the median over the sheets, in brackets the lower and \
+         upper tenth. \"Less clearing\" takes the {} µs of the lent words' clearing off our time.\n",
+        micro(bench.clearing)
+    );
+    println!(
+        "| corpus | sheets | ours µs | same job µs | analysis µs | same job / ours | analysis / ours | same job / ours less clearing | analysis / ours less clearing |"
+    );
+    println!("|---|---|---|---|---|---|---|---|---|");
+    let mut random = Random::new(1);
+    let generated: Vec<Sheet> = std::iter::repeat_with(|| generate::sheet(&mut random))
+        .filter(|sheet| plain::answer(sheet).words().len() <= LENT)
+        .take(2_000)
+        .collect();
+    let mut panels = |count: usize, low: usize, high: usize| -> Vec<Sheet> {
+        (0..count)
+            .map(|_| {
+                let identifiers = random.between(low, high);
+                shapes::panel(&mut random, identifiers)
+            })
+            .collect()
+    };
+    let corpora = [
+        ("small panels, 10 to 60 identifiers", panels(500, 10, 60), true),
+        ("large panels, 100 to 512 identifiers", panels(100, 100, 512), false),
+        ("generated sheets", generated, true),
+    ];
+    for (name, sheets, asked) in corpora {
+        let rows = bench.measure_all(&sheets, (bench.rounds / 5).max(5));
+        let clearing = bench.clearing;
+        let median =
+            |value: &dyn Fn(&Row) -> f64| quantile(&sorted(rows.iter().map(value).collect()), 0.5);
+        let ratios = |value: &dyn Fn(&Row) -> f64| {
+            let all = sorted(rows.iter().map(value).collect());
+            let [low, middle, high] = [0.1, 0.5, 0.9].map(|q| ratio(quantile(&all, q)));
+            format!("{middle} ({low} to {high})")
+        };
+        println!(
+            "| {name} | {} | {} | {} | {} | {} | {} | {} | {} |",
+            sheets.len(),
+            micro(median(&|r| r.ours)),
+            micro(median(&|r| r.job)),
+            micro(median(&|r| r.analysis)),
+            ratios(&|r| r.job / r.ours),
+            ratios(&|r| r.analysis / r.ours),
+            ratios(&|r| r.job / (r.ours - clearing).max(1.0)),
+            ratios(&|r| r.analysis / (r.ours - clearing).max(1.0)),
+        );
+        if asked {
+            for (side, least, measured) in [
+                ("same job", 5.0, median(&|r| r.job / r.ours)),
+                ("analysis alone", 3.0, median(&|r| r.analysis / r.ours)),
+            ] {
+                let what = format!("{name}: at the median at least {least} times the {side}");
+                demands.push(Demand { what, measured, holds: measured >= least });
+            }
+        }
+    }
+    println!();
+}
+
+const SHAPES_HEAD: &str = "| shape | words | ours µs | same job µs | analysis µs | spread | same job / ours | analysis / ours | analysis / ours less clearing |\n|---|---|---|---|---|---|---|---|---|";
+
+fn shape_row(name: &str, words: usize, row: &Row, clearing: f64) {
+    println!(
+        "| {name} | {words} | {} | {} | {} | {:.0}% | {} | {} | {} |",
+        micro(row.ours),
+        micro(row.job),
+        micro(row.analysis),
+        100.0 * row.spread,
+        ratio(row.job / row.ours),
+        ratio(row.analysis / row.ours),
+        ratio(row.analysis / (row.ours - clearing).max(1.0)),
+    );
+}
+
+fn worst(bench: &mut Bench, demands: &mut Vec<Demand>) {
+    let mut sheets = shapes::worst();
+    let mut random = Random::new(3);
+    sheets.extend(
+        LIMITS
+            .into_iter()
+            .map(|limit| (format!("limit: {limit:?}"), generate::at_limit(&mut random, limit))),
+    );
+    println!("## Worst shapes and limits\n\n{SHAPES_HEAD}");
+    let mut least: Option<(f64, String)> = None;
+    for (name, sheet) in sheets {
+        let row = bench.measure(&sheet);
+        shape_row(&name, sheet.words().len(), &row, bench.clearing);
+        let r = row.analysis / (row.ours - bench.clearing).max(1.0);
+        if least.as_ref().is_none_or(|(least, _)| r < *least) {
+            least = Some((r, name));
+        }
+    }
+    println!();
+    if let Some((measured, name)) = least {
+        let what = format!("on no shape slower than the analysis alone, clearing aside ({name})");
+        demands.push(Demand { what, measured, holds: measured >= 1.0 });
+    }
+}
+
+fn doublings(bench: &mut Bench) {
+    println!("## As the work grows\n");
+    println!("A line for each doubling, with the factor to the line above.\n");
+    println!("| what | size | ours µs | | same job µs | | analysis µs | |");
+    println!("|---|---|---|---|---|---|---|---|");
+    for (name, sheets) in shapes::doublings() {
+        let mut before: Option<Row> = None;
+        for (size, sheet) in sheets {
+            let row = bench.measure(&sheet);
+            let factor = |now: f64, part: &dyn Fn(&Row) -> f64| {
+                before.as_ref().map_or(String::new(), |b| format!("×{:.2}", now / part(b)))
+            };
+            println!(
+                "| {name} | {size} | {} | {} | {} | {} | {} | {} |",
+                micro(row.ours),
+                factor(row.ours, &|b| b.ours),
+                micro(row.job),
+                factor(row.job, &|b| b.job),
+                micro(row.analysis),
+                factor(row.analysis, &|b| b.analysis),
+            );
+            before = Some(row);
+        }
+    }
+    println!();
+}
+
+/// The whole call beside clearing and one reading: the same sheet with one word more is read
+/// whole, refused 7, and both buffers are cleared.
+fn tiny(bench: &mut Bench, demands: &mut Vec<Demand>) {
+    println!("## Tiny sheets\n");
+    println!(
+        "| sheet | words | whole call µs | clearing and one reading µs | ratio | through `Service` µs |"
+    );
+    println!("|---|---|---|---|---|---|");
+    let case_1: Vec<u32> = CASE_1.split_whitespace().filter_map(|w| w.parse().ok()).collect();
+    let mut random = Random::new(8);
+    let mut sheets = vec![
+        ("smallest".to_string(), shapes::smallest().words()),
+        ("bench case 1".to_string(), case_1),
+    ];
+    for n in [5, 10, 20] {
+        sheets.push((format!("panel of {n}"), shapes::panel(&mut random, n).words()));
+    }
+    let mut service = Service::new();
+    let mut largest: f64 = 0.0;
+    for (name, words) in &sheets {
+        let more = [&words[..], &[0]].concat();
+        let [mut whole, mut read, mut wrapped] = [(); 3].map(|()| Times::default());
+        for _ in 0..bench.rounds.max(1_001) {
+            whole.0.push(time(|| bench.ours.call(words)).0);
+            read.0.push(time(|| bench.ours.call(&more)).0);
+            wrapped.0.push(time(|| service.infer(words).is_ok()).0);
+        }
+        let r = whole.median() / read.median();
+        largest = largest.max(r);
+        println!(
+            "| {name} | {} | {} | {} | {} | {} |",
+            words.len(),
+            micro(whole.median()),
+            micro(read.median()),
+            ratio(r),
+            micro(wrapped.median()),
+        );
+    }
+    println!();
+    let what = "tiny sheets: the whole call within 1.3 times clearing and one reading".to_string();
+    demands.push(Demand { what, measured: largest, holds: largest <= 1.3 });
+}
+
+fn clearing(bench: &mut Bench) {
+    println!("## Clearing the lent words\n");
+    let fill = |_| time(|| bench.ours.clear()).0;
+    let fill = Times((0..bench.rounds.max(1_001)).map(fill).collect()).median();
+    println!("| {} words | µs |", bench.ours.lent());
+    println!("|---|---|");
+    println!("| the library's (a call that is refused at once) | {} |", micro(bench.clearing));
+    println!("| `fill(0)` | {} |", micro(fill));
+    println!(
+        "| reading the clock, which is in every time | {} |\n",
+        micro(Times((0..10_001).map(|_| time(|| ()).0).collect()).median())
+    );
+}
+
+fn main() {
+    let rounds = std::env::args().nth(1).map_or(101, |r| r.parse().expect("ROUNDS is a number"));
+    let mut bench = Bench::new(rounds);
+    let mut demands = Vec::new();
+    println!(
+        "Medians of {rounds} rounds (fewer where a round takes long, at least 5; a fifth of them \
+         for corpora). Every call of ours is lent {} words of workspace and {LENT} words of answer \
+         (more where the answer is longer) and clears all of them; the original clears nothing. \
+         Spread: between the quartiles, as a part of the median, the largest of the three sides.\n",
+        service_host::ffi::least_workspace(),
+    );
+    clearing(&mut bench);
+    tiny(&mut bench, &mut demands);
+    corpora(&mut bench, &mut demands);
+    worst(&mut bench, &mut demands);
+    doublings(&mut bench);
+    println!("## What is asked\n\n| | measured | |\n|---|---|---|");
+    for demand in &demands {
+        let holds = if demand.holds { "holds" } else { "does not hold" };
+        println!("| {} | {} | {holds} |", demand.what, ratio(demand.measured));
+    }
+}

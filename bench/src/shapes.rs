@@ -1,0 +1,239 @@
+//! Sheets: panels as they are written, the limits, and the worst for each side.
+
+use oracle::plain::sheet::{
+    Block, Effect, Identifier, Instruction, MAX_COUNT, Phi, Place, Sheet, Terminal,
+};
+use oracle::random::Random;
+
+pub fn place(identifier: usize) -> Place {
+    Place { identifier: identifier as u32, traits: 0, span: identifier as u32 + 1 }
+}
+
+fn one(kind: u32, identifier: usize) -> Effect {
+    Effect { kind, first: place(identifier), ..Effect::default() }
+}
+
+fn two(kind: u32, from: usize, into: usize) -> Effect {
+    Effect { kind, first: place(from), second: place(into), extra: 0 }
+}
+
+fn block(number: usize, phis: Vec<Phi>, effects: &[Effect]) -> Block {
+    let instructions = (1..)
+        .zip(effects.chunks(MAX_COUNT as usize))
+        .map(|(order, part)| Instruction { order, effects: part.to_vec() })
+        .collect();
+    Block { number: number as u32, phis, instructions, terminal: Terminal::Other { order: 9 } }
+}
+
+/// The first identifier is the parameter, the last one what is returned.
+fn sheet(identifiers: usize, blocks: Vec<Block>) -> Sheet {
+    Sheet {
+        function_expression: false,
+        validations: true,
+        identifiers: vec![Identifier::default(); identifiers],
+        functions: Vec::new(),
+        params: vec![place(0)],
+        context: Vec::new(),
+        returns: place(identifiers - 1),
+        blocks,
+    }
+}
+
+/// The smallest sheet: one identifier, which is returned, and no block.
+pub fn smallest() -> Sheet {
+    Sheet { params: Vec::new(), ..sheet(1, Vec::new()) }
+}
+
+/// A panel as people write them: each instruction makes one value from earlier ones, about a
+/// third change one, and every few instructions a branch joins in a phi.
+pub fn panel(random: &mut Random, identifiers: usize) -> Sheet {
+    let mut sheet = sheet(identifiers, Vec::new());
+    let context = (identifiers / 10).min(8).min(identifiers - 2);
+    sheet.context = (1..=context).map(place).collect();
+    sheet.functions = vec![vec![7, 8], vec![9]];
+    let mut made = context + 1;
+    let mut order = 0;
+    let mut number = 0;
+    while made < identifiers - 1 {
+        let mut phis = Vec::new();
+        if number >= 2 && random.percent(60) {
+            let operands = vec![
+                (number as u32 - 2, place(random.below(made))),
+                (number as u32 - 1, place(random.below(made))),
+            ];
+            phis.push(Phi { place: place(made), operands });
+            made += 1;
+        }
+        let mut instructions = Vec::new();
+        for _ in 0..random.between(4, 9) {
+            if made >= identifiers - 1 {
+                break;
+            }
+            order += 1;
+            let from = |random: &mut Random| made - 1 - random.below(made.min(12));
+            let mut effects = match random.below(10) {
+                0..4 => vec![one(9, made)],
+                4..6 => vec![two(10, from(random), made)],
+                6..8 => vec![two(8, from(random), made)],
+                _ => vec![Effect { extra: random.below(2) as u32, ..one(13, made) }],
+            };
+            for _ in 0..random.below(3) {
+                effects.push(two(random.choose(&[5, 5, 5, 6, 7, 11]), from(random), made));
+            }
+            if random.percent(35) {
+                let kind = random.choose(&[1, 2, 3, 3, 4, 4]);
+                effects.push(one(kind, from(random)));
+            }
+            if random.percent(5) {
+                effects.push(one(17, from(random)));
+            }
+            instructions.push(Instruction { order, effects });
+            made += 1;
+        }
+        order += 1;
+        let terminal = Terminal::Other { order };
+        sheet.blocks.push(Block { number: number as u32, phis, instructions, terminal });
+        number += 1;
+    }
+    if let Some(last) = sheet.blocks.last_mut() {
+        let value = place(made - 1);
+        last.terminal = Terminal::Return { order, value, effects: Vec::new() };
+    }
+    sheet
+}
+
+/// A chain of so many aliases, and a mutation of each value.
+pub fn chain(identifiers: usize) -> Sheet {
+    let last = identifiers - 1;
+    let mut effects: Vec<Effect> = (0..last).map(|i| two(8, i, i + 1)).collect();
+    effects.extend((0..identifiers).map(|i| one(3, i)));
+    sheet(identifiers, vec![block(0, Vec::new(), &effects)])
+}
+
+/// So many relations of all kinds between the identifiers, and so many mutations.
+pub fn dense(identifiers: usize, relations: usize, mutations: usize) -> Sheet {
+    let mut random = Random::new(17);
+    let kinds = [5, 6, 7];
+    oracle::dense::random(&mut random, identifiers, relations, mutations, &kinds, &[3])
+}
+
+/// One phi with so many operands, of which 200 come from blocks that follow.
+pub fn phi(operands: usize) -> Sheet {
+    let identifiers = 512;
+    let created: Vec<Effect> = (0..identifiers - 1).map(|i| one(9, i)).collect();
+    let operand = |i| (i as u32, place(i % (identifiers - 1)));
+    let phi = Phi { place: place(identifiers - 1), operands: (0..operands).map(operand).collect() };
+    let mut blocks = vec![block(60_000, Vec::new(), &created), block(60_001, vec![phi], &[])];
+    blocks.extend((0..operands.min(200)).map(|number| block(number, Vec::new(), &[])));
+    blocks.push(block(60_002, Vec::new(), &[one(3, 0), one(3, identifiers - 1)]));
+    sheet(identifiers, blocks)
+}
+
+/// So many phi operands in phis of eight, all of which wait for the last of 250 blocks.
+pub fn waiting(operands: usize) -> Sheet {
+    let phis = (0..operands / 8).map(|p| Phi {
+        place: place(1 + p % 500),
+        operands: (0..8).map(|i| (60_000 + i, place((p + i as usize) % 500))).collect(),
+    });
+    let mut blocks = vec![block(0, phis.collect(), &[])];
+    blocks.extend((1..240).map(|number| block(number, Vec::new(), &[])));
+    blocks.extend((0..8).map(|i| block(60_000 + i, Vec::new(), &[one(3, 0)])));
+    sheet(512, blocks)
+}
+
+/// Half of the relations are held throughout. The others are each dropped at once: a value gets
+/// one and is created again.
+pub fn recreated(times: usize) -> Sheet {
+    let identifiers = 512;
+    let held = 1_024 - times;
+    let mut effects: Vec<Effect> = (0..300).map(|i| one(9, i)).collect();
+    effects.extend((0..held).map(|i| two(5, i % 150, 150 + i * 7 % 150)));
+    for i in 0..times {
+        let (from, into) = (i % 150, 300 + i % 200);
+        effects.extend([one(9, into), two(5, from, into), one(9, into)]);
+    }
+    effects.extend((0..8).map(|i| one(3, i)));
+    effects.truncate((16_000 - 3 * identifiers) / 8);
+    sheet(identifiers, vec![block(0, Vec::new(), &effects)])
+}
+
+/// The same pair of values related again and again: every entry is there already.
+pub fn repeated(relations: usize) -> Sheet {
+    let mut effects: Vec<Effect> = (0..64).map(|i| one(9, i)).collect();
+    effects.extend((0..relations).map(|i| two(5 + (i % 3) as u32, i % 8, 8 + i % 8)));
+    effects.extend((0..16).map(|i| one(3, i)));
+    sheet(65, vec![block(0, Vec::new(), &effects)])
+}
+
+/// So many blocks with a Return each.
+pub fn blocks(count: usize) -> Sheet {
+    let mut sheet = sheet(64, Vec::new());
+    for number in 0..count {
+        let from = number % 63;
+        let mut b = block(number, Vec::new(), &[one(9, from), one(3, from)]);
+        b.terminal = Terminal::Return { order: 9, value: place(from), effects: Vec::new() };
+        sheet.blocks.push(b);
+    }
+    sheet
+}
+
+/// 64 parameters and 64 context variables over a dense graph: 129 simulated walks, each of
+/// which reaches all of them.
+pub fn simulated(relations: usize) -> Sheet {
+    let mut sheet = dense(130, relations, 1);
+    sheet.params = (0..64).map(place).collect();
+    sheet.context = (64..128).map(place).collect();
+    sheet
+}
+
+/// Function nodes in a row, all handed over by each of so many renders.
+pub fn renders(nodes: usize, renders: usize) -> Sheet {
+    let mut effects: Vec<Effect> = (0..nodes).map(|i| one(13, i)).collect();
+    effects.extend((1..nodes).map(|i| two(5, i, i - 1)));
+    effects.extend((0..renders).map(|_| one(17, 0)));
+    let mut sheet = sheet(nodes + 1, vec![block(0, Vec::new(), &effects)]);
+    sheet.functions = vec![(0..64).collect()];
+    sheet.params = Vec::new();
+    sheet
+}
+
+/// Single sheets, each with its name.
+pub fn worst() -> Vec<(String, Sheet)> {
+    let mut all: Vec<(String, Sheet)> = oracle::dense::all()
+        .into_iter()
+        .map(|(name, sheet)| (format!("{name}, 512 mutations"), sheet))
+        .collect();
+    let more: [(&str, Sheet); 10] = [
+        ("one phi with 1,024 operands", phi(1_024)),
+        ("1,024 operands that wait, 248 blocks", waiting(1_024)),
+        ("512 values created again, 512 relations held", recreated(512)),
+        ("128 values created again, 896 relations held", recreated(128)),
+        ("1,024 relations between 24 pairs", repeated(1_024)),
+        ("256 blocks", blocks(256)),
+        ("129 simulated walks over 1,024 relations", simulated(1_024)),
+        ("100 renders over 300 functions", renders(300, 100)),
+        ("256 renders over 500 functions", renders(500, 256)),
+        ("one mutation, 1,024 relations", dense(512, 1_024, 1)),
+    ];
+    all.extend(more.map(|(name, sheet)| (name.to_string(), sheet)));
+    all
+}
+
+/// The cost as the work grows: each next sheet has twice as much of it.
+pub fn doublings() -> Vec<(&'static str, Vec<(usize, Sheet)>)> {
+    let grow = |from: usize, to: usize, make: &dyn Fn(usize) -> Sheet| {
+        let sizes = std::iter::successors(Some(from), |n| Some(n * 2)).take_while(|&n| n <= to);
+        sizes.map(|n| (n, make(n))).collect::<Vec<_>>()
+    };
+    vec![
+        ("panel, identifiers", grow(8, 512, &|n| panel(&mut Random::new(5), n))),
+        ("chain, identifiers and mutations", grow(8, 512, &chain)),
+        ("dense, relations (64 identifiers, 64 mutations)", grow(64, 1_024, &|n| dense(64, n, 64))),
+        ("mutations (512 identifiers, 1,024 relations)", grow(8, 512, &|n| dense(512, 1_024, n))),
+        ("operands of one phi", grow(16, 1_024, &phi)),
+        ("operands that wait (248 blocks)", grow(16, 1_024, &waiting)),
+        ("values created again", grow(16, 512, &recreated)),
+        ("relations between the same pairs", grow(16, 1_024, &repeated)),
+        ("blocks", grow(4, 256, &blocks)),
+    ]
+}

@@ -1,0 +1,88 @@
+//! One call of each side, and its time.
+
+use std::hint::black_box;
+use std::time::Instant;
+
+use oracle::original_side;
+use oracle::plain::{self, sheet::Sheet};
+use oxc_allocator::Allocator;
+use service_host::ffi::{self, Reply, ServiceState};
+
+/// Words lent for an answer, where the answer is not longer.
+pub const LENT: usize = 16_384;
+
+/// Our library with the buffers that are lent for each call.
+pub struct Ours {
+    state: ServiceState,
+    workspace: Vec<u32>,
+    answer: Vec<u32>,
+}
+
+impl Ours {
+    pub fn new() -> Ours {
+        Ours {
+            state: ffi::new_state(),
+            workspace: vec![0; ffi::least_workspace()],
+            answer: vec![0; LENT],
+        }
+    }
+
+    /// Lends so many words for answers from now on.
+    pub fn lend(&mut self, words: usize) {
+        self.answer.resize(words, 0);
+    }
+
+    pub fn lent(&self) -> usize {
+        self.workspace.len() + self.answer.len()
+    }
+
+    pub fn call(&mut self, sheet: &[u32]) -> Reply {
+        ffi::infer(&mut self.state, sheet, &mut self.workspace, &mut self.answer)
+    }
+
+    pub fn answer(&self, reply: Reply) -> &[u32] {
+        &self.answer[..reply.length]
+    }
+
+    /// Clears the lent words and does nothing else.
+    pub fn clear(&mut self) {
+        black_box(&mut self.workspace[..]).fill(0);
+        black_box(&mut self.answer[..]).fill(0);
+    }
+}
+
+impl Default for Ours {
+    fn default() -> Ours {
+        Ours::new()
+    }
+}
+
+/// Nanoseconds. What is made is given back, so that its end is not in the time.
+pub fn time<T>(what: impl FnOnce() -> T) -> (f64, T) {
+    let start = Instant::now();
+    let made = black_box(what());
+    (start.elapsed().as_nanos() as f64, made)
+}
+
+/// The original's same job: the sheet's words read, its HIR built, the pass, the answer's words.
+pub fn same_job(words: &[u32]) -> Vec<u32> {
+    let sheet = plain::read(words).expect("the sheets of the benchmark are accepted");
+    original_side::answer(&sheet).words()
+}
+
+/// The time of the original's pass alone, with its HIR built before.
+pub fn analysis(sheet: &Sheet) -> f64 {
+    let allocator = Allocator::new();
+    let mut prepared = original_side::prepare(sheet, &allocator);
+    time(|| original_side::call(&mut prepared)).0
+}
+
+/// Fails if the two sides disagree on what both have: the answer up to the walks.
+pub fn compare(ours: &mut Ours, words: &[u32]) {
+    let reply = ours.call(words);
+    assert_eq!(reply.refusal, 0);
+    // The original's answer has an empty section of walks.
+    let original = same_job(words);
+    let five = &original[..original.len() - 1];
+    assert!(ours.answer(reply).starts_with(five), "the two sides disagree");
+}

@@ -1,0 +1,58 @@
+/* Bench case 1 through the library: prints the answer, a line for each section. */
+#include <inttypes.h>
+#include <stdio.h>
+
+#include "service.h"
+
+/* function panel(props) { const list = [props]; list.push(..); return list; } */
+static const uint32_t sheet[] = {
+    2, 0, 1,                         /* flags: no function expression, validations */
+    3, 0, 0, 0, 0, 0, 0, 0, 0, 0,    /* identifiers: 0 props, 1 list, 2 result */
+    0,                               /* inner functions */
+    1, 0, 0, 5,                      /* parameters: props, at span 5 */
+    0,                               /* context */
+    1, 2, 0, 0,                      /* returns: result */
+    1,                               /* blocks */
+    0, 0, 2,                         /* number 0, no phis, two instructions */
+    1, 2,                            /* at order 1, two effects */
+    9, 1, 0, 0, 0, 0, 0, 0,          /* Create list */
+    5, 0, 0, 0, 1, 0, 0, 0,          /* Capture props into list */
+    2, 1,                            /* at order 2, one effect */
+    3, 1, 0, 7, 0, 0, 0, 0,          /* MutateTransitive list, at span 7 */
+    1, 3, 1, 0, 0, 0,                /* Return list at order 3, no effects */
+};
+
+static const struct {
+    const char *name;
+    size_t words; /* of a record */
+} sections[] = {
+    {"ranges", 2}, {"params", 3}, {"context", 3}, {"diagnostics", 1}, {"effects", 8}, {"walks", 1},
+};
+
+#define COUNT(array) (sizeof(array) / sizeof((array)[0]))
+
+int main(void) {
+    static uint32_t workspace[16384];
+    static uint32_t answer[16384];
+
+    if (COUNT(workspace) < service_least_workspace()) {
+        return 2;
+    }
+    struct ServiceState state = service_new();
+    struct Reply reply = service_infer(&state, sheet, COUNT(sheet), workspace, COUNT(workspace),
+                                       answer, COUNT(answer));
+    if (reply.refusal != 0) {
+        printf("refused %" PRIu32 "\n", reply.refusal);
+        return 1;
+    }
+    const uint32_t *at = answer;
+    for (size_t i = 0; i < COUNT(sections); i++) {
+        size_t words = *at * sections[i].words;
+        printf("%s %" PRIu32, sections[i].name, *at++);
+        while (words-- > 0) {
+            printf(" %" PRIu32, *at++);
+        }
+        printf("\n");
+    }
+    return 0;
+}

@@ -1,0 +1,257 @@
+//! The alias graph of a sheet, as document 01 builds it ("Building"), where each relation also
+//! knows from which part of the sheet it comes.
+
+use service_host::{
+    AliasingEffect, BlockId, EffectKind, EvaluationOrder, IdentifierId, Sheet, Terminal,
+};
+
+/// How a relation is stored.
+#[derive(Debug, Clone, Copy, PartialEq, Eq)]
+pub enum Relation {
+    CreateFrom,
+    Alias,
+    MaybeAlias,
+    Capture,
+}
+
+/// The part of the sheet that a relation or a mutation comes from.
+#[derive(Debug, Clone, Copy, PartialEq, Eq)]
+pub enum Origin {
+    Instruction { effect: AliasingEffect, order: EvaluationOrder, block: BlockId },
+    TerminalEffect { effect: AliasingEffect, order: EvaluationOrder, block: BlockId },
+    Operand { phi: IdentifierId, predecessor: BlockId, block: BlockId },
+    Return { order: EvaluationOrder, block: BlockId },
+}
+
+/// A forward edge, stored at "from".
+#[derive(Debug, Clone, Copy, PartialEq, Eq)]
+pub struct Edge {
+    pub into: IdentifierId,
+    pub relation: Relation,
+    pub index: u32,
+    pub origin: Origin,
+}
+
+/// An entry, stored at "into".
+#[derive(Debug, Clone, Copy, PartialEq, Eq)]
+pub struct Entry {
+    pub from: IdentifierId,
+    pub relation: Relation,
+    pub index: u32,
+    pub origin: Origin,
+}
+
+#[derive(Debug, Clone, PartialEq, Eq)]
+pub struct Node {
+    pub is_phi: bool,
+    pub edges: Vec<Edge>,
+    /// Those of every relation, in stored order.
+    pub entries: Vec<Entry>,
+}
+
+/// Conditional is below Definite.
+#[derive(Debug, Clone, Copy, PartialEq, Eq, PartialOrd, Ord)]
+pub enum MutationKind {
+    Conditional,
+    Definite,
+}
+
+#[derive(Debug, Clone, Copy, PartialEq, Eq)]
+pub struct Mutation {
+    pub index: u32,
+    pub order: EvaluationOrder,
+    pub kind: MutationKind,
+    pub transitive: bool,
+    pub identifier: IdentifierId,
+    pub origin: Origin,
+}
+
+/// What building leaves.
+#[derive(Debug, Clone)]
+pub struct Graph {
+    /// One for each identifier.
+    pub nodes: Vec<Option<Node>>,
+    pub mutations: Vec<Mutation>,
+    next_index: u32,
+}
+
+/// A phi operand whose predecessor has not come yet.
+struct Waiting {
+    predecessor: BlockId,
+    from: IdentifierId,
+    into: IdentifierId,
+    index: u32,
+    origin: Origin,
+}
+
+impl Graph {
+    pub fn build(sheet: &Sheet) -> Graph {
+        let nodes = vec![None; sheet.identifiers().len()];
+        let mut graph = Graph { nodes, mutations: Vec::new(), next_index: 0 };
+        for place in sheet.params().iter().chain(sheet.context()).chain([&sheet.returns()]) {
+            graph.create(place.identifier, false);
+        }
+        let mut come = Vec::new();
+        let mut waiting = Vec::new();
+        for block in sheet.blocks() {
+            let number = block.number;
+            for phi in &block.phis {
+                let into = phi.place.identifier;
+                graph.create(into, true);
+                for operand in &phi.operands {
+                    let predecessor = operand.predecessor;
+                    let (from, index) = (operand.place.identifier, graph.next());
+                    let origin = Origin::Operand { phi: into, predecessor, block: number };
+                    if come.contains(&predecessor) {
+                        graph.store(Relation::Alias, from, into, index, origin);
+                    } else {
+                        waiting.push(Waiting { predecessor, from, into, index, origin });
+                    }
+                }
+            }
+            come.push(number);
+
+            for instruction in &block.instructions {
+                for &effect in &instruction.effects {
+                    let order = instruction.order;
+                    let origin = Origin::Instruction { effect, order, block: number };
+                    graph.instruction_effect(&effect, order, origin);
+                }
+            }
+
+            for w in waiting.iter().filter(|w| w.predecessor == number) {
+                graph.store(Relation::Alias, w.from, w.into, w.index, w.origin);
+            }
+            let order = block.terminal.order();
+            if let Terminal::Return { value, .. } = block.terminal {
+                let (into, index) = (sheet.returns().identifier, graph.next());
+                let origin = Origin::Return { order, block: number };
+                graph.store(Relation::Alias, value.identifier, into, index, origin);
+            }
+            for effect in &block.terminal_effects {
+                if let &AliasingEffect::Alias { from, into } = effect {
+                    let index = graph.next();
+                    let origin = Origin::TerminalEffect { effect: *effect, order, block: number };
+                    let (from, into) = (from.identifier, into.identifier);
+                    graph.store(Relation::Alias, from, into, index, origin);
+                }
+            }
+        }
+        graph
+    }
+
+    pub fn node(&self, identifier: IdentifierId) -> Option<&Node> {
+        self.nodes[identifier.0 as usize].as_ref()
+    }
+
+    fn node_mut(&mut self, identifier: IdentifierId) -> Option<&mut Node> {
+        self.nodes[identifier.0 as usize].as_mut()
+    }
+
+    fn next(&mut self) -> u32 {
+        self.next_index += 1;
+        self.next_index - 1
+    }
+
+    fn create(&mut self, identifier: IdentifierId, is_phi: bool) {
+        let node = Node { is_phi, edges: Vec::new(), entries: Vec::new() };
+        self.nodes[identifier.0 as usize] = Some(node);
+    }
+
+    fn store(
+        &mut self,
+        relation: Relation,
+        from: IdentifierId,
+        into: IdentifierId,
+        index: u32,
+        origin: Origin,
+    ) {
+        if self.node(from).is_some() && self.node(into).is_some() {
+            self.store_edge(relation, from, into, index, origin);
+            self.store_entry(relation, from, into, index, origin);
+        }
+    }
+
+    fn store_edge(
+        &mut self,
+        relation: Relation,
+        from: IdentifierId,
+        into: IdentifierId,
+        index: u32,
+        origin: Origin,
+    ) {
+        if let Some(node) = self.node_mut(from) {
+            node.edges.push(Edge { into, relation, index, origin });
+        }
+    }
+
+    fn store_entry(
+        &mut self,
+        relation: Relation,
+        from: IdentifierId,
+        into: IdentifierId,
+        index: u32,
+        origin: Origin,
+    ) {
+        if let Some(node) = self.node_mut(into)
+            && !node.entries.iter().any(|e| e.from == from && e.relation == relation)
+        {
+            node.entries.push(Entry { from, relation, index, origin });
+        }
+    }
+
+    fn instruction_effect(
+        &mut self,
+        effect: &AliasingEffect,
+        order: EvaluationOrder,
+        origin: Origin,
+    ) {
+        let (first, second) = effect.places();
+        let id = |place: Option<service_host::Place>| place.unwrap_or(NOWHERE).identifier;
+        let (from, into) = (id(first), id(second));
+        let relation = match effect.kind() {
+            EffectKind::Capture => Relation::Capture,
+            EffectKind::Alias | EffectKind::Assign => Relation::Alias,
+            EffectKind::MaybeAlias => Relation::MaybeAlias,
+            EffectKind::CreateFrom => {
+                self.create(into, false);
+                let index = self.next();
+                self.store_edge(Relation::CreateFrom, from, into, index, origin);
+                self.store_entry(Relation::CreateFrom, from, into, index, origin);
+                return;
+            }
+            EffectKind::Create | EffectKind::CreateFunction => return self.create(from, false),
+            EffectKind::Render => {
+                self.next();
+                return;
+            }
+            kind if kind.is_mutation() => {
+                let index = self.next();
+                let definite = [EffectKind::Mutate, EffectKind::MutateTransitive].contains(&kind);
+                let local = [EffectKind::Mutate, EffectKind::MutateConditionally].contains(&kind);
+                let kind =
+                    if definite { MutationKind::Definite } else { MutationKind::Conditional };
+                let transitive = !local;
+                let identifier = from;
+                self.mutations.push(Mutation {
+                    index,
+                    order,
+                    kind,
+                    transitive,
+                    identifier,
+                    origin,
+                });
+                return;
+            }
+            _ => return,
+        };
+        if effect.kind() == EffectKind::Assign && self.node(into).is_none() {
+            self.create(into, false);
+        }
+        let index = self.next();
+        self.store(relation, from, into, index, origin);
+    }
+}
+
+/// Stands in for a place that an effect does not have.
+const NOWHERE: service_host::Place = service_host::Place::of(IdentifierId(0));

@@ -1,0 +1,324 @@
+//! Building a sheet from typed parts.
+
+use std::fmt;
+
+use crate::limits;
+use crate::parts::{
+    AliasingEffect, BlockId, DiagnosticId, EvaluationOrder, FunctionId, Identifier, IdentifierId,
+    Place,
+};
+use crate::sheet::{Block, Instruction, Operand, Phi, Sheet, Terminal};
+
+/// Why a part was not taken. The builder is then as it was before.
+#[derive(Debug, Clone, PartialEq, Eq)]
+#[non_exhaustive]
+pub enum PartError {
+    /// One more than a sheet, a block, a phi or a list may have.
+    TooMany { what: &'static str, most: usize },
+    /// A number above its limit.
+    TooLarge { what: &'static str, number: u32, most: u32 },
+    /// The sheet has, so far, only `count` identifiers.
+    NoIdentifier { identifier: IdentifierId, count: usize },
+    /// The sheet has, so far, only `count` inner functions.
+    NoFunction { function: FunctionId, count: usize },
+    /// The number was given to a block before.
+    BlockAgain(BlockId),
+    /// The phi names this predecessor already.
+    PredecessorAgain(BlockId),
+    /// The part cannot follow the one before it.
+    OutOfPlace { what: &'static str, follows: &'static str },
+    /// The block has no terminal yet.
+    BlockNotEnded(BlockId),
+}
+
+impl fmt::Display for PartError {
+    fn fmt(&self, f: &mut fmt::Formatter) -> fmt::Result {
+        match self {
+            PartError::TooMany { what, most } => write!(f, "more than {most} {what}"),
+            PartError::TooLarge { what, number, most } => {
+                write!(f, "{what} is at most {most}, not {number}")
+            }
+            PartError::NoIdentifier { identifier, count } => {
+                write!(f, "identifier {} is not one of the sheet's {count}", identifier.0)
+            }
+            PartError::NoFunction { function, count } => {
+                write!(f, "inner function {} is not one of the sheet's {count}", function.0)
+            }
+            PartError::BlockAgain(number) => {
+                write!(f, "block number {} is used a second time", number.0)
+            }
+            PartError::PredecessorAgain(number) => {
+                write!(f, "the phi names predecessor {} a second time", number.0)
+            }
+            PartError::OutOfPlace { what, follows } => write!(f, "{what} follows {follows}"),
+            PartError::BlockNotEnded(number) => {
+                write!(f, "block {} has no terminal yet", number.0)
+            }
+        }
+    }
+}
+
+impl std::error::Error for PartError {}
+
+type Taken<T = ()> = Result<T, PartError>;
+
+/// What the next part of a block can be added to.
+#[derive(Debug, Clone, Copy, PartialEq, Eq)]
+enum Open {
+    /// No block, or one that has its terminal.
+    Nothing,
+    Block,
+    Phi,
+    Instruction,
+    /// A terminal that can have effects.
+    Terminal,
+}
+
+/// Makes a [`Sheet`] from its parts, one after another. Every part is checked when it is added,
+/// so that no sheet made here is refused 3 to 7. Refusals 2 and 8 are about the whole sheet and
+/// are left to the service; [`Sheet::refusal`] tells them before.
+///
+/// Identifiers and inner functions are added before the parts that name them. In a block, phis
+/// (each followed by its operands) come before instructions (each followed by its effects), and
+/// the terminal, followed by its effects, comes last.
+#[derive(Debug, Clone)]
+pub struct SheetBuilder {
+    sheet: Sheet,
+    open: Open,
+}
+
+/// Fails if the list is full.
+fn room<T>(list: &[T], what: &'static str, most: usize) -> Taken {
+    if list.len() < most { Ok(()) } else { Err(PartError::TooMany { what, most }) }
+}
+
+pub(crate) fn at_most(what: &'static str, number: u32, most: u32) -> Taken {
+    if number <= most { Ok(()) } else { Err(PartError::TooLarge { what, number, most }) }
+}
+
+impl SheetBuilder {
+    /// No parts yet, and both flags unset.
+    pub fn new() -> SheetBuilder {
+        let sheet = Sheet {
+            function_expression: false,
+            validations: false,
+            identifiers: Vec::new(),
+            functions: Vec::new(),
+            params: Vec::new(),
+            context: Vec::new(),
+            returns: Place::of(IdentifierId(0)),
+            blocks: Vec::new(),
+        };
+        SheetBuilder { sheet, open: Open::Nothing }
+    }
+
+    /// Whether the function is a function expression, whose errors are not recorded.
+    pub fn function_expression(&mut self, yes: bool) {
+        self.sheet.function_expression = yes;
+    }
+
+    /// Whether errors are recorded.
+    pub fn validations(&mut self, yes: bool) {
+        self.sheet.validations = yes;
+    }
+
+    /// Adds an identifier and gives its number.
+    pub fn identifier(&mut self, identifier: Identifier) -> Taken<IdentifierId> {
+        let sheet = &mut self.sheet;
+        room(&sheet.identifiers, "identifiers", limits::IDENTIFIERS)?;
+        at_most("a range's start", identifier.range.start.0, limits::RANGE)?;
+        at_most("a range's end", identifier.range.end.0, limits::RANGE)?;
+        sheet.identifiers.push(identifier);
+        Ok(IdentifierId(sheet.identifiers.len() as u32 - 1))
+    }
+
+    /// Adds an inner function with its diagnostics and gives its number.
+    pub fn function(&mut self, diagnostics: &[DiagnosticId]) -> Taken<FunctionId> {
+        let sheet = &mut self.sheet;
+        room(&sheet.functions, "inner functions", limits::FUNCTIONS)?;
+        let most = limits::FUNCTION_DIAGNOSTICS;
+        if diagnostics.len() > most {
+            return Err(PartError::TooMany { what: "diagnostics of an inner function", most });
+        }
+        for diagnostic in diagnostics {
+            at_most("a diagnostic number", diagnostic.0, limits::DIAGNOSTIC)?;
+        }
+        sheet.functions.push(diagnostics.to_vec());
+        Ok(FunctionId(sheet.functions.len() as u32 - 1))
+    }
+
+    /// Adds a parameter. A spread parameter is its place.
+    pub fn param(&mut self, place: Place) -> Taken {
+        room(&self.sheet.params, "parameters", limits::PLACES)?;
+        self.known(&place)?;
+        self.sheet.params.push(place);
+        Ok(())
+    }
+
+    /// Adds a context variable.
+    pub fn context(&mut self, place: Place) -> Taken {
+        room(&self.sheet.context, "context places", limits::PLACES)?;
+        self.known(&place)?;
+        self.sheet.context.push(place);
+        Ok(())
+    }
+
+    /// Begins a block.
+    pub fn block(&mut self, number: BlockId) -> Taken {
+        self.ended()?;
+        let blocks = &mut self.sheet.blocks;
+        room(blocks, "blocks", limits::BLOCKS)?;
+        at_most("a block number", number.0, limits::BLOCK_NUMBER)?;
+        if blocks.iter().any(|block| block.number == number) {
+            return Err(PartError::BlockAgain(number));
+        }
+        blocks.push(Block {
+            number,
+            phis: Vec::new(),
+            instructions: Vec::new(),
+            // Replaced by the block's own.
+            terminal: Terminal::Other { order: EvaluationOrder::UNSET },
+            terminal_effects: Vec::new(),
+        });
+        self.open = Open::Block;
+        Ok(())
+    }
+
+    /// Adds a phi to the block.
+    pub fn phi(&mut self, place: Place) -> Taken {
+        let follows = "a block's number or one of its phis";
+        let block = self.within(&[Open::Block, Open::Phi], "a phi", follows)?;
+        room(&block.phis, "phis of a block", limits::COUNT)?;
+        self.known(&place)?;
+        self.last_block().phis.push(Phi { place, operands: Vec::new() });
+        self.open = Open::Phi;
+        Ok(())
+    }
+
+    /// Adds an operand to the phi: its value where the block is entered from this predecessor.
+    pub fn operand(&mut self, predecessor: BlockId, place: Place) -> Taken {
+        let follows = "a phi or one of its operands";
+        let block = self.within(&[Open::Phi], "an operand", follows)?;
+        let operands = &block.phis[block.phis.len() - 1].operands;
+        room(operands, "operands of a phi", limits::COUNT)?;
+        at_most("a predecessor's number", predecessor.0, limits::BLOCK_NUMBER)?;
+        if operands.iter().any(|operand| operand.predecessor == predecessor) {
+            return Err(PartError::PredecessorAgain(predecessor));
+        }
+        self.known(&place)?;
+        let phi = self.last_block().phis.last_mut().expect("a phi is open");
+        phi.operands.push(Operand { predecessor, place });
+        Ok(())
+    }
+
+    /// Adds an instruction to the block.
+    pub fn instruction(&mut self, order: EvaluationOrder) -> Taken {
+        let open = [Open::Block, Open::Phi, Open::Instruction];
+        let block = self.within(&open, "an instruction", "a block without a terminal")?;
+        room(&block.instructions, "instructions of a block", limits::COUNT)?;
+        at_most("an instruction's order", order.0, limits::ORDER)?;
+        self.last_block().instructions.push(Instruction { order, effects: Vec::new() });
+        self.open = Open::Instruction;
+        Ok(())
+    }
+
+    /// Adds an effect to the instruction or to the terminal.
+    pub fn effect(&mut self, effect: AliasingEffect) -> Taken {
+        let follows = "an instruction, or a terminal Return or MaybeThrow";
+        self.within(&[Open::Instruction, Open::Terminal], "an effect", follows)?;
+        self.known_effect(&effect)?;
+        let terminal = self.open == Open::Terminal;
+        let block = self.last_block();
+        let effects = match block.instructions.last_mut() {
+            Some(instruction) if !terminal => &mut instruction.effects,
+            _ => &mut block.terminal_effects,
+        };
+        room(effects, "effects of one list", limits::COUNT)?;
+        effects.push(effect);
+        Ok(())
+    }
+
+    /// Ends the block.
+    pub fn terminal(&mut self, terminal: Terminal) -> Taken {
+        let open = [Open::Block, Open::Phi, Open::Instruction];
+        self.within(&open, "a terminal", "a block without one")?;
+        at_most("a terminal's order", terminal.order().0, limits::ORDER)?;
+        if let Terminal::Return { value, .. } = terminal {
+            self.known(&value)?;
+        }
+        self.last_block().terminal = terminal;
+        self.open = match terminal {
+            Terminal::Other { .. } => Open::Nothing,
+            Terminal::Return { .. } | Terminal::MaybeThrow { .. } => Open::Terminal,
+        };
+        Ok(())
+    }
+
+    /// The sheet, with the place that its function returns.
+    pub fn finish(mut self, returns: Place) -> Taken<Sheet> {
+        self.ended()?;
+        self.known(&returns)?;
+        self.sheet.returns = returns;
+        Ok(self.sheet)
+    }
+
+    /// Fails if the place's identifier has not been added.
+    fn known(&self, place: &Place) -> Taken {
+        let (identifier, count) = (place.identifier, self.sheet.identifiers.len());
+        if (identifier.0 as usize) < count {
+            Ok(())
+        } else {
+            Err(PartError::NoIdentifier { identifier, count })
+        }
+    }
+
+    fn known_effect(&self, effect: &AliasingEffect) -> Taken {
+        let (first, second) = effect.places();
+        for place in first.iter().chain(&second) {
+            self.known(place)?;
+        }
+        match *effect {
+            AliasingEffect::CreateFunction { function_id: function, .. } => {
+                let count = self.sheet.functions.len();
+                if function.0 as usize >= count {
+                    return Err(PartError::NoFunction { function, count });
+                }
+            }
+            AliasingEffect::MutateFrozen { error, .. }
+            | AliasingEffect::MutateGlobal { error, .. }
+            | AliasingEffect::Impure { error, .. } => {
+                at_most("a diagnostic number", error.0, limits::DIAGNOSTIC)?;
+            }
+            _ => {}
+        }
+        Ok(())
+    }
+
+    /// The block that is being built, if what is open is among these.
+    fn within(&self, open: &[Open], what: &'static str, follows: &'static str) -> Taken<&Block> {
+        match self.sheet.blocks.last() {
+            Some(block) if open.contains(&self.open) => Ok(block),
+            _ => Err(PartError::OutOfPlace { what, follows }),
+        }
+    }
+
+    fn last_block(&mut self) -> &mut Block {
+        self.sheet.blocks.last_mut().expect("a block is open")
+    }
+
+    /// Fails if a block lacks its terminal.
+    fn ended(&self) -> Taken {
+        match (self.open, self.sheet.blocks.last()) {
+            (Open::Block | Open::Phi | Open::Instruction, Some(block)) => {
+                Err(PartError::BlockNotEnded(block.number))
+            }
+            _ => Ok(()),
+        }
+    }
+}
+
+impl Default for SheetBuilder {
+    fn default() -> SheetBuilder {
+        SheetBuilder::new()
+    }
+}

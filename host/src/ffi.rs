@@ -1,0 +1,86 @@
+//! The library's functions as they are. They hold no memory and no state of their own: every
+//! word that they read or write is lent for the call.
+
+use std::mem::{align_of, offset_of, size_of};
+
+/// The next serial. A host keeps it from call to call; 0 when new.
+#[repr(C)]
+#[derive(Debug, Clone, Copy, PartialEq, Eq)]
+pub struct ServiceState {
+    pub next: u32,
+}
+
+/// What a call says.
+#[repr(C)]
+#[derive(Debug, Clone, Copy, PartialEq, Eq)]
+pub struct Reply {
+    /// The refusal's number, or 0.
+    pub refusal: u32,
+    /// The serial of an accepted call, else 0.
+    pub serial: u32,
+    /// How many words the answer has, from the first word of its buffer on.
+    pub length: usize,
+}
+
+// The same as in include/service.h.
+const _: () = {
+    assert!(size_of::<ServiceState>() == 4 && align_of::<ServiceState>() == 4);
+    assert!(offset_of!(ServiceState, next) == 0);
+    assert!(size_of::<Reply>() == 16 && align_of::<Reply>() == 8);
+    assert!(offset_of!(Reply, refusal) == 0);
+    assert!(offset_of!(Reply, serial) == 4);
+    assert!(offset_of!(Reply, length) == 8);
+};
+
+unsafe extern "C" {
+    fn service_infer(
+        state: *mut ServiceState,
+        sheet: *const u32,
+        sheet_words: usize,
+        workspace: *mut u32,
+        workspace_words: usize,
+        answer: *mut u32,
+        answer_words: usize,
+    ) -> Reply;
+    safe fn service_new() -> ServiceState;
+    safe fn service_least_workspace() -> usize;
+    safe fn service_most_sheet() -> usize;
+}
+
+/// One call on lent buffers. After it the whole workspace is 0, and so is the answer buffer from
+/// `length` on; the state has moved by one if the call was accepted.
+pub fn infer(
+    state: &mut ServiceState,
+    sheet: &[u32],
+    workspace: &mut [u32],
+    answer: &mut [u32],
+) -> Reply {
+    // SAFETY: each pointer is that of a live slice with the length beside it; those that are
+    // written are borrowed mutably, so that no two overlap. The function asks nothing more.
+    unsafe {
+        service_infer(
+            state,
+            sheet.as_ptr(),
+            sheet.len(),
+            workspace.as_mut_ptr(),
+            workspace.len(),
+            answer.as_mut_ptr(),
+            answer.len(),
+        )
+    }
+}
+
+/// A new state.
+pub fn new_state() -> ServiceState {
+    service_new()
+}
+
+/// How many words a workspace has at least; with fewer a call is refused 1.
+pub fn least_workspace() -> usize {
+    service_least_workspace()
+}
+
+/// How many words a sheet has at most; with more a call is refused 2.
+pub fn most_sheet() -> usize {
+    service_most_sheet()
+}

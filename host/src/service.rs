@@ -1,0 +1,89 @@
+//! The service: the state and the buffers that are lent for each call.
+
+use crate::answer::Answer;
+use crate::ffi::{self, Reply, ServiceState};
+use crate::refusal::Refusal;
+
+/// More words than any answer has.
+const MOST_ANSWER: usize = 1 << 24;
+
+/// Words of the answer buffer that stay allocated between calls.
+const KEPT_ANSWER: usize = 1 << 16;
+
+/// Owns the state and the buffers of the library's call.
+///
+/// Buffers are kept from call to call. Most answers are shorter than four times their sheet, and
+/// so many words are lent first, because the library clears every word that it is lent. A longer
+/// answer (diagnostics can make it millions of words long) is asked for again with a larger
+/// buffer, which is given back with the next call. A refused attempt takes no serial.
+///
+/// A service is used by one thread at a time; several services share nothing.
+#[derive(Debug)]
+pub struct Service {
+    state: ServiceState,
+    workspace: Box<[u32]>,
+    answer: Vec<u32>,
+    most_answer: usize,
+}
+
+impl Service {
+    /// A service whose first serial is 0.
+    pub fn new() -> Service {
+        Service::resume(ffi::new_state().next)
+    }
+
+    /// A service whose next serial is given: that of a service that ran before.
+    pub fn resume(next_serial: u32) -> Service {
+        Service {
+            state: ServiceState { next: next_serial },
+            workspace: vec![0; ffi::least_workspace()].into(),
+            answer: Vec::new(),
+            most_answer: MOST_ANSWER,
+        }
+    }
+
+    /// Answers of more words than this are refused 9. Without it every answer is given, at most
+    /// some 34 megabytes.
+    pub fn most_answer(mut self, words: usize) -> Service {
+        self.most_answer = words.min(MOST_ANSWER);
+        self
+    }
+
+    /// The serial that the next accepted call takes.
+    pub fn next_serial(&self) -> u32 {
+        self.state.next
+    }
+
+    /// The answer for a sheet's words, or why there is none. Only an accepted call takes a
+    /// serial.
+    pub fn infer(&mut self, sheet: &[u32]) -> Result<Answer<'_>, Refusal> {
+        if self.answer.len() > KEPT_ANSWER {
+            self.answer = Vec::new();
+        }
+        let mut lent = (4 * sheet.len()).clamp(1 << 12, KEPT_ANSWER).min(self.most_answer);
+        let mut reply = self.attempt(sheet, lent);
+        while reply.refusal == Refusal::ShortAnswer.number() && lent < self.most_answer {
+            lent = (16 * lent).min(self.most_answer);
+            reply = self.attempt(sheet, lent);
+        }
+        match reply.refusal {
+            0 => Ok(Answer::new(reply.serial, &self.answer[..reply.length])),
+            number => Err(Refusal::from_number(number)
+                .expect("the library linked is the one that this wrapper was written for")),
+        }
+    }
+
+    /// A call with so many words of the answer buffer.
+    fn attempt(&mut self, sheet: &[u32], lent: usize) -> Reply {
+        if self.answer.len() < lent {
+            self.answer = vec![0; lent];
+        }
+        ffi::infer(&mut self.state, sheet, &mut self.workspace, &mut self.answer[..lent])
+    }
+}
+
+impl Default for Service {
+    fn default() -> Service {
+        Service::new()
+    }
+}

@@ -1,0 +1,591 @@
+//! A sheet as text: a line for each part, for people to read and write.
+//!
+//! ```text
+//! # A parameter is captured by a new list, and the list is changed.
+//! flags validations
+//! identifier props
+//! identifier list
+//! identifier result
+//! param props span 5
+//! returns result
+//! block 0
+//!   instruction at 1
+//!     Create list
+//!     Capture props into list
+//!   instruction at 2
+//!     MutateTransitive list span 7
+//!   terminal Return list at 3
+//! ```
+//!
+//! What a line leaves out is 0 in the sheet's words. The repository's docs/TEXT.md describes every
+//! line.
+
+use std::collections::HashMap;
+use std::fmt::{self, Write};
+
+use crate::builder::{SheetBuilder, at_most};
+use crate::limits;
+use crate::parts::{
+    AliasingEffect, BlockId, DiagnosticId, Effect, EffectKind, EvaluationOrder, FunctionId,
+    Identifier, IdentifierId, MutableRange, MutationReason, Place, Type, ValueKind, ValueReason,
+};
+use crate::sheet::{Sheet, Terminal};
+
+/// The names that a text gives to identifiers and inner functions. A sheet's words have none.
+#[derive(Debug, Clone, PartialEq, Eq, Default)]
+pub struct Names {
+    identifiers: Vec<String>,
+    functions: Vec<String>,
+}
+
+impl Names {
+    /// x0, x1, .. and f0, f1, ..
+    pub fn numbered(sheet: &Sheet) -> Names {
+        let names = |letter: char, count: usize| (0..count).map(move |i| format!("{letter}{i}"));
+        Names {
+            identifiers: names('x', sheet.identifiers().len()).collect(),
+            functions: names('f', sheet.functions().len()).collect(),
+        }
+    }
+
+    /// The identifier's name; the sheet that the names belong to has it.
+    pub fn identifier(&self, id: IdentifierId) -> &str {
+        &self.identifiers[id.0 as usize]
+    }
+
+    /// The inner function's name; the sheet that the names belong to has it.
+    pub fn function(&self, id: FunctionId) -> &str {
+        &self.functions[id.0 as usize]
+    }
+
+    /// The place as in a text.
+    pub fn place(&self, place: &Place) -> String {
+        let mut text = self.identifier(place.identifier).to_string();
+        if place.effect != Effect::Unknown {
+            text += &format!(" {}", place.effect);
+        }
+        if place.reactive {
+            text += " reactive";
+        }
+        if place.span != 0 {
+            text += &format!(" span {}", place.span);
+        }
+        text
+    }
+
+    /// The effect as in a text.
+    pub fn effect(&self, effect: &AliasingEffect) -> String {
+        let mut text = effect.kind().to_string();
+        match effect.places() {
+            (Some(from), Some(into)) => {
+                text += &format!(" {} into {}", self.place(&from), self.place(&into));
+            }
+            (Some(place), None) => text += &format!(" {}", self.place(&place)),
+            _ => {}
+        }
+        match *effect {
+            AliasingEffect::Create { value, reason, .. } => {
+                if value.number() != 0 {
+                    text += &format!(" value {value}");
+                }
+                if reason.number() != 0 {
+                    text += &format!(" reason {reason}");
+                }
+            }
+            AliasingEffect::Freeze { reason, .. } if reason.number() != 0 => {
+                text += &format!(" reason {reason}");
+            }
+            AliasingEffect::Mutate { reason: Some(reason), .. } => {
+                text += &format!(" reason {reason}");
+            }
+            AliasingEffect::CreateFunction { function_id, .. } => {
+                text += &format!(" function {}", self.function(function_id));
+            }
+            AliasingEffect::MutateFrozen { error, .. }
+            | AliasingEffect::MutateGlobal { error, .. }
+            | AliasingEffect::Impure { error, .. } => text += &format!(" diagnostic {}", error.0),
+            _ => {}
+        }
+        text
+    }
+}
+
+// =============================================================================
+// Writing
+// =============================================================================
+
+/// The sheet as text. With [`Names::numbered`] for a sheet that has no names.
+pub fn write(sheet: &Sheet, names: &Names) -> String {
+    let mut text = String::new();
+    put_sheet(&mut text, sheet, names).expect("a string takes every line");
+    text
+}
+
+fn put_sheet(text: &mut String, sheet: &Sheet, names: &Names) -> fmt::Result {
+    writeln!(
+        text,
+        "flags{}{}{}",
+        if sheet.function_expression() { " function-expression" } else { "" },
+        if sheet.validations() { " validations" } else { "" },
+        if sheet.function_expression() || sheet.validations() { "" } else { " none" },
+    )?;
+    for (identifier, name) in sheet.identifiers().iter().zip(&names.identifiers) {
+        write!(text, "identifier {name}")?;
+        let range = identifier.range;
+        if range != MutableRange::default() {
+            write!(text, " range {} {}", range.start.0, range.end.0)?;
+        }
+        if identifier.type_ != Type::Other {
+            write!(text, " type {}", identifier.type_)?;
+        }
+        writeln!(text)?;
+    }
+    for (diagnostics, name) in sheet.functions().iter().zip(&names.functions) {
+        write!(text, "function {name}")?;
+        if !diagnostics.is_empty() {
+            write!(text, " diagnostics")?;
+        }
+        for diagnostic in diagnostics {
+            write!(text, " {}", diagnostic.0)?;
+        }
+        writeln!(text)?;
+    }
+    for place in sheet.params() {
+        writeln!(text, "param {}", names.place(place))?;
+    }
+    for place in sheet.context() {
+        writeln!(text, "context {}", names.place(place))?;
+    }
+    writeln!(text, "returns {}", names.place(&sheet.returns()))?;
+    for block in sheet.blocks() {
+        writeln!(text, "block {}", block.number.0)?;
+        for phi in &block.phis {
+            writeln!(text, "  phi {}", names.place(&phi.place))?;
+            for operand in &phi.operands {
+                let place = names.place(&operand.place);
+                writeln!(text, "    operand {place} from {}", operand.predecessor.0)?;
+            }
+        }
+        for instruction in &block.instructions {
+            writeln!(text, "  instruction at {}", instruction.order.0)?;
+            put_effects(text, &instruction.effects, names)?;
+        }
+        match block.terminal {
+            Terminal::Other { order } => writeln!(text, "  terminal Other at {}", order.0)?,
+            Terminal::Return { order, value } => {
+                writeln!(text, "  terminal Return {} at {}", names.place(&value), order.0)?;
+            }
+            Terminal::MaybeThrow { order } => {
+                writeln!(text, "  terminal MaybeThrow at {}", order.0)?;
+            }
+        }
+        put_effects(text, &block.terminal_effects, names)?;
+    }
+    Ok(())
+}
+
+fn put_effects(text: &mut String, effects: &[AliasingEffect], names: &Names) -> fmt::Result {
+    effects.iter().try_for_each(|effect| writeln!(text, "    {}", names.effect(effect)))
+}
+
+// =============================================================================
+// Parsing
+// =============================================================================
+
+/// Why a text is no sheet.
+#[derive(Debug, Clone, PartialEq, Eq)]
+pub struct TextError {
+    line: usize,
+    message: String,
+}
+
+impl TextError {
+    /// The line, from 1.
+    pub fn line(&self) -> usize {
+        self.line
+    }
+}
+
+impl fmt::Display for TextError {
+    fn fmt(&self, f: &mut fmt::Formatter) -> fmt::Result {
+        write!(f, "line {}: {}", self.line, self.message)
+    }
+}
+
+impl std::error::Error for TextError {}
+
+/// The sheet that a text describes, and the names that it uses.
+pub fn parse(text: &str) -> Result<(Sheet, Names), TextError> {
+    let mut parser = Parser::default();
+    let mut last = 1;
+    for (number, line) in (1..).zip(text.lines()) {
+        last = number;
+        let code = line.split('#').next().unwrap_or_default();
+        let mut words = Words { rest: code.split_whitespace().peekable() };
+        parser.line(&mut words).map_err(|message| TextError { line: number, message })?;
+    }
+    let names = parser.names;
+    let sheet = match parser.returns {
+        None => Err("expected a line `returns PLACE`, found the end of the text".to_string()),
+        Some(returns) => parser.builder.finish(returns).map_err(|e| e.to_string()),
+    };
+    let sheet = sheet.map_err(|message| TextError { line: last, message })?;
+    Ok((sheet, names))
+}
+
+type Parsed<T = ()> = Result<T, String>;
+
+/// The words of one line.
+struct Words<'t> {
+    rest: std::iter::Peekable<std::str::SplitWhitespace<'t>>,
+}
+
+impl<'t> Words<'t> {
+    fn found(&mut self) -> String {
+        match self.rest.peek() {
+            Some(word) => format!("`{word}`"),
+            None => "the end of the line".to_string(),
+        }
+    }
+
+    fn expected<T>(&mut self, what: &str) -> Parsed<T> {
+        Err(format!("expected {what}, found {}", self.found()))
+    }
+
+    /// Takes the next word if it is this one.
+    fn take(&mut self, word: &str) -> bool {
+        self.rest.next_if_eq(&word).is_some()
+    }
+
+    fn keyword(&mut self, word: &str) -> Parsed {
+        if self.take(word) { Ok(()) } else { self.expected(&format!("`{word}`")) }
+    }
+
+    fn number(&mut self, what: &str) -> Parsed<u32> {
+        match self.rest.peek().and_then(|word| word.parse().ok()) {
+            Some(number) => {
+                self.rest.next();
+                Ok(number)
+            }
+            None => self.expected(&format!("{what} (a number)")),
+        }
+    }
+
+    /// Takes the next word if it names one of these.
+    fn take_named<T: Copy>(&mut self, from_name: impl Fn(&str) -> Option<T>) -> Option<T> {
+        let named = self.rest.peek().and_then(|word| from_name(word));
+        if named.is_some() {
+            self.rest.next();
+        }
+        named
+    }
+
+    fn named<T: Copy + fmt::Display>(
+        &mut self,
+        what: &str,
+        from_name: impl Fn(&str) -> Option<T>,
+        all: &[T],
+    ) -> Parsed<T> {
+        match self.take_named(from_name) {
+            Some(named) => Ok(named),
+            None => self.expected(&format!("{what} ({})", listed(all))),
+        }
+    }
+
+    /// Fails unless the line ends here. `or` says what else could have stood here.
+    fn end(&mut self, or: &str) -> Parsed {
+        match (self.rest.peek(), or) {
+            (None, _) => Ok(()),
+            (_, "") => self.expected("the end of the line"),
+            _ => self.expected(&format!("{or} or the end of the line")),
+        }
+    }
+}
+
+fn listed<T: fmt::Display>(all: &[T]) -> String {
+    all.iter().map(T::to_string).collect::<Vec<_>>().join(", ")
+}
+
+/// A name begins with a letter, `_` or `$`, and goes on with these, digits, `.` and `-`.
+fn is_name(word: &str) -> bool {
+    let letter = |c: char| c.is_alphabetic() || c == '_' || c == '$';
+    word.starts_with(letter)
+        && word.chars().all(|c| letter(c) || c.is_numeric() || c == '.' || c == '-')
+}
+
+/// What a place's line can go on with.
+const MORE_OF_PLACE: &str = "an effect, `reactive`, `span NUMBER`";
+
+#[derive(Default)]
+struct Parser {
+    builder: SheetBuilder,
+    names: Names,
+    identifiers: HashMap<String, IdentifierId>,
+    functions: HashMap<String, FunctionId>,
+    flags: bool,
+    returns: Option<Place>,
+}
+
+impl Parser {
+    fn line(&mut self, words: &mut Words) -> Parsed {
+        let Some(&first) = words.rest.peek() else { return Ok(()) };
+        if let Some(kind) = EffectKind::from_name(first) {
+            words.rest.next();
+            let effect = self.effect(kind, words)?;
+            return self.builder.effect(effect).map_err(|e| e.to_string());
+        }
+        let part = match first {
+            "flags" => Parser::flags,
+            "identifier" => Parser::identifier,
+            "function" => Parser::function,
+            "param" => Parser::param,
+            "context" => Parser::context,
+            "returns" => Parser::returns,
+            "block" => Parser::block,
+            "phi" => Parser::phi,
+            "operand" => Parser::operand,
+            "instruction" => Parser::instruction,
+            "terminal" => Parser::terminal,
+            _ => {
+                return words.expected(&format!(
+                    "a line that begins with flags, identifier, function, param, context, \
+                     returns, block, phi, operand, instruction, terminal or an effect ({})",
+                    listed(EffectKind::ALL)
+                ));
+            }
+        };
+        words.rest.next();
+        part(self, words)
+    }
+
+    fn flags(&mut self, words: &mut Words) -> Parsed {
+        if self.flags {
+            return Err("expected one line `flags`, found a second".to_string());
+        }
+        self.flags = true;
+        if words.take("none") {
+            return words.end("");
+        }
+        self.builder.function_expression(words.take("function-expression"));
+        self.builder.validations(words.take("validations"));
+        words.end("`function-expression`, `validations`, `none`")
+    }
+
+    fn name(&self, words: &mut Words, what: &str) -> Parsed<String> {
+        match words.rest.next_if(|word| is_name(word)) {
+            Some(name) => Ok(name.to_string()),
+            None => words.expected(&format!("{what} (letters, digits, _ $ . -)")),
+        }
+    }
+
+    fn identifier(&mut self, words: &mut Words) -> Parsed {
+        let name = self.name(words, "an identifier's name")?;
+        if self.identifiers.contains_key(&name) {
+            return Err(format!("expected a new identifier's name, found `{name}` again"));
+        }
+        let mut range = MutableRange::default();
+        if words.take("range") {
+            range.start = EvaluationOrder(words.number("the range's start")?);
+            range.end = EvaluationOrder(words.number("the range's end")?);
+        }
+        let mut type_ = Type::Other;
+        if words.take("type") {
+            type_ = words.named("a type", Type::from_name, Type::ALL)?;
+        }
+        words.end("`range START END`, `type TYPE`")?;
+        let id = self.builder.identifier(Identifier { range, type_ }).map_err(|e| e.to_string())?;
+        self.names.identifiers.push(name.clone());
+        self.identifiers.insert(name, id);
+        Ok(())
+    }
+
+    fn function(&mut self, words: &mut Words) -> Parsed {
+        let name = self.name(words, "an inner function's name")?;
+        if self.functions.contains_key(&name) {
+            return Err(format!("expected a new inner function's name, found `{name}` again"));
+        }
+        let mut diagnostics = Vec::new();
+        if words.take("diagnostics") {
+            while words.rest.peek().is_some() {
+                diagnostics.push(DiagnosticId(words.number("a diagnostic number")?));
+            }
+        }
+        words.end("`diagnostics NUMBER ..`")?;
+        let id = self.builder.function(&diagnostics).map_err(|e| e.to_string())?;
+        self.names.functions.push(name.clone());
+        self.functions.insert(name, id);
+        Ok(())
+    }
+
+    fn place(&self, words: &mut Words) -> Parsed<Place> {
+        let known = words.rest.peek().and_then(|name| self.identifiers.get(*name));
+        let Some(&identifier) = known else {
+            return words.expected("the name of an identifier declared above");
+        };
+        words.rest.next();
+        let effect = words.take_named(Effect::from_name).unwrap_or(Effect::Unknown);
+        let reactive = words.take("reactive");
+        let span = if words.take("span") { words.number("a span")? } else { 0 };
+        Ok(Place { identifier, effect, reactive, span })
+    }
+
+    /// A place that ends its line.
+    fn last_place(&self, words: &mut Words) -> Parsed<Place> {
+        let place = self.place(words)?;
+        words.end(MORE_OF_PLACE)?;
+        Ok(place)
+    }
+
+    /// A place with a word behind it.
+    fn place_then(&self, words: &mut Words, then: &str) -> Parsed<Place> {
+        let place = self.place(words)?;
+        if !words.take(then) {
+            return words.expected(&format!("{MORE_OF_PLACE} or `{then}`"));
+        }
+        Ok(place)
+    }
+
+    fn param(&mut self, words: &mut Words) -> Parsed {
+        let place = self.last_place(words)?;
+        self.builder.param(place).map_err(|e| e.to_string())
+    }
+
+    fn context(&mut self, words: &mut Words) -> Parsed {
+        let place = self.last_place(words)?;
+        self.builder.context(place).map_err(|e| e.to_string())
+    }
+
+    fn returns(&mut self, words: &mut Words) -> Parsed {
+        if self.returns.is_some() {
+            return Err("expected one line `returns`, found a second".to_string());
+        }
+        self.returns = Some(self.last_place(words)?);
+        Ok(())
+    }
+
+    fn block(&mut self, words: &mut Words) -> Parsed {
+        let number = BlockId(words.number("a block's number")?);
+        words.end("")?;
+        self.builder.block(number).map_err(|e| e.to_string())
+    }
+
+    fn phi(&mut self, words: &mut Words) -> Parsed {
+        let place = self.last_place(words)?;
+        self.builder.phi(place).map_err(|e| e.to_string())
+    }
+
+    fn operand(&mut self, words: &mut Words) -> Parsed {
+        let place = self.place_then(words, "from")?;
+        let predecessor = BlockId(words.number("the number of a block")?);
+        words.end("")?;
+        self.builder.operand(predecessor, place).map_err(|e| e.to_string())
+    }
+
+    fn instruction(&mut self, words: &mut Words) -> Parsed {
+        words.keyword("at")?;
+        let order = EvaluationOrder(words.number("an order")?);
+        words.end("")?;
+        self.builder.instruction(order).map_err(|e| e.to_string())
+    }
+
+    fn terminal(&mut self, words: &mut Words) -> Parsed {
+        let value = if words.take("Return") { Some(self.place_then(words, "at")?) } else { None };
+        let throws = value.is_none() && words.take("MaybeThrow");
+        if value.is_none() {
+            if !throws && !words.take("Other") {
+                return words.expected("`Return`, `MaybeThrow` or `Other`");
+            }
+            words.keyword("at")?;
+        }
+        let order = EvaluationOrder(words.number("an order")?);
+        words.end("")?;
+        let terminal = match value {
+            Some(value) => Terminal::Return { order, value },
+            None if throws => Terminal::MaybeThrow { order },
+            None => Terminal::Other { order },
+        };
+        self.builder.terminal(terminal).map_err(|e| e.to_string())
+    }
+
+    /// What follows an effect's kind.
+    fn effect(&self, kind: EffectKind, words: &mut Words) -> Parsed<AliasingEffect> {
+        let mut places = [Place::of(IdentifierId(0)); 2];
+        match kind.places() {
+            0 => {}
+            1 => places[0] = self.place(words)?,
+            _ => {
+                places[0] = self.place_then(words, "into")?;
+                places[1] = self.place(words)?;
+            }
+        }
+        let extra = self.extra(kind, words)?;
+        let [first, second] = places;
+        Ok(AliasingEffect::of(kind, first, second, extra).expect("the extra word is in range"))
+    }
+
+    /// The extra word, and the end of the line.
+    fn extra(&self, kind: EffectKind, words: &mut Words) -> Parsed<u32> {
+        let reason = |words: &mut Words| {
+            if words.take("reason") {
+                words.named("a reason", ValueReason::from_name, ValueReason::ALL)
+            } else {
+                Ok(ValueReason::KnownReturnSignature)
+            }
+        };
+        match kind {
+            EffectKind::Freeze => {
+                let reason = reason(words)?;
+                words.end(&format!("{MORE_OF_PLACE}, `reason REASON`"))?;
+                Ok(reason.number())
+            }
+            EffectKind::Mutate => {
+                let given = words.take("reason");
+                if given {
+                    let all = MutationReason::ALL;
+                    words.named("a reason", MutationReason::from_name, all)?;
+                }
+                words.end(&format!("{MORE_OF_PLACE}, `reason REASON`"))?;
+                Ok(given as u32)
+            }
+            EffectKind::Create => {
+                let mut value = ValueKind::Mutable;
+                if words.take("value") {
+                    value = words.named("a value kind", ValueKind::from_name, ValueKind::ALL)?;
+                }
+                let reason = reason(words)?;
+                words.end(&format!("{MORE_OF_PLACE}, `value KIND`, `reason REASON`"))?;
+                Ok(6 * reason.number() + value.number())
+            }
+            EffectKind::CreateFunction => {
+                if !words.take("function") {
+                    return words.expected(&format!("{MORE_OF_PLACE} or `function NAME`"));
+                }
+                let known = words.rest.peek().and_then(|name| self.functions.get(*name));
+                let Some(&function) = known else {
+                    return words.expected("the name of an inner function declared above");
+                };
+                words.rest.next();
+                words.end("")?;
+                Ok(function.0)
+            }
+            EffectKind::MutateFrozen | EffectKind::MutateGlobal | EffectKind::Impure => {
+                if !words.take("diagnostic") {
+                    return words.expected(&format!("{MORE_OF_PLACE} or `diagnostic NUMBER`"));
+                }
+                let number = words.number("a diagnostic number")?;
+                words.end("")?;
+                at_most("a diagnostic number", number, limits::DIAGNOSTIC)
+                    .map_err(|e| e.to_string())?;
+                Ok(number)
+            }
+            EffectKind::Apply => {
+                words.end("")?;
+                Ok(0)
+            }
+            _ => {
+                words.end(MORE_OF_PLACE)?;
+                Ok(0)
+            }
+        }
+    }
+}

@@ -1,0 +1,305 @@
+//! The service through the library: the bench cases of document 01, every refusal, the serial,
+//! and what a call leaves in lent buffers.
+
+use oracle::cases::{CASE_1, graph_sheets};
+use oracle::damage::damaged;
+use oracle::generate::{self, Limit, past_limit};
+use oracle::plain::sheet as plain;
+use oracle::plain::{self as oracle_plain, Outcome};
+use oracle::random::Random;
+use service_host::ffi::{self, Reply, ServiceState};
+use service_host::{
+    AliasingEffect, DiagnosticId, Effect, EvaluationOrder, Identifier, IdentifierId, MutableRange,
+    Place, Refusal, Service, SheetBuilder,
+};
+
+fn place(identifier: u32) -> Place {
+    Place::of(IdentifierId(identifier))
+}
+
+/// A sheet of so many identifiers with these parameters and no block.
+fn without_blocks(identifiers: usize, params: &[u32], returns: u32) -> Vec<u32> {
+    let mut sheet = SheetBuilder::new();
+    sheet.validations(true);
+    for _ in 0..identifiers {
+        sheet.identifier(Identifier::default()).unwrap();
+    }
+    params.iter().for_each(|&p| sheet.param(place(p)).unwrap());
+    sheet.finish(place(returns)).unwrap().words()
+}
+
+fn case_1() -> Vec<u32> {
+    CASE_1.split_whitespace().filter_map(|word| word.parse().ok()).collect()
+}
+
+/// The entries of the first walk, and every end.
+fn walked(sheet: &plain::Sheet) -> (u32, Vec<u32>) {
+    let mut service = Service::new();
+    let answer = service.infer(&sheet.words()).unwrap();
+    (answer.walks()[0], answer.ranges().map(|r| r.end.0).collect())
+}
+
+#[test]
+fn bench_case_1() {
+    let mut service = Service::new();
+    let answer = service.infer(&case_1()).unwrap();
+    let lines = "ranges 3 0 3 0 3 0 0\n\
+                 params 1 0 3 5\n\
+                 context 0\n\
+                 diagnostics 0\n\
+                 effects 3 3 0 0 7 0 0 0 0 9 2 0 0 0 0 0 0 6 0 3 5 2 0 0 0\n\
+                 walks 3 3 5 5\n";
+    assert_eq!(answer.to_string(), lines);
+
+    assert_eq!(answer.serial(), 0);
+    let moved = MutableRange { start: EvaluationOrder::UNSET, end: EvaluationOrder(3) };
+    let ranges: Vec<_> = answer.ranges().collect();
+    assert_eq!(ranges, [moved, moved, MutableRange::default()]);
+    assert_eq!(answer.range(IdentifierId(1)), Some(moved));
+    assert_eq!(answer.range(IdentifierId(3)), None);
+    let param = Place { effect: Effect::Capture, ..place(0).span(5) };
+    assert_eq!(answer.params().collect::<Vec<_>>(), [param]);
+    assert_eq!(answer.context().len(), 0);
+    assert_eq!(answer.diagnostics().len(), 0);
+    let effects = [
+        AliasingEffect::MutateTransitive { value: place(0).span(7) },
+        AliasingEffect::create(IdentifierId(2)),
+        AliasingEffect::Alias { from: param, into: place(2) },
+    ];
+    assert_eq!(answer.effects().collect::<Vec<_>>(), effects);
+    assert_eq!(answer.walks(), [3, 5, 5]);
+}
+
+#[test]
+fn bench_case_2() {
+    let mut service = Service::new();
+    let answer = service.infer(&without_blocks(1, &[], 0)).unwrap();
+    assert_eq!(answer.effects().collect::<Vec<_>>(), [AliasingEffect::create(IdentifierId(0))]);
+    assert_eq!(answer.walks(), [1]);
+
+    let answer = service.infer(&without_blocks(3, &[0, 1], 2)).unwrap();
+    let capture = AliasingEffect::Capture { from: place(1), into: place(0) };
+    let effects: Vec<_> = answer.effects().collect();
+    assert_eq!(effects, [AliasingEffect::create(IdentifierId(2)), capture]);
+}
+
+#[test]
+fn bench_cases_3_to_7() {
+    let [created_from, capture, waiting, operand, phi, twice] = graph_sheets();
+    assert_eq!(walked(&created_from), (2, vec![0, 3, 0]));
+    assert_eq!(walked(&capture), (1, vec![0, 3, 0]));
+    assert_eq!(walked(&waiting), (1, vec![2, 0, 0, 0]));
+    assert_eq!(walked(&operand), (2, vec![2, 0, 2, 0]));
+    assert_eq!(walked(&phi), (5, vec![2, 2, 2, 0]));
+    assert_eq!(walked(&twice), (7, vec![4, 4, 0]));
+}
+
+#[test]
+fn bench_case_8() {
+    let mut service = Service::resume(u32::MAX);
+    let sheet = without_blocks(1, &[], 0);
+    assert_eq!(service.infer(&sheet).unwrap().serial(), u32::MAX);
+    assert_eq!(service.infer(&sheet).unwrap().serial(), 0);
+    assert_eq!(service.infer(&[]).unwrap_err(), Refusal::SheetEnds);
+    assert_eq!(service.infer(&sheet).unwrap().serial(), 1);
+    assert_eq!(service.next_serial(), 2);
+}
+
+/// A call on lent buffers that hold rubbish before. The rest of both must be 0 afterwards.
+fn lent(
+    state: &mut ServiceState,
+    sheet: &[u32],
+    workspace: usize,
+    answer: usize,
+) -> (Reply, Vec<u32>) {
+    let before = *state;
+    let mut workspace = vec![0xdead_beef; workspace];
+    let mut answer = vec![0xbadd_cafe; answer];
+    let reply = ffi::infer(state, sheet, &mut workspace, &mut answer);
+    assert!(workspace.iter().all(|&word| word == 0));
+    assert!(answer[reply.length..].iter().all(|&word| word == 0));
+    if reply.refusal == 0 {
+        assert_eq!(reply.serial, before.next);
+        assert_eq!(state.next, before.next.wrapping_add(1));
+    } else {
+        assert_eq!((reply.serial, reply.length), (0, 0));
+        assert_eq!(*state, before);
+    }
+    answer.truncate(reply.length);
+    (reply, answer)
+}
+
+#[test]
+fn bench_case_9() {
+    let mut state = ffi::new_state();
+    let sheet = without_blocks(1, &[], 0);
+    assert_eq!(lent(&mut state, &sheet, 16_383, 100).0.refusal, 1);
+    assert_eq!(lent(&mut state, &sheet, 16_384, 100).0.refusal, 0);
+    for limit in [Limit::Relations, Limit::PhiRelations] {
+        let mut random = Random::new(9);
+        let most = generate::at_limit(&mut random, limit);
+        assert_eq!(most.totals().relations, 1_024);
+        assert_eq!(lent(&mut state, &most.words(), 16_384, 100_000).0.refusal, 0);
+        let over = generate::past_limit(&mut random, limit);
+        assert_eq!(over.totals().relations, 1_025);
+        assert_eq!(lent(&mut state, &over.words(), 16_384, 100_000).0.refusal, 8);
+    }
+    let (reply, words) = lent(&mut state, &sheet, 16_384, 17);
+    assert_eq!((reply.refusal, reply.length), (0, 17));
+    assert_eq!(words, [1, 0, 0, 0, 0, 0, 1, 9, 0, 0, 0, 0, 0, 0, 0, 1, 1]);
+    assert_eq!(lent(&mut state, &sheet, 16_384, 16).0.refusal, 9);
+    assert_eq!(state.next, 4);
+}
+
+#[test]
+fn every_refusal() {
+    let sheet = without_blocks(2, &[0], 1);
+    let with = |at: usize, word: u32| {
+        let mut words = sheet.clone();
+        words[at] = word;
+        words
+    };
+    let mut two_blocks = sheet.clone();
+    // Two blocks of number 7: no phi, no instruction, terminal Other at order 1.
+    two_blocks.pop();
+    two_blocks.extend([2, 7, 0, 0, 0, 1, 7, 0, 0, 0, 1]);
+    let over = |limit| past_limit(&mut Random::new(1), limit).words();
+
+    let mut state = ffi::new_state();
+    let mut refusal = |sheet: &[u32], workspace, answer| {
+        let number = lent(&mut state, sheet, workspace, answer).0.refusal;
+        Refusal::from_number(number)
+    };
+    assert_eq!(refusal(&sheet, 16_384, 1_000), None);
+    assert_eq!(refusal(&sheet, 0, 1_000), Some(Refusal::ShortWorkspace));
+    assert_eq!(refusal(&[2; 16_385], 16_384, 1_000), Some(Refusal::LongSheet));
+    assert_eq!(refusal(&sheet[..sheet.len() - 1], 16_384, 1_000), Some(Refusal::SheetEnds));
+    assert_eq!(refusal(&with(0, 3), 16_384, 1_000), Some(Refusal::Count));
+    assert_eq!(refusal(&with(3, 513), 16_384, 1_000), Some(Refusal::Count));
+    assert_eq!(refusal(&with(1, 2), 16_384, 1_000), Some(Refusal::OutOfRange));
+    assert_eq!(refusal(&two_blocks, 16_384, 1_000), Some(Refusal::UsedTwice));
+    assert_eq!(refusal(&[&sheet[..], &[0]].concat(), 16_384, 1_000), Some(Refusal::WordsFollow));
+    for limit in [Limit::Relations, Limit::Mutations, Limit::Renders] {
+        assert_eq!(refusal(&over(limit), 16_384, 1_000), Some(Refusal::Totals));
+    }
+    assert_eq!(refusal(&sheet, 16_384, 0), Some(Refusal::ShortAnswer));
+}
+
+#[test]
+fn refusals_in_words() {
+    for (number, refusal) in (1..).zip(Refusal::ALL) {
+        assert_eq!(refusal.number(), number);
+        assert_eq!(Refusal::from_number(number), Some(refusal));
+    }
+    assert_eq!(Refusal::from_number(0), None);
+    let error: Box<dyn std::error::Error> = Service::new().infer(&[2, 0, 2]).unwrap_err().into();
+    assert_eq!(error.to_string(), "refused 5: A word is outside its range.");
+}
+
+/// 512 function nodes, each handed over by 256 renders, with lists of 64 diagnostics.
+fn longest_answer() -> Vec<u32> {
+    let mut sheet = SheetBuilder::new();
+    sheet.validations(true);
+    let ids: Vec<_> = (0..512).map(|_| sheet.identifier(Identifier::default()).unwrap()).collect();
+    let list: Vec<_> = (0..64).map(|d| DiagnosticId(1_000 + d)).collect();
+    let function_id = sheet.function(&list).unwrap();
+    sheet.block(service_host::BlockId(0)).unwrap();
+    let mut effects = Vec::new();
+    for &id in &ids {
+        effects.push(AliasingEffect::CreateFunction { into: Place::of(id), function_id });
+    }
+    for pair in ids.windows(2) {
+        let (from, into) = (Place::of(pair[1]), Place::of(pair[0]));
+        effects.push(AliasingEffect::Capture { from, into });
+    }
+    effects.extend([AliasingEffect::Render { place: place(0) }; 256]);
+    for part in effects.chunks(1_000) {
+        sheet.instruction(EvaluationOrder(1)).unwrap();
+        part.iter().for_each(|&effect| sheet.effect(effect).unwrap());
+    }
+    let order = EvaluationOrder(2);
+    sheet.terminal(service_host::Terminal::Other { order }).unwrap();
+    sheet.finish(place(0)).unwrap().words()
+}
+
+#[test]
+fn answers_of_any_length() {
+    let sheet = longest_answer();
+    let mut service = Service::new();
+    let answer = service.infer(&sheet).unwrap();
+    assert_eq!(answer.serial(), 0, "attempts with too short a buffer take no serial");
+    assert_eq!(answer.diagnostics().len(), 8_388_608);
+    assert!(answer.diagnostics().zip((0..64).cycle()).all(|(d, i)| d.0 == 1_000 + i));
+    // The next call is a small one again.
+    let answer = service.infer(&case_1()).unwrap();
+    assert_eq!((answer.serial(), answer.words().len()), (1, 42));
+
+    let mut limited = Service::new().most_answer(8_000_000);
+    assert_eq!(limited.infer(&sheet).unwrap_err(), Refusal::ShortAnswer);
+    assert_eq!(limited.infer(&case_1()).unwrap().serial(), 0);
+    let mut tight = Service::new().most_answer(42);
+    assert_eq!(tight.infer(&case_1()).unwrap().words().len(), 42);
+    let mut short = Service::new().most_answer(41);
+    assert_eq!(short.infer(&case_1()).unwrap_err(), Refusal::ShortAnswer);
+}
+
+/// Good and damaged sheets, in one service, against the plain implementation and the original.
+#[test]
+fn answers_are_the_oracles() {
+    let mut random = Random::new(2024);
+    let mut service = Service::resume(u32::MAX - 500);
+    let mut serial = u32::MAX - 500;
+    for i in 0..3_000 {
+        let words = if i % 3 == 0 {
+            damaged(&mut random).sheet
+        } else {
+            generate::sheet(&mut random).words()
+        };
+        let expected = oracle_plain::outcome(&words, 16_384, usize::MAX);
+        match (service.infer(&words), expected) {
+            (Ok(answer), Outcome::Accepted(expected)) => {
+                assert_eq!(answer.words(), expected);
+                assert_eq!(answer.serial(), serial);
+                serial = serial.wrapping_add(1);
+                let sheet = oracle_plain::read(&words).unwrap();
+                let original = oracle::original_side::answer(&sheet);
+                let effects = original.effects.iter().map(|e| {
+                    let (a, b) = (e.first, e.second);
+                    let words = [a.identifier, a.traits, a.span, b.identifier, b.traits, b.span];
+                    let [a, b, c, d, f, g] = words;
+                    AliasingEffect::from_words([e.kind, a, b, c, d, f, g, e.extra]).unwrap()
+                });
+                assert!(answer.effects().eq(effects));
+                assert!(answer.diagnostics().map(|d| d.0).eq(original.diagnostics));
+                let ranges = answer.ranges().map(|r| (r.start.0, r.end.0));
+                assert!(ranges.eq(original.ranges));
+                assert_eq!(answer.params().len(), original.params.len());
+                assert_eq!(answer.context().len(), original.context.len());
+            }
+            (Err(refusal), Outcome::Refused(number)) => assert_eq!(refusal.number(), number),
+            (got, expected) => panic!("{got:?}, not {expected:?}"),
+        }
+    }
+    assert_eq!(service.next_serial(), serial);
+    assert!(serial < u32::MAX / 2, "the serial has wrapped");
+}
+
+#[test]
+fn sizes() {
+    assert_eq!(ffi::least_workspace(), 16_384);
+    assert_eq!(ffi::most_sheet(), service_host::limits::WORDS);
+    assert_eq!(ffi::new_state(), ServiceState { next: 0 });
+}
+
+/// A service can be handed to another thread.
+#[test]
+fn one_service_in_each_thread() {
+    let threads: Vec<_> = (0..4)
+        .map(|first| {
+            let mut service = Service::resume(first);
+            std::thread::spawn(move || service.infer(&case_1()).unwrap().serial())
+        })
+        .collect();
+    let serials: Vec<_> = threads.into_iter().map(|t| t.join().unwrap()).collect();
+    assert_eq!(serials, [0, 1, 2, 3]);
+}

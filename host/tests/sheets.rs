@@ -1,0 +1,501 @@
+//! Sheets as parts, as words and as text: each becomes each other one and back.
+
+use oracle::damage::damaged;
+use oracle::generate;
+use oracle::random::Random;
+use service_host::text::{self, Names};
+use service_host::{
+    AliasingEffect, BlockId, DiagnosticId, Effect, EvaluationOrder, FunctionId, Identifier,
+    IdentifierId, MutableRange, PartError, Place, Service, Sheet, SheetBuilder, Terminal, limits,
+};
+
+/// The generator's sheets, as words.
+fn generated(seed: u64, count: usize) -> impl Iterator<Item = Vec<u32>> {
+    let mut random = Random::new(seed);
+    (0..count).map(move |_| generate::sheet(&mut random).words())
+}
+
+/// The same sheet, made part by part.
+fn rebuilt(sheet: &Sheet) -> Result<Sheet, PartError> {
+    let mut builder = SheetBuilder::new();
+    builder.function_expression(sheet.function_expression());
+    builder.validations(sheet.validations());
+    for identifier in sheet.identifiers() {
+        builder.identifier(*identifier)?;
+    }
+    for diagnostics in sheet.functions() {
+        builder.function(diagnostics)?;
+    }
+    for place in sheet.params() {
+        builder.param(*place)?;
+    }
+    for place in sheet.context() {
+        builder.context(*place)?;
+    }
+    for block in sheet.blocks() {
+        builder.block(block.number)?;
+        for phi in &block.phis {
+            builder.phi(phi.place)?;
+            for operand in &phi.operands {
+                builder.operand(operand.predecessor, operand.place)?;
+            }
+        }
+        for instruction in &block.instructions {
+            builder.instruction(instruction.order)?;
+            for effect in &instruction.effects {
+                builder.effect(*effect)?;
+            }
+        }
+        builder.terminal(block.terminal)?;
+        for effect in &block.terminal_effects {
+            builder.effect(*effect)?;
+        }
+    }
+    builder.finish(sheet.returns())
+}
+
+#[test]
+fn words_parts_and_text_are_the_same() {
+    for words in generated(1, 3_000) {
+        let sheet = Sheet::read(&words).unwrap();
+        assert_eq!(sheet.words(), words);
+        assert_eq!(sheet.refusal(), None);
+        assert_eq!(rebuilt(&sheet).unwrap(), sheet);
+        let names = Names::numbered(&sheet);
+        let text = text::write(&sheet, &names);
+        assert_eq!(text::parse(&text).unwrap(), (sheet, names), "{text}");
+    }
+}
+
+/// Reading here finds the fault that the library finds.
+#[test]
+fn faults_are_the_librarys() {
+    let mut random = Random::new(2);
+    let mut service = Service::new();
+    let mut seen = [0; 10];
+    for _ in 0..6_000 {
+        let words = damaged(&mut random).sheet;
+        let ours = match Sheet::read(&words) {
+            Ok(sheet) => sheet.refusal(),
+            Err(error) => Some(error.refusal()),
+        };
+        let library = service.infer(&words).err();
+        assert_eq!(ours, library, "{words:?}");
+        seen[library.map_or(0, |r| r.number() as usize)] += 1;
+    }
+    assert!(seen[2..9].iter().all(|&count| count > 50), "{seen:?}");
+}
+
+#[test]
+fn the_first_fault_in_words() {
+    let error = |words: &[u32]| Sheet::read(words).unwrap_err().to_string();
+    assert_eq!(
+        error(&[2, 0]),
+        "refused 3: word 2: expected the flag of validations, but the sheet ends here"
+    );
+    assert_eq!(error(&[3]), "refused 4: word 0: expected the count of flags, 2, found 3");
+    assert_eq!(
+        error(&[2, 0, 1, 2, 0, 0, 0, 0, 0, 3]),
+        "refused 5: word 9 (identifier 2 of 2): expected a type (0 other, 1 primitive, 2 JSX), \
+         at most 2, found 3"
+    );
+    let head = [2, 0, 1, 1, 0, 0, 0, 0, 0, 0, 1, 0, 0, 0];
+    let with = |blocks: &[u32]| [&head[..], blocks].concat();
+    assert_eq!(
+        error(&with(&[2, 7, 0, 0, 0, 1, 7])),
+        "refused 6: word 20 (block 2 of 2): expected a block number, found 7, which was used before"
+    );
+    assert_eq!(
+        error(&with(&[1, 7, 0, 1, 1, 1, 6, 0, 0, 0, 1])),
+        "refused 5: word 24 (block 1 of 1, instruction 1 of 1, effect 1 of 1): expected a \
+         place's identifier, found 1, but the sheet has 1 of them"
+    );
+    assert_eq!(
+        error(&with(&[1, 7, 0, 1, 1, 1, 17, 0, 0, 0, 0, 2])),
+        "refused 5: word 25 (block 1 of 1, instruction 1 of 1, effect 1 of 1): expected a word \
+         of a place that Render does not use, 0, found 2"
+    );
+    assert_eq!(error(&with(&[0, 5, 5])), "refused 7: word 15: 2 words follow the last block");
+    assert_eq!(
+        error(&[0; 16_385]),
+        "refused 2: word 16384: a sheet has at most 16384 words, this one 16385"
+    );
+}
+
+// =============================================================================
+// The builder
+// =============================================================================
+
+fn place(identifier: u32) -> Place {
+    Place::of(IdentifierId(identifier))
+}
+
+fn order(number: u32) -> EvaluationOrder {
+    EvaluationOrder(number)
+}
+
+/// A builder with so many identifiers.
+fn builder(identifiers: usize) -> SheetBuilder {
+    let mut builder = SheetBuilder::new();
+    for _ in 0..identifiers {
+        builder.identifier(Identifier::default()).unwrap();
+    }
+    builder
+}
+
+/// Adds parts up to the limit; one more is refused and changes nothing.
+fn full(
+    mut builder: SheetBuilder,
+    most: usize,
+    mut part: impl FnMut(&mut SheetBuilder, u32) -> Result<(), PartError>,
+) {
+    for i in 0..most as u32 {
+        part(&mut builder, i).unwrap();
+    }
+    let before = format!("{builder:?}");
+    let error = part(&mut builder, most as u32).unwrap_err();
+    assert!(matches!(error, PartError::TooMany { most: m, .. } if m == most), "{error}");
+    assert_eq!(format!("{builder:?}"), before);
+}
+
+#[test]
+fn every_count_has_its_limit() {
+    full(builder(0), 512, |b, _| b.identifier(Identifier::default()).map(drop));
+    full(builder(0), 64, |b, _| b.function(&[]).map(drop));
+    full(builder(1), 64, |b, _| b.param(place(0)));
+    full(builder(1), 64, |b, _| b.context(place(0)));
+    full(builder(1), 256, |b, i| {
+        b.block(BlockId(i))?;
+        b.terminal(Terminal::Other { order: order(0) })
+    });
+    let mut open = builder(1);
+    open.block(BlockId(0)).unwrap();
+    full(open.clone(), 1_024, |b, _| b.phi(place(0)));
+    full(open.clone(), 1_024, |b, _| b.instruction(order(0)));
+    let mut phi = open.clone();
+    phi.phi(place(0)).unwrap();
+    full(phi, 1_024, |b, i| b.operand(BlockId(i), place(0)));
+    let mut instruction = open.clone();
+    instruction.instruction(order(0)).unwrap();
+    full(instruction, 1_024, |b, _| b.effect(AliasingEffect::Apply));
+    let mut terminal = open;
+    terminal.terminal(Terminal::MaybeThrow { order: order(0) }).unwrap();
+    full(terminal, 1_024, |b, _| b.effect(AliasingEffect::Apply));
+
+    let diagnostics = [DiagnosticId(0); 65];
+    assert!(builder(0).function(&diagnostics[..64]).is_ok());
+    assert!(builder(0).function(&diagnostics).is_err());
+}
+
+#[test]
+fn every_number_has_its_limit() {
+    fn at_limit(most: u32, part: impl Fn(u32) -> Result<(), PartError>) {
+        assert_eq!(part(most), Ok(()));
+        let error = part(most + 1).unwrap_err();
+        assert!(
+            matches!(error, PartError::TooLarge { number, most: m, .. }
+            if number == most + 1 && m == most),
+            "{error}"
+        );
+    }
+    let identifier = |start, end| {
+        let range = MutableRange { start: order(start), end: order(end) };
+        builder(0).identifier(Identifier { range, ..Identifier::default() }).map(drop)
+    };
+    at_limit(limits::RANGE, |n| identifier(n, 0));
+    at_limit(limits::RANGE, |n| identifier(0, n));
+    at_limit(limits::DIAGNOSTIC, |n| builder(0).function(&[DiagnosticId(n)]).map(drop));
+    at_limit(limits::BLOCK_NUMBER, |n| builder(0).block(BlockId(n)));
+    let mut open = builder(1);
+    open.block(BlockId(0)).unwrap();
+    at_limit(limits::ORDER, |n| open.clone().instruction(order(n)));
+    at_limit(limits::ORDER, |n| open.clone().terminal(Terminal::Other { order: order(n) }));
+    at_limit(limits::BLOCK_NUMBER, |n| {
+        let mut phi = open.clone();
+        phi.phi(place(0))?;
+        phi.operand(BlockId(n), place(0))
+    });
+    at_limit(limits::DIAGNOSTIC, |n| {
+        let mut instruction = open.clone();
+        instruction.instruction(order(0))?;
+        instruction.effect(AliasingEffect::Impure { place: place(0), error: DiagnosticId(n) })
+    });
+}
+
+#[test]
+fn parts_that_are_not_there() {
+    let none = |b: Result<(), PartError>| {
+        assert!(matches!(b, Err(PartError::NoIdentifier { count: 1, .. })), "{b:?}");
+    };
+    let mut b = builder(1);
+    none(b.param(place(1)));
+    none(b.context(place(1)));
+    none(b.clone().finish(place(1)).map(drop));
+    b.block(BlockId(3)).unwrap();
+    none(b.phi(place(1)));
+    b.phi(place(0)).unwrap();
+    none(b.operand(BlockId(0), place(u32::MAX)));
+    b.instruction(order(1)).unwrap();
+    none(b.effect(AliasingEffect::Alias { from: place(0), into: place(1) }));
+    none(b.effect(AliasingEffect::Alias { from: place(1), into: place(0) }));
+    none(b.effect(AliasingEffect::Render { place: place(1) }));
+    none(b.terminal(Terminal::Return { order: order(1), value: place(1) }));
+    let create = AliasingEffect::CreateFunction { into: place(0), function_id: FunctionId(0) };
+    assert_eq!(b.effect(create), Err(PartError::NoFunction { function: FunctionId(0), count: 0 }));
+    b.function(&[]).unwrap();
+    assert_eq!(b.effect(create), Ok(()));
+    assert_eq!(b.clone().finish(place(0)), Err(PartError::BlockNotEnded(BlockId(3))));
+    assert_eq!(b.block(BlockId(4)), Err(PartError::BlockNotEnded(BlockId(3))));
+    b.terminal(Terminal::Other { order: order(1) }).unwrap();
+    assert!(Service::new().infer(&b.finish(place(0)).unwrap().words()).is_ok());
+}
+
+#[test]
+fn numbers_used_twice() {
+    let mut b = builder(1);
+    b.block(BlockId(7)).unwrap();
+    b.phi(place(0)).unwrap();
+    b.operand(BlockId(7), place(0)).unwrap();
+    assert_eq!(b.operand(BlockId(7), place(0)), Err(PartError::PredecessorAgain(BlockId(7))));
+    b.phi(place(0)).unwrap();
+    b.operand(BlockId(7), place(0)).unwrap();
+    b.terminal(Terminal::Other { order: order(1) }).unwrap();
+    assert_eq!(b.block(BlockId(7)), Err(PartError::BlockAgain(BlockId(7))));
+    b.block(BlockId(8)).unwrap();
+}
+
+#[test]
+fn parts_out_of_place() {
+    let misplaced = |b: Result<(), PartError>| {
+        assert!(matches!(b, Err(PartError::OutOfPlace { .. })), "{b:?}");
+    };
+    let mut b = builder(1);
+    misplaced(b.phi(place(0)));
+    misplaced(b.operand(BlockId(0), place(0)));
+    misplaced(b.instruction(order(0)));
+    misplaced(b.effect(AliasingEffect::Apply));
+    misplaced(b.terminal(Terminal::Other { order: order(0) }));
+    b.block(BlockId(0)).unwrap();
+    misplaced(b.operand(BlockId(0), place(0)));
+    misplaced(b.effect(AliasingEffect::Apply));
+    b.instruction(order(0)).unwrap();
+    misplaced(b.phi(place(0)));
+    misplaced(b.operand(BlockId(0), place(0)));
+    b.terminal(Terminal::Other { order: order(0) }).unwrap();
+    misplaced(b.effect(AliasingEffect::Apply));
+    misplaced(b.instruction(order(0)));
+}
+
+/// Parts drawn at random, many of them faulty: what the builder makes is never refused 3 to 7.
+#[test]
+fn no_sheet_that_is_refused_3_to_7() {
+    let mut random = Random::new(3);
+    let mut service = Service::new();
+    let mut accepted = 0;
+    for _ in 0..5_000 {
+        let mut b = SheetBuilder::new();
+        for _ in 0..random.below(40) {
+            let p = Place {
+                identifier: IdentifierId(random.below(4) as u32),
+                effect: random.choose(Effect::ALL),
+                reactive: random.percent(50),
+                span: random.word() as u32,
+            };
+            let near = random.choose(&[0, 1, 2, 65_535, 65_536, 999_999, 1_000_000, 1_000_001]);
+            let effect = std::array::from_fn(|_| random.below(18) as u32);
+            // Faults are what is tried here.
+            _ = match random.below(11) {
+                0 => b
+                    .identifier(Identifier {
+                        range: MutableRange { start: order(near), end: order(near) },
+                        ..Identifier::default()
+                    })
+                    .map(drop),
+                1 => b.identifier(Identifier::default()).map(drop),
+                2 => b.function(&[DiagnosticId(near)]).map(drop),
+                3 => b.param(p),
+                4 => b.context(p),
+                5 => b.block(BlockId(near)),
+                6 => b.phi(p),
+                7 => b.operand(BlockId(near), p),
+                8 => b.instruction(order(near)),
+                9 => match AliasingEffect::from_words(effect) {
+                    Some(effect) => b.effect(effect),
+                    None => b.effect(AliasingEffect::Alias { from: p, into: p }),
+                },
+                _ => b.terminal(match random.below(3) {
+                    0 => Terminal::Other { order: order(near) },
+                    1 => Terminal::Return { order: order(near), value: p },
+                    _ => Terminal::MaybeThrow { order: order(near) },
+                }),
+            };
+        }
+        if let Ok(sheet) = b.finish(place(0)) {
+            accepted += 1;
+            assert!(service.infer(&sheet.words()).is_ok(), "{sheet:?}");
+        }
+    }
+    assert!(accepted > 500, "{accepted}");
+}
+
+// =============================================================================
+// Text
+// =============================================================================
+
+const CASE_1: &str = include_str!("../../examples/case1.txt");
+
+#[test]
+fn case_1_as_text() {
+    let (sheet, names) = text::parse(CASE_1).unwrap();
+    let file = include_bytes!("../../examples/case1.sheet");
+    let words: Vec<u32> =
+        file.as_chunks().0.iter().map(|&bytes| u32::from_le_bytes(bytes)).collect();
+    assert_eq!(sheet.words(), words);
+    assert_eq!(names.identifier(IdentifierId(1)), "list");
+    // Comments aside, the text is the one that is written.
+    let code = |text: &str| -> Vec<String> {
+        let lines = text.lines().map(|l| l.split('#').next().unwrap().trim_end().to_string());
+        lines.filter(|l| !l.is_empty()).collect()
+    };
+    assert_eq!(code(&text::write(&sheet, &names)), code(CASE_1));
+}
+
+#[test]
+fn faults_in_text_name_the_line_and_what_was_expected() {
+    let head = "identifier a\nidentifier b\nfunction f diagnostics 1 2\nreturns b\n";
+    let error = |lines: &str| text::parse(&format!("{head}{lines}")).unwrap_err().to_string();
+    let block = |lines: &str| error(&format!("block 0\n{lines}"));
+
+    assert_eq!(
+        text::parse("identifier a\n").unwrap_err().to_string(),
+        "line 1: expected a line `returns PLACE`, found the end of the text"
+    );
+    assert_eq!(error("returns a"), "line 5: expected one line `returns`, found a second");
+    assert_eq!(error("identifier a"), "line 5: expected a new identifier's name, found `a` again");
+    assert_eq!(
+        error("identifier 7"),
+        "line 5: expected an identifier's name (letters, digits, _ $ . -), found `7`"
+    );
+    assert_eq!(
+        error("identifier c range 4"),
+        "line 5: expected the range's end (a number), found the end of the line"
+    );
+    assert_eq!(
+        error("identifier c range 4 1000001"),
+        "line 5: a range's end is at most 1000000, not 1000001"
+    );
+    assert_eq!(
+        error("identifier c type Array"),
+        "line 5: expected a type (Other, Primitive, Jsx), found `Array`"
+    );
+    assert_eq!(
+        error("param c"),
+        "line 5: expected the name of an identifier declared above, found `c`"
+    );
+    assert_eq!(
+        error("param a Reads"),
+        "line 5: expected an effect, `reactive`, `span NUMBER` or the end of the line, found `Reads`"
+    );
+    assert_eq!(error("param a span many"), "line 5: expected a span (a number), found `many`");
+    assert_eq!(error("block x"), "line 5: expected a block's number (a number), found `x`");
+    assert!(error("Blocks 0").starts_with("line 5: expected a line that begins with flags, "));
+    assert_eq!(
+        error("instruction at 1"),
+        "line 5: an instruction follows a block without a terminal"
+    );
+    assert_eq!(
+        error("block 4\nterminal Other at 1\n\n# again\nblock 4"),
+        "line 9: block number 4 is used a second time"
+    );
+    assert_eq!(error("block 4\nidentifier c"), "line 6: block 4 has no terminal yet");
+    assert_eq!(block("instruction 1"), "line 6: expected `at`, found `1`");
+    assert_eq!(
+        block("phi a\noperand a from 9\noperand b from 9"),
+        "line 8: the phi names predecessor 9 a second time"
+    );
+    assert_eq!(
+        block("phi a\noperand a at 9"),
+        "line 7: expected an effect, `reactive`, `span NUMBER` or `from`, found `at`"
+    );
+    assert_eq!(
+        block("terminal Throw at 1"),
+        "line 6: expected `Return`, `MaybeThrow` or `Other`, found `Throw`"
+    );
+    assert_eq!(
+        block("terminal Other at 1000000"),
+        "line 6: a terminal's order is at most 999999, not 1000000"
+    );
+    let effect = |line: &str| block(&format!("instruction at 1\n{line}"));
+    assert_eq!(
+        effect("Capture a"),
+        "line 7: expected an effect, `reactive`, `span NUMBER` or `into`, found the end of the line"
+    );
+    assert_eq!(
+        effect("CreateFunction a function g"),
+        "line 7: expected the name of an inner function declared above, found `g`"
+    );
+    assert_eq!(
+        effect("Impure a diagnostic 65536"),
+        "line 7: a diagnostic number is at most 65535, not 65536"
+    );
+    assert!(
+        effect("Freeze a reason Frost")
+            .starts_with("line 7: expected a reason (KnownReturnSignature, State, ")
+    );
+    assert_eq!(effect("Apply a"), "line 7: expected the end of the line, found `a`");
+    assert_eq!(
+        error("flags validation"),
+        "line 5: expected `function-expression`, `validations`, `none` or the end of the line, found `validation`"
+    );
+}
+
+/// Words of texts cut, moved and changed: an error or a sheet, and the sheet is never refused
+/// 3 to 7.
+#[test]
+fn damaged_texts() {
+    let mut random = Random::new(4);
+    let mut service = Service::new();
+    let (mut good, mut faulty) = (0, 0);
+    for words in generated(5, 1_500) {
+        if words.len() > 2_000 {
+            continue;
+        }
+        let sheet = Sheet::read(&words).unwrap();
+        let text = text::write(&sheet, &Names::numbered(&sheet));
+        let mut lines: Vec<Vec<&str>> =
+            text.lines().map(|l| l.split_whitespace().collect()).collect();
+        for _ in 0..random.between(1, 3) {
+            let (i, j) = (random.below(lines.len()), random.below(lines.len()));
+            match random.below(5) {
+                0 => _ = lines[i].pop(),
+                1 => lines.swap(i, j),
+                2 => lines[i] = Vec::new(),
+                3 => {
+                    if let Some(&word) = lines[j].last() {
+                        lines[i].push(word);
+                    }
+                }
+                _ => {
+                    let (mut a, b) = (std::mem::take(&mut lines[i]), random.below(9));
+                    if let Some(word) = a.get_mut(b) {
+                        *word = random.choose(&["0", "1000000", "4294967296", "x0", "into", "-1"]);
+                    }
+                    lines[i] = a;
+                }
+            }
+        }
+        let damaged: Vec<_> = lines.iter().map(|l| l.join(" ")).collect();
+        match text::parse(&damaged.join("\n")) {
+            Err(error) => {
+                faulty += 1;
+                assert!((1..=lines.len()).contains(&error.line()));
+            }
+            Ok((sheet, _)) => {
+                good += 1;
+                let refusal = service.infer(&sheet.words()).err();
+                assert_eq!(refusal, sheet.refusal());
+            }
+        }
+    }
+    assert!(good > 50 && faulty > 500, "{good} {faulty}");
+}
