@@ -217,18 +217,18 @@ impl Side for Said<'_> {
         "library"
     }
 
-    fn outcome(&mut self, _: &[u32], _: usize, _: usize) -> Outcome {
-        match self.reply.refusal {
+    fn outcome(&mut self, _: &[u32], _: usize, _: usize) -> Result<Outcome, String> {
+        Ok(match self.reply.refusal {
             0 => Outcome::Accepted(self.answer.to_vec()),
             number => Outcome::Refused(number),
-        }
+        })
     }
 }
 
 fn compared(sheet: &[u32], workspace: usize, room: usize, said: Said) -> Result<(), String> {
     let mut said = said;
     let expected = plain::outcome(sheet, workspace, room);
-    is("the plain implementation's outcome", said.outcome(sheet, 0, 0) == expected)?;
+    is("the plain implementation's outcome", said.outcome(sheet, 0, 0)? == expected)?;
     let call = Call { sheet: sheet.to_vec(), workspace, room: Room::Exact };
     is("the original's answer", compare(&call, &mut []).1.is_none())
 }
