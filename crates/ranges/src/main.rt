@@ -1,4 +1,6 @@
 // Reads a sheet from standard input and prints the answer, a line for each section, or the refusal's number.
+ghost use Prim.Native.Nat.{_≤_};
+ghost use lib.ListN.{length};
 use files::load_words;
 use inference::Outcome;
 use inference::infer_mutation_aliasing_ranges;
@@ -10,28 +12,57 @@ fn print_word(x: u32) {
     io::print_decimal(STDOUT_FILENO, x as u64);
 }
 
-// The words from `at` up to `end`, as far as there are any; the end.
-fn print_words(words: &[u32], at: usize, end: usize) -> usize {
+fn least(a: usize, b: usize) -> usize
+    ensures { λ r. ⌜ r ≤ b ⌝ }
+{
+    if a < b { a } else { b }
+}
+
+// So many words from `at` on, or as many as there are; where they end.
+fn print_words(words: &[u32], at: usize, count: usize) -> usize
+    requires { ⌜ at ≤ length (now words) ⌝ }
+    ensures { λ r. ⌜ r ≤ length (now (words .entry)) ⌝ }
+{
+    let end = at + least(count, words.len() - at);
     let mut i = at;
-    while i < words.len() && i < end {
+    while i < end {
         print_word(words[i]);
         i += 1;
     }
-    i
+    end
 }
 
-// The word at a position, and 0 past the end.
-fn word_at(words: &[u32], at: usize) -> u32 {
-    if at < words.len() { words[at] } else { 0 }
+// How many words so many records of 1, 2, 3 or 8 words have.
+fn words_of(count: u32, size: u32) -> usize {
+    let records = count as usize;
+    match size {
+        2 => records * 2,
+        3 => records * 3,
+        8 => records * 8,
+        _ => records,
+    }
 }
 
-// A section whose records are `size` words long: its name, its count, its words; where the next section begins.
-fn print_section(name: &[u8], answer: &[u32], at: usize, size: u64) -> usize {
-    io::write_all(STDOUT_FILENO, name);
-    let count = word_at(answer, at);
+// The count of records at a position and their words; where they end.
+fn print_records(answer: &[u32], at: usize, size: u32) -> usize
+    requires { ⌜ at ≤ length (now answer) ⌝ }
+    ensures { λ r. ⌜ r ≤ length (now (answer .entry)) ⌝ }
+{
+    if answer.len() <= at {
+        return at;
+    }
+    let count = answer[at];
     print_word(count);
-    let words = (count as u64 % 16777216) * size;
-    let end = print_words(answer, at + 1, at + 1 + words as usize);
+    print_words(answer, at + 1, words_of(count, size))
+}
+
+// A section's line; where the next section begins.
+fn print_section(name: &[u8], answer: &[u32], at: usize, size: u32) -> usize
+    requires { ⌜ at ≤ length (now answer) ⌝ }
+    ensures { λ r. ⌜ r ≤ length (now (answer .entry)) ⌝ }
+{
+    io::write_all(STDOUT_FILENO, name);
+    let end = print_records(answer, at, size);
     io::write_all(STDOUT_FILENO, b"\n");
     end
 }

@@ -165,8 +165,8 @@ fn lend(
     )
 }
 
-// The calls of an accepted sheet: the workspace one word short, the answer buffer full, one word short, far longer, and empty.
-fn accepted(
+// An accepted sheet with an answer buffer that is one word short, far longer, and empty.
+fn unequal(
     run: Run,
     sheet: &[u32],
     expected: &[u32],
@@ -178,14 +178,34 @@ fn accepted(
         return run.differs();
     }
     let none = &expected[..0];
-    let r1 = lend(run, sheet, 1, none, workspace, 16383, answer, full);
-    let r2 = lend(r1, sheet, 0, expected, workspace, 16384, answer, full);
-    let r3 = lend(r2, sheet, 9, none, workspace, 16384, answer, full - 1);
-    let r4 = lend(r3, sheet, 0, expected, workspace, 18000, answer, 18000);
-    lend(r4, sheet, 9, none, workspace, 16385, answer, 0)
+    let r1 = lend(run, sheet, 9, none, workspace, 16384, answer, full - 1);
+    let r2 = lend(r1, sheet, 0, expected, workspace, 18000, answer, 18000);
+    lend(r2, sheet, 9, none, workspace, 16385, answer, 0)
 }
 
-// The calls of a sheet that is refused: workspaces that are too short, long enough and longer, answer buffers likewise.
+// The calls of an accepted sheet: those with an answer buffer as long as the answer, and the workspace one word short and long enough; then the others.
+fn accepted(
+    run: Run,
+    sheet: &[u32],
+    expected: &[u32],
+    workspace: &mut [u32],
+    answer: &mut [u32],
+) -> Run {
+    let full = expected.len();
+    let none = &expected[..0];
+    let r1 = lend(run, sheet, 1, none, workspace, 16383, answer, full);
+    let r2 = lend(r1, sheet, 0, expected, workspace, 16384, answer, full);
+    unequal(r2, sheet, expected, workspace, answer)
+}
+
+// Any sheet with a workspace that is too short.
+fn short(run: Run, sheet: &[u32], workspace: &mut [u32], answer: &mut [u32]) -> Run {
+    let none = &sheet[..0];
+    let r1 = lend(run, sheet, 1, none, workspace, 16383, answer, 300);
+    lend(r1, sheet, 1, none, workspace, 0, answer, 17)
+}
+
+// The calls of a sheet that is refused: workspaces that are too short, long enough and longer, answer buffers long and empty.
 fn refused(
     run: Run,
     sheet: &[u32],
@@ -194,10 +214,9 @@ fn refused(
     answer: &mut [u32],
 ) -> Run {
     let none = &sheet[..0];
-    let r1 = lend(run, sheet, 1, none, workspace, 16383, answer, 300);
+    let r1 = short(run, sheet, workspace, answer);
     let r2 = lend(r1, sheet, refusal, none, workspace, 16384, answer, 18000);
-    let r3 = lend(r2, sheet, refusal, none, workspace, 18000, answer, 0);
-    lend(r3, sheet, 1, none, workspace, 0, answer, 17)
+    lend(r2, sheet, refusal, none, workspace, 18000, answer, 0)
 }
 
 // The word at a position as a count: 0 if there is none, or if it is past 65,535.

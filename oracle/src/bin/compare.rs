@@ -2,7 +2,8 @@
 //!
 //! Makes N accepted sheets and M damaged calls from a seed and compares the
 //! original, the plain reader and, with the feature `service`, our own library on
-//! them; then R runs of the program at PATH. With files, compares those instead.
+//! them, and on the fixed sheets: bench cases, smallest/ and long walks. Then R runs
+//! of the program at PATH. With files, compares those instead.
 
 use std::path::{Path, PathBuf};
 use std::process::ExitCode;
@@ -10,10 +11,10 @@ use std::time::{Duration, Instant};
 
 use oracle::compare::{Difference, Side, compare, lines, original_lines, roomy, shrink};
 use oracle::damage::{Call, damaged};
-use oracle::generate;
 use oracle::plain;
 use oracle::program::{compare_run, file_words};
 use oracle::random::Random;
+use oracle::{cases, dense, generate, text};
 
 const REPORT: &str = "difference.txt";
 
@@ -72,6 +73,7 @@ fn sides() -> Vec<Box<dyn Side>> {
 
 #[derive(Default)]
 struct Counts {
+    fixed: u64,
     sheets: u64,
     damaged: u64,
     runs: u64,
@@ -104,6 +106,7 @@ impl Counts {
     }
 
     fn add(&mut self, other: Counts) {
+        self.fixed += other.fixed;
         self.sheets += other.sheets;
         self.damaged += other.damaged;
         self.runs += other.runs;
@@ -118,6 +121,9 @@ impl Counts {
 
     fn line(&self) -> String {
         let mut parts = Vec::new();
+        if self.fixed > 0 {
+            parts.push(format!("{} fixed sheets", self.fixed));
+        }
         if self.sheets > 0 {
             parts.push(format!("{} sheets", self.sheets));
         }
@@ -167,6 +173,20 @@ fn report(call: &Call, difference: &Difference, sides: &mut [Box<dyn Side>]) {
         Ok(()) => println!("# written to {}", place.display()),
         Err(error) => println!("# not written to {}: {error}", place.display()),
     }
+}
+
+/// The bench cases, the sheets of smallest/, and those whose walks are long.
+fn compare_fixed() -> Counts {
+    let mut sides = sides();
+    let mut counts = Counts::default();
+    let mut sheets = cases::sheets();
+    sheets.extend(text::smallest().into_iter().map(|text| text.words));
+    sheets.extend(dense::all().iter().map(|(_, sheet)| sheet.words()));
+    for sheet in &sheets {
+        counts.fixed += 1;
+        counts.compare(roomy(sheet), &mut sides);
+    }
+    counts
 }
 
 /// The sheets and calls of which the number is `own` modulo the number of threads.
@@ -240,6 +260,9 @@ fn compare_all(arguments: &Arguments) -> Result<Counts, String> {
     for file in &arguments.files {
         let of_file = compare_file(file, &mut sides()).map_err(|e| format!("{file}: {e}"))?;
         counts.add(of_file);
+    }
+    if arguments.files.is_empty() && arguments.sheets > 0 {
+        counts.add(compare_fixed());
     }
     if arguments.files.is_empty() {
         let made: Vec<Counts> = std::thread::scope(|scope| {
