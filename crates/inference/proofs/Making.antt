@@ -67,8 +67,7 @@ module _ {sheet ws ws₁ : List ℕ} {x : FunctionStep} (h : ReadsFunction sheet
     blocks-can p =
         let g = function-got (p .0) (p .1) in
         let l = g .limited in
-        let k = g .describes .blocks in
-        (
+        let k = g .describes .blocks in (
           (l .n, (l .m, omega (arith, l .returns, l .n))),
           blocks-ready (p .0) sheet (f .n) (f .m) (f .count) (f .blocks .at) (k .0) (k .1) (g .first) (l .count) (is-within sheet (p .1)),
         )

@@ -83,7 +83,13 @@ fn put_answer(
     let a1 = put_places(sheet, ws, f, answer);
     let a2 = put_diagnostics(sheet, ws, f, b.renders, hand, answer, a1);
     let a3 = put_effects(sheet, ws, f, b.index(), answer, a2);
-    put_walks(ws, b.mutations, (f.params + f.context + 1) as usize, answer, a3)
+    put_walks(
+        ws,
+        b.mutations,
+        (f.params + f.context + 1) as usize,
+        answer,
+        a3,
+    )
 }
 
 // A refusal leaves both buffers all 0.
