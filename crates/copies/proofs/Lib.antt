@@ -7,5 +7,6 @@ pub mod Passing
 pub mod Nth
 pub mod Blocks
 pub mod Sections
+pub mod KindWords
 pub mod Errors
 pub mod Creates

@@ -93,7 +93,7 @@ pub fn copy_instruction(
     }
 }
 
-// An effect count and the effects.
+// An effect count and the effects. Kinds 14 to 17 are copied; of the others only the kind is read. The first test never fires: the sheet was accepted.
 fn copy_list(
     sheet: &[u32],
     c: Cursor,
@@ -107,24 +107,32 @@ fn copy_list(
     ensures { λ r. ⌜ Copies (effects n m (now (sheet .entry)) (c .at)) (gather (copyWords section)) 8192 (now (answer .entry)) at (now (answer .exit)) (r .at) (r .next .at) ⌝ }
 {
     let mut left: u32;
-    let mut next: Cursor;
+    let mut next: usize;
     match c.count(sheet, 1024) {
         WordStep::Got(k, d) => {
             left = k;
-            next = d;
+            next = d.at;
         }
         WordStep::Refused(_) => {
             return Copied { at, next: c };
         }
     }
+    if sheet.len() - next < (8 * left) as usize {
+        return Copied { at, next: c };
+    }
     let mut to = at;
     while 0 < left {
-        let r = copy_effect(sheet, next, n, m, section, answer, to);
-        to = r.at;
-        next = r.next;
+        if 14 <= sheet[next] {
+            let r = copy_effect(sheet, Cursor { at: next }, n, m, section, answer, to);
+            to = r.at;
+        }
+        next += 8;
         left -= 1;
     }
-    Copied { at: to, next }
+    Copied {
+        at: to,
+        next: Cursor { at: next },
+    }
 }
 
 // An instruction count and the instructions.
