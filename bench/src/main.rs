@@ -4,19 +4,20 @@
 //! after the other in every round. Prints the tables of docs/PERFORMANCE.md.
 //!
 //! - ours: the whole call on lent buffers, clearing included.
+//! - clearing: the library's clearing of the lent words alone, in a call refused at its first word.
 //! - same job: the original from the sheet's words to the answer's words, its HIR built on the way.
 //! - analysis: the original's pass alone, its HIR built before.
 
 use std::time::{Duration, Instant};
 
 use bench::shapes;
-use bench::sides::{LENT, Ours, analysis, compare, same_job, time};
+use bench::sides::{Ours, analysis, compare, same_job, time};
 use oracle::cases::CASE_1;
 use oracle::generate::{self, LIMITS};
 use oracle::plain;
 use oracle::plain::sheet::Sheet;
 use oracle::random::Random;
-use service_host::Service;
+use service_host::{Service, first_lent};
 
 /// The q-th part of the times, which are sorted.
 fn quantile(sorted: &[f64], q: f64) -> f64 {
@@ -47,76 +48,86 @@ impl Times {
 /// The medians of one sheet.
 struct Row {
     ours: f64,
+    clearing: f64,
     job: f64,
     analysis: f64,
-    /// The largest spread of the three.
+    /// The largest spread of ours and the original's two.
     spread: f64,
+}
+
+impl Row {
+    fn less_clearing(&self) -> f64 {
+        (self.ours - self.clearing).max(1.0)
+    }
+}
+
+/// A sheet and what is lent for its answer: what `Service` lends, or the answer's length.
+struct Subject {
+    sheet: Sheet,
+    words: Vec<u32>,
+    lent: usize,
+    times: [Times; 4],
+}
+
+impl Subject {
+    fn new(sheet: Sheet) -> Subject {
+        let words = sheet.words();
+        let answer = plain::answer(&sheet).words().len();
+        let lent = first_lent(words.len()).max(answer);
+        Subject { sheet, words, lent, times: Default::default() }
+    }
+
+    /// Each side once.
+    fn round(&mut self, ours: &mut Ours) {
+        ours.lend(self.lent);
+        if self.times[0].0.is_empty() {
+            compare(ours, &self.words);
+        }
+        let [whole, clearing, job, alone] = &mut self.times;
+        whole.0.push(time(|| ours.call(&self.words)).0);
+        clearing.0.push(time(|| ours.refused_at_once()).0);
+        job.0.push(time(|| same_job(&self.words)).0);
+        alone.0.push(analysis(&self.sheet));
+    }
+
+    fn row(&self) -> Row {
+        let [whole, clearing, job, alone] = &self.times;
+        Row {
+            ours: whole.median(),
+            clearing: clearing.median(),
+            job: job.median(),
+            analysis: alone.median(),
+            spread: whole.spread().max(job.spread()).max(alone.spread()),
+        }
+    }
 }
 
 struct Bench {
     ours: Ours,
     rounds: usize,
-    /// Clearing the lent words, as the library does it: a call that is refused at once.
-    clearing: f64,
 }
 
 impl Bench {
-    fn new(rounds: usize) -> Bench {
-        let mut bench = Bench { ours: Ours::new(), rounds, clearing: 0.0 };
-        bench.clearing = bench.refused(&[]);
-        bench
-    }
-
-    /// The median time of a call that is refused.
-    fn refused(&mut self, words: &[u32]) -> f64 {
-        let call = |_| {
-            let (t, reply) = time(|| self.ours.call(words));
-            assert!(reply.refusal != 0);
-            t
-        };
-        Times((0..self.rounds.max(1_001)).map(call).collect()).median()
-    }
-
-    /// Each side once in every round, for at most three seconds but at least five rounds.
+    /// For at most three seconds but at least five rounds.
     fn measure(&mut self, sheet: &Sheet) -> Row {
-        let words = sheet.words();
-        self.ours.lend(LENT.max(same_job(&words).len() + 1_000));
-        compare(&mut self.ours, &words);
-        let [mut ours, mut job, mut alone] = [(); 3].map(|()| Times::default());
+        let mut subject = Subject::new(sheet.clone());
         let start = Instant::now();
-        while ours.0.len() < self.rounds
-            && (ours.0.len() < 5 || start.elapsed() < Duration::from_secs(3))
-        {
-            ours.0.push(time(|| self.ours.call(&words)).0);
-            job.0.push(time(|| same_job(&words)).0);
-            alone.0.push(analysis(sheet));
+        for round in 0..self.rounds {
+            if round >= 5 && start.elapsed() > Duration::from_secs(3) {
+                break;
+            }
+            subject.round(&mut self.ours);
         }
-        self.ours.lend(LENT);
-        let spread = ours.spread().max(job.spread()).max(alone.spread());
-        Row { ours: ours.median(), job: job.median(), analysis: alone.median(), spread }
+        subject.row()
     }
 
     /// The same for many sheets, a round over all of them at a time.
-    fn measure_all(&mut self, sheets: &[Sheet], rounds: usize) -> Vec<Row> {
-        let words: Vec<Vec<u32>> = sheets.iter().map(Sheet::words).collect();
-        let mut times: Vec<[Times; 3]> = sheets.iter().map(|_| Default::default()).collect();
-        for round in 0..rounds {
-            for ((sheet, words), [ours, job, alone]) in sheets.iter().zip(&words).zip(&mut times) {
-                if round == 0 {
-                    compare(&mut self.ours, words);
-                }
-                ours.0.push(time(|| self.ours.call(words)).0);
-                job.0.push(time(|| same_job(words)).0);
-                alone.0.push(analysis(sheet));
-            }
+    fn measure_all(&mut self, sheets: Vec<Sheet>, rounds: usize) -> Vec<Row> {
+        let mut subjects: Vec<Subject> = sheets.into_iter().map(Subject::new).collect();
+        for _ in 0..rounds {
+            subjects.iter_mut().for_each(|subject| subject.round(&mut self.ours));
         }
-        let row = |[ours, job, alone]: &[Times; 3]| Row {
-            ours: ours.median(),
-            job: job.median(),
-            analysis: alone.median(),
-            spread: ours.spread(),
-        };
-        times.iter().map(row).collect()
+        subjects.iter().map(Subject::row).collect()
     }
 }
 
@@ -143,18 +154,14 @@ fn corpora(bench: &mut Bench, demands: &mut Vec<Demand>) {
     println!("## Corpora\n");
     println!(
         "Ratios are taken sheet by sheet; the median over the sheets, in brackets the lower and \
-         upper tenth. \"Less clearing\" takes the {} µs of the lent words' clearing off our time.\n",
-        micro(bench.clearing)
+         upper tenth.\n"
     );
     println!(
-        "| corpus | sheets | ours µs | same job µs | analysis µs | same job / ours | analysis / ours | same job / ours less clearing | analysis / ours less clearing |"
+        "| corpus | sheets | ours µs | of it clearing | same job µs | analysis µs | same job / ours | analysis / ours | same job / ours less clearing | analysis / ours less clearing |"
     );
-    println!("|---|---|---|---|---|---|---|---|---|");
+    println!("|---|---|---|---|---|---|---|---|---|---|");
     let mut random = Random::new(1);
-    let generated: Vec<Sheet> = std::iter::repeat_with(|| generate::sheet(&mut random))
-        .filter(|sheet| plain::answer(sheet).words().len() <= LENT)
-        .take(2_000)
-        .collect();
+    let generated: Vec<Sheet> = (0..2_000).map(|_| generate::sheet(&mut random)).collect();
     let mut panels = |count: usize, low: usize, high: usize| -> Vec<Sheet> {
         (0..count)
             .map(|_| {
@@ -169,8 +176,7 @@ fn corpora(bench: &mut Bench, demands: &mut Vec<Demand>) {
         ("generated sheets", generated, true),
     ];
     for (name, sheets, asked) in corpora {
-        let rows = bench.measure_all(&sheets, (bench.rounds / 5).max(5));
-        let clearing = bench.clearing;
+        let rows = bench.measure_all(sheets, (bench.rounds / 5).max(5));
         let median =
             |value: &dyn Fn(&Row) -> f64| quantile(&sorted(rows.iter().map(value).collect()), 0.5);
         let ratios = |value: &dyn Fn(&Row) -> f64| {
@@ -179,41 +185,56 @@ fn corpora(bench: &mut Bench, demands: &mut Vec<Demand>) {
             format!("{middle} ({low} to {high})")
         };
         println!(
-            "| {name} | {} | {} | {} | {} | {} | {} | {} | {} |",
-            sheets.len(),
+            "| {name} | {} | {} | {} | {} | {} | {} | {} | {} | {} |",
+            rows.len(),
             micro(median(&|r| r.ours)),
+            micro(median(&|r| r.clearing)),
             micro(median(&|r| r.job)),
             micro(median(&|r| r.analysis)),
             ratios(&|r| r.job / r.ours),
             ratios(&|r| r.analysis / r.ours),
-            ratios(&|r| r.job / (r.ours - clearing).max(1.0)),
-            ratios(&|r| r.analysis / (r.ours - clearing).max(1.0)),
+            ratios(&|r| r.job / r.less_clearing()),
+            ratios(&|r| r.analysis / r.less_clearing()),
         );
         if asked {
-            for (side, least, measured) in [
-                ("same job", 5.0, median(&|r| r.job / r.ours)),
-                ("analysis alone", 3.0, median(&|r| r.analysis / r.ours)),
+            for (side, least, whole, less) in [
+                (
+                    "same job",
+                    5.0,
+                    median(&|r| r.job / r.ours),
+                    median(&|r| r.job / r.less_clearing()),
+                ),
+                (
+                    "analysis alone",
+                    3.0,
+                    median(&|r| r.analysis / r.ours),
+                    median(&|r| r.analysis / r.less_clearing()),
+                ),
             ] {
-                let what = format!("{name}: at the median at least {least} times the {side}");
-                demands.push(Demand { what, measured, holds: measured >= least });
+                for (measured, how) in [(whole, "whole call"), (less, "less clearing")] {
+                    let what =
+                        format!("{name}, {how}: at the median at least {least} times the {side}");
+                    demands.push(Demand { what, measured, holds: measured >= least });
+                }
             }
         }
     }
     println!();
 }
 
-const SHAPES_HEAD: &str = "| shape | words | ours µs | same job µs | analysis µs | spread | same job / ours | analysis / ours | analysis / ours less clearing |\n|---|---|---|---|---|---|---|---|---|";
+const SHAPES_HEAD: &str = "| shape | words | ours µs | of it clearing | same job µs | analysis µs | spread | same job / ours | analysis / ours | analysis / ours less clearing |\n|---|---|---|---|---|---|---|---|---|---|";
 
-fn shape_row(name: &str, words: usize, row: &Row, clearing: f64) {
+fn shape_row(name: &str, words: usize, row: &Row) {
     println!(
-        "| {name} | {words} | {} | {} | {} | {:.0}% | {} | {} | {} |",
+        "| {name} | {words} | {} | {} | {} | {} | {:.0}% | {} | {} | {} |",
         micro(row.ours),
+        micro(row.clearing),
         micro(row.job),
         micro(row.analysis),
         100.0 * row.spread,
         ratio(row.job / row.ours),
         ratio(row.analysis / row.ours),
-        ratio(row.analysis / (row.ours - clearing).max(1.0)),
+        ratio(row.analysis / row.less_clearing()),
     );
 }
 
@@ -229,8 +250,8 @@ fn worst(bench: &mut Bench, demands: &mut Vec<Demand>) {
     let mut least: Option<(f64, String)> = None;
     for (name, sheet) in sheets {
         let row = bench.measure(&sheet);
-        shape_row(&name, sheet.words().len(), &row, bench.clearing);
-        let r = row.analysis / (row.ours - bench.clearing).max(1.0);
+        shape_row(&name, sheet.words().len(), &row);
+        let r = row.analysis / row.less_clearing();
         if least.as_ref().is_none_or(|(least, _)| r < *least) {
             least = Some((r, name));
         }
@@ -290,6 +311,7 @@ fn tiny(bench: &mut Bench, demands: &mut Vec<Demand>) {
     let mut largest: f64 = 0.0;
     for (name, words) in &sheets {
         let more = [&words[..], &[0]].concat();
+        bench.ours.lend(first_lent(words.len()));
         let [mut whole, mut read, mut wrapped] = [(); 3].map(|()| Times::default());
         for _ in 0..bench.rounds.max(1_001) {
             whole.0.push(time(|| bench.ours.call(words)).0);
@@ -314,28 +336,36 @@ fn tiny(bench: &mut Bench, demands: &mut Vec<Demand>) {
 
 fn clearing(bench: &mut Bench) {
     println!("## Clearing the lent words\n");
-    let fill = |_| time(|| bench.ours.clear()).0;
-    let fill = Times((0..bench.rounds.max(1_001)).map(fill).collect()).median();
-    println!("| {} words | µs |", bench.ours.lent());
-    println!("|---|---|");
-    println!("| the library's (a call that is refused at once) | {} |", micro(bench.clearing));
-    println!("| `fill(0)` | {} |", micro(fill));
-    println!(
-        "| reading the clock, which is in every time | {} |\n",
-        micro(Times((0..10_001).map(|_| time(|| ()).0).collect()).median())
-    );
+    println!("| words lent | the library's µs | `fill(0)` µs |");
+    println!("|---|---|---|");
+    let rounds = bench.rounds.max(1_001);
+    for answer in [first_lent(0), 16_384, 65_536] {
+        bench.ours.lend(answer);
+        let ours = (0..rounds).map(|_| time(|| bench.ours.refused_at_once()).0).collect();
+        let fill = (0..rounds).map(|_| time(|| bench.ours.clear()).0).collect();
+        println!(
+            "| {} + {answer} | {} | {} |",
+            bench.ours.lent() - answer,
+            micro(Times(ours).median()),
+            micro(Times(fill).median())
+        );
+    }
+    let clock = Times((0..10_001).map(|_| time(|| ()).0).collect()).median();
+    println!("\nReading the clock, which is in every time, takes {} µs.\n", micro(clock));
 }
 
 fn main() {
     let rounds = std::env::args().nth(1).map_or(101, |r| r.parse().expect("ROUNDS is a number"));
-    let mut bench = Bench::new(rounds);
+    let mut bench = Bench { ours: Ours::new(), rounds };
     let mut demands = Vec::new();
     println!(
         "Medians of {rounds} rounds (fewer where a round takes long, at least 5; a fifth of them \
-         for corpora). Every call of ours is lent {} words of workspace and {LENT} words of answer \
-         (more where the answer is longer) and clears all of them; the original clears nothing. \
-         Spread: between the quartiles, as a part of the median, the largest of the three sides.\n",
+         for corpora). Every call of ours is lent {} words of workspace, and of answer buffer what \
+         `Service` lends first (the sheet's length, at least {}) or, where that is longer, the \
+         answer's length; it clears all of them. The original clears nothing. Spread: between the \
+         quartiles, as a part of the median, the largest of the three sides.\n",
         service_host::ffi::least_workspace(),
+        first_lent(0),
     );
     clearing(&mut bench);
     tiny(&mut bench, &mut demands);

@@ -8,14 +8,12 @@ use oracle::plain::{self, sheet::Sheet};
 use oxc_allocator::Allocator;
 use service_host::ffi::{self, Reply, ServiceState};
 
-/// Words lent for an answer, where the answer is not longer.
-pub const LENT: usize = 16_384;
-
 /// Our library with the buffers that are lent for each call.
 pub struct Ours {
     state: ServiceState,
     workspace: Vec<u32>,
     answer: Vec<u32>,
+    lent: usize,
 }
 
 impl Ours {
@@ -23,21 +21,30 @@ impl Ours {
         Ours {
             state: ffi::new_state(),
             workspace: vec![0; ffi::least_workspace()],
-            answer: vec![0; LENT],
+            answer: Vec::new(),
+            lent: 0,
         }
     }
 
     /// Lends so many words for answers from now on.
     pub fn lend(&mut self, words: usize) {
-        self.answer.resize(words, 0);
+        self.lent = words;
+        self.answer.resize(words.max(self.answer.len()), 0);
     }
 
+    /// How many words are lent, the workspace included.
     pub fn lent(&self) -> usize {
-        self.workspace.len() + self.answer.len()
+        self.workspace.len() + self.lent
     }
 
     pub fn call(&mut self, sheet: &[u32]) -> Reply {
-        ffi::infer(&mut self.state, sheet, &mut self.workspace, &mut self.answer)
+        let answer = &mut self.answer[..self.lent];
+        ffi::infer(&mut self.state, sheet, &mut self.workspace, answer)
+    }
+
+    /// The library's clearing of the lent words: a call that is refused at its first word.
+    pub fn refused_at_once(&mut self) -> Reply {
+        self.call(&[])
     }
 
     pub fn answer(&self, reply: Reply) -> &[u32] {
@@ -47,7 +54,7 @@ impl Ours {
     /// Clears the lent words and does nothing else.
     pub fn clear(&mut self) {
         black_box(&mut self.workspace[..]).fill(0);
-        black_box(&mut self.answer[..]).fill(0);
+        black_box(&mut self.answer[..self.lent]).fill(0);
     }
 }
 

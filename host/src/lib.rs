@@ -58,5 +58,5 @@ pub use parts::{
 };
 pub use reading::ReadError;
 pub use refusal::Refusal;
-pub use service::Service;
+pub use service::{Service, first_lent};
 pub use sheet::{Block, Instruction, Operand, Phi, Sheet, Terminal, Totals};

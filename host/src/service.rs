@@ -2,6 +2,7 @@
 
 use crate::answer::Answer;
 use crate::ffi::{self, Reply, ServiceState};
+use crate::limits;
 use crate::refusal::Refusal;
 
 /// More words than any answer has.
@@ -10,12 +11,18 @@ const MOST_ANSWER: usize = 1 << 24;
 /// Words of the answer buffer that stay allocated between calls.
 const KEPT_ANSWER: usize = 1 << 16;
 
+/// How many words of answer are lent first for a sheet of so many words.
+pub fn first_lent(sheet_words: usize) -> usize {
+    sheet_words.clamp(1 << 11, limits::WORDS)
+}
+
 /// Owns the state and the buffers of the library's call.
 ///
-/// Buffers are kept from call to call. Most answers are shorter than four times their sheet, and
-/// so many words are lent first, because the library clears every word that it is lent. A longer
-/// answer (diagnostics can make it millions of words long) is asked for again with a larger
-/// buffer, which is given back with the next call. A refused attempt takes no serial.
+/// Buffers are kept from call to call. Most answers are shorter than their sheet, and so many
+/// words are lent first (at least 2,048), because the library clears every word that it is lent.
+/// A longer answer (diagnostics can make it millions of words long) is asked for again with a
+/// larger buffer; if that is very large, the next call gives it back. A refused attempt takes no
+/// serial.
 ///
 /// A service is used by one thread at a time; several services share nothing.
 #[derive(Debug)]
@@ -60,7 +67,7 @@ impl Service {
         if self.answer.len() > KEPT_ANSWER {
             self.answer = Vec::new();
         }
-        let mut lent = (4 * sheet.len()).clamp(1 << 12, KEPT_ANSWER).min(self.most_answer);
+        let mut lent = first_lent(sheet.len()).min(self.most_answer);
         let mut reply = self.attempt(sheet, lent);
         while reply.refusal == Refusal::ShortAnswer.number() && lent < self.most_answer {
             lent = (16 * lent).min(self.most_answer);
