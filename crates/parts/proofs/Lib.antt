@@ -1,4 +1,0 @@
-pub mod SecondPass
-pub mod Positions
-pub mod ByPosition
-pub mod HeadLaws
