@@ -12,6 +12,7 @@
 
 use std::process::ExitCode;
 
+use bench::clock::processor;
 use bench::guarded::Guarded;
 use oracle::compare::{Side, compare};
 use oracle::damage::{Call, Room, damaged};
@@ -317,25 +318,6 @@ fn memory(line: &str) -> u64 {
     line.and_then(|l| l.trim().strip_suffix(" kB")?.parse().ok()).unwrap_or(0)
 }
 
-#[repr(C)]
-struct Timespec {
-    seconds: i64,
-    nanoseconds: i64,
-}
-
-unsafe extern "C" {
-    fn clock_gettime(clock: i32, time: &mut Timespec) -> i32;
-}
-
-/// The processor's time of this process, in seconds: what others do on the machine is not in it.
-fn processor() -> f64 {
-    const CLOCK_PROCESS_CPUTIME_ID: i32 = 2;
-    let mut time = Timespec { seconds: 0, nanoseconds: 0 };
-    // SAFETY: the C library's function writes the struct that it is lent.
-    unsafe { clock_gettime(CLOCK_PROCESS_CPUTIME_ID, &mut time) };
-    time.seconds as f64 + time.nanoseconds as f64 / 1e9
-}
-
 /// The time of one call in a fixed set of calls, in nanoseconds: the same in every slice.
 fn probe(host: &mut Host, probes: &Pool, tally: &mut Tally) -> Result<f64, String> {
     let mut best = f64::INFINITY;
@@ -344,7 +326,7 @@ fn probe(host: &mut Host, probes: &Pool, tally: &mut Tally) -> Result<f64, Strin
         for known in &probes.calls {
             host.call(Some(probes.sheet(known)), 0, known.workspace, known.room, false, tally)?;
         }
-        best = best.min(1e9 * (processor() - start) / probes.calls.len() as f64);
+        best = best.min((processor() - start) / probes.calls.len() as f64);
     }
     Ok(best)
 }
@@ -412,7 +394,7 @@ fn soak(calls: u64, seed: u64) -> Result<(), String> {
         let mut tally = Tally::default();
         let before = processor();
         slice(calls / SLICES, &mut host, &mut service, &mut random, &mut tally)?;
-        let took = processor() - before;
+        let took = (processor() - before) / 1e9;
         let mut aside = Tally::default();
         let probed = probe(&mut host, &probes, &mut aside)?;
         accepted += tally.refusals[0] + aside.refusals[0];
