@@ -10,8 +10,9 @@
 
 use std::time::{Duration, Instant};
 
+use bench::clock::time;
 use bench::shapes;
-use bench::sides::{Ours, analysis, compare, same_job, time};
+use bench::sides::{Ours, analysis, compare, same_job};
 use oracle::cases::CASE_1;
 use oracle::generate::{self, LIMITS};
 use oracle::plain;
@@ -354,6 +355,14 @@ fn clearing(bench: &mut Bench) {
     println!("\nReading the clock, which is in every time, takes {} µs.\n", micro(clock));
 }
 
+/// How busy the machine is: above the number of its cores, the times say little.
+fn load(when: &str) -> String {
+    let load = std::fs::read_to_string("/proc/loadavg").unwrap_or_default();
+    let load = load.split_whitespace().next().unwrap_or("unknown");
+    let cores = std::thread::available_parallelism().map_or(1, usize::from);
+    format!("The run {when} with a load of {load} on {cores} cores.\n")
+}
+
 fn main() {
     let rounds = std::env::args().nth(1).map_or(101, |r| r.parse().expect("ROUNDS is a number"));
     let mut bench = Bench { ours: Ours::new(), rounds };
@@ -367,11 +376,13 @@ fn main() {
         service_host::ffi::least_workspace(),
         first_lent(0),
     );
+    println!("{}", load("begins"));
     clearing(&mut bench);
     tiny(&mut bench, &mut demands);
     corpora(&mut bench, &mut demands);
     worst(&mut bench, &mut demands);
     doublings(&mut bench);
+    println!("{}", load("ends"));
     println!("## What is asked\n\n| | measured | |\n|---|---|---|");
     for demand in &demands {
         let holds = if demand.holds { "holds" } else { "does not hold" };

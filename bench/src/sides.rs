@@ -1,12 +1,13 @@
 //! One call of each side, and its time.
 
 use std::hint::black_box;
-use std::time::Instant;
 
 use oracle::original_side;
 use oracle::plain::{self, sheet::Sheet};
 use oxc_allocator::Allocator;
 use service_host::ffi::{self, Reply, ServiceState};
+
+use crate::clock::time;
 
 /// Our library with the buffers that are lent for each call.
 pub struct Ours {
@@ -62,13 +63,6 @@ impl Default for Ours {
     fn default() -> Ours {
         Ours::new()
     }
-}
-
-/// Nanoseconds. What is made is given back, so that its end is not in the time.
-pub fn time<T>(what: impl FnOnce() -> T) -> (f64, T) {
-    let start = Instant::now();
-    let made = black_box(what());
-    (start.elapsed().as_nanos() as f64, made)
 }
 
 /// The original's same job: the sheet's words read, its HIR built, the pass, the answer's words.

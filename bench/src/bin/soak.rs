@@ -11,8 +11,8 @@
 //! Prints a line for each of 20 slices: memory and time are to stay flat.
 
 use std::process::ExitCode;
-use std::time::Instant;
 
+use bench::clock::processor;
 use bench::guarded::Guarded;
 use oracle::compare::{Side, compare};
 use oracle::damage::{Call, Room, damaged};
@@ -318,23 +318,15 @@ fn memory(line: &str) -> u64 {
     line.and_then(|l| l.trim().strip_suffix(" kB")?.parse().ok()).unwrap_or(0)
 }
 
-/// The processor's time of this process, in seconds.
-fn processor() -> f64 {
-    let stat = std::fs::read_to_string("/proc/self/stat").unwrap_or_default();
-    let after = stat.rsplit(')').next().unwrap_or_default();
-    // Clock ticks of a hundredth of a second.
-    after.split_whitespace().nth(11).and_then(|t| t.parse::<f64>().ok()).unwrap_or(0.0) / 100.0
-}
-
 /// The time of one call in a fixed set of calls, in nanoseconds: the same in every slice.
 fn probe(host: &mut Host, probes: &Pool, tally: &mut Tally) -> Result<f64, String> {
     let mut best = f64::INFINITY;
     for _ in 0..5 {
-        let start = Instant::now();
+        let start = processor();
         for known in &probes.calls {
             host.call(Some(probes.sheet(known)), 0, known.workspace, known.room, false, tally)?;
         }
-        best = best.min(start.elapsed().as_nanos() as f64 / probes.calls.len() as f64);
+        best = best.min((processor() - start) / probes.calls.len() as f64);
     }
     Ok(best)
 }
@@ -402,7 +394,7 @@ fn soak(calls: u64, seed: u64) -> Result<(), String> {
         let mut tally = Tally::default();
         let before = processor();
         slice(calls / SLICES, &mut host, &mut service, &mut random, &mut tally)?;
-        let took = processor() - before;
+        let took = (processor() - before) / 1e9;
         let mut aside = Tally::default();
         let probed = probe(&mut host, &probes, &mut aside)?;
         accepted += tally.refusals[0] + aside.refusals[0];
