@@ -99,3 +99,7 @@ row-right k h = same (getD rows k none) k (at none right rows tt k (omega arith)
 pub row-beyond : (k : ℕ) → 17 < k → rowSays first ≡ tableRow k
 unfolding tableRow kindOf rowOf
 row-beyond k h = rw (List·getD-eq-default kinds Freeze {n = k} (omega arith))
+
+-- what a kind is for, by its name
+pub of-kind : {k k′ : Kind} → k ≡ k′ → rowOf (kindSays k′) .role ≡ rowOf (kindSays k) .role
+of-kind e = sym (ap (λ (x : Kind). rowOf (kindSays x) .role) e)

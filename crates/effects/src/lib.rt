@@ -155,15 +155,33 @@ pub fn row_of(number: u32) -> Row
 pub fn role_of(kind: EffectKind) -> Role
     ensures { λ r. ⌜ roleSays r ≡ rowOf (kindSays kind) .role ⌝ }
 {
-    let row = row_of(kind.number());
-    row.role
+    match kind {
+        EffectKind::Freeze => Role::Nothing,
+        EffectKind::Mutate => Role::Mutation,
+        EffectKind::MutateConditionally => Role::Mutation,
+        EffectKind::MutateTransitive => Role::Mutation,
+        EffectKind::MutateTransitiveConditionally => Role::Mutation,
+        EffectKind::Capture => Role::Relation,
+        EffectKind::Alias => Role::Relation,
+        EffectKind::MaybeAlias => Role::Relation,
+        EffectKind::Assign => Role::Relation,
+        EffectKind::Create => Role::Nothing,
+        EffectKind::CreateFrom => Role::Relation,
+        EffectKind::ImmutableCapture => Role::Nothing,
+        EffectKind::Apply => Role::Nothing,
+        EffectKind::CreateFunction => Role::Nothing,
+        EffectKind::MutateFrozen => Role::Diagnosis,
+        EffectKind::MutateGlobal => Role::Diagnosis,
+        EffectKind::Impure => Role::Diagnosis,
+        EffectKind::Render => Role::Render,
+    }
 }
 
 // The extra word: at most the table's; for CreateFunction below the count of inner functions.
-pub fn extra(c: Cursor, s: &[u32], m: u32, number: u32) -> WordStep
-    ensures { λ r. ⌜ wordSays r ≡ extra m (kindOf number) (now (s .entry)) (c .at) ⌝ }
+fn extra(c: Cursor, s: &[u32], m: u32, row: Row) -> WordStep
+    requires { ⌜ row .extra ≡ rowOf (kindSays (row .kind)) .extra ⌝ }
+    ensures { λ r. ⌜ wordSays r ≡ extra m (kindSays (row .kind)) (now (s .entry)) (c .at) ⌝ }
 {
-    let row = row_of(number);
     let kind = row.kind;
     let most = row.extra;
     if kind.number() == 13 {
@@ -192,7 +210,7 @@ pub fn effect(c: Cursor, s: &[u32], n: u32, m: u32) -> EffectStep
     let kind = row.kind;
     match c1.place_if(s, n, 1 <= row.places) {
         PlaceStep::Got(first, c2) => match c2.place_if(s, n, 2 <= row.places) {
-            PlaceStep::Got(second, c3) => match extra(c3, s, m, number) {
+            PlaceStep::Got(second, c3) => match extra(c3, s, m, row) {
                 WordStep::Got(x, c4) => {
                     let e = AliasingEffect {
                         kind,

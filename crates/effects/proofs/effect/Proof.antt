@@ -1,5 +1,6 @@
 use Prim.Native.Nat.{ℕ}
-use mathlib.Core.Path.{ap}
+use mathlib.Core.Path.{ap, sym, _∙_}
+use Rattle.model.specs.Effects.{rowOf}
 use Rattle.model.specs.Sections.{effect}
 use Rattle.model.specs.Sheet.{EffectKind}
 use Rattle.effects.specs.Table.{TableRow, tableRow}
@@ -40,7 +41,10 @@ enum-known-second : tie.Need-enum-known-second
 enum-known-second c = search needs
 
 extra-requires : tie.Need-extra-requires
-extra-requires c κs = search needs
+unfolding tableRow
+extra-requires c κs =
+    let e = c .before .before .before .before .before .before .before .before .before .before .row-of .ensures in
+    ap (λ (t : TableRow). t .extra) e ∙ ap (λ (x : EffectKind). rowOf x .extra) (sym (ap (λ (t : TableRow). t .kind) e))
 
 enum-known-x : tie.Need-enum-known-x
 enum-known-x c = search needs
@@ -68,10 +72,10 @@ returns-2 c =
     rw (
       says wordSays (b16 .w .given .1) (b18 .at-most .ensures),
       ← ap (λ (t : TableRow). t .places) (b14 .row-of .ensures),
+      ← ap (λ (t : TableRow). t .kind) (b14 .row-of .ensures),
       says placeSays (b10 .first .given .1) (b12 .place-if .ensures),
       says placeSays (b5 .second .given .1) (b7 .place-if2 .ensures),
       says wordSays (c .before .x .given .1) (b3 .extra .ensures),
-      ← ap (λ (t : TableRow). t .kind) (b14 .row-of .ensures),
     )
 
 returns-3 : tie.Need-returns-3
@@ -88,6 +92,7 @@ returns-3 c =
     rw (
       says wordSays (b16 .w .given .1) (b18 .at-most .ensures),
       ← ap (λ (t : TableRow). t .places) (b14 .row-of .ensures),
+      ← ap (λ (t : TableRow). t .kind) (b14 .row-of .ensures),
       says placeSays (b10 .first .given .1) (b12 .place-if .ensures),
       says placeSays (b5 .second .given .1) (b7 .place-if2 .ensures),
       says wordSays (c .before .k4 .given .1) (b3 .extra .ensures),
