@@ -3,18 +3,18 @@ use Prim.Native.Nat.{ℕ, zero, suc, _+_, _-_, _*_, _/_, _%_, _≤_, _<_}
 use native.Mathlib.Omega.{arith}
 use native.Mathlib.Numerals.{add-one}
 use native.Mathlib.Nat.{add-zero, add-suc}
-use mathlib.Core.Bool.{Bool, true, false}
+use mathlib.Core.Bool.{Bool, true, false, true≢false}
 use mathlib.Core.List.{List, [], _∷_, _++_, append-assoc, append-nil}
 use mathlib.Core.Path.{_≡_, refl, sym, ap, subst, _∙_}
-use lib.ListN.{length, getD, set, take, drop, length-set}
-use lib.Seq.{slice, slice-cons, slice-empty, take-set-le, drop-set-lt, getD-drop, append-snoc}
+use lib.ListN.{length, getD, set, take, drop, length-set, take-append-drop}
+use lib.Seq.{slice, slice-cons, slice-empty, take-set-le, drop-set-lt, getD-drop, append-snoc, take-take, drop-append-le, length-take-le}
 use lib.Dec.{eqb}
 use borrow.Author.Tests.{eq-eqb, ne-eqb}
 use Rattle.model.specs.Lists.{pick}
 use Rattle.rows.specs.Rows.{Kept}
 use Rattle.rows.proofs.Parts.{drop-more, drop-word, slice-push, kept-none, kept-set}
-use Rattle.building.specs.Logs.{ownerW, without, anyP}
-use Rattle.building.specs.Held.{Left}
+use Rattle.building.specs.Logs.{ownerW, ownsW, without, anyP}
+use Rattle.building.specs.Held.{Others, Left}
 
 -- ---- a test of every word: what is found and what is left to test decide as the whole does
 pub record Testing (test : ℕ → Bool) (at : ℕ) (ws : List ℕ) (n : ℕ) (found : Bool) (i : ℕ) : Type 0 where
@@ -60,6 +60,45 @@ module _ (test : ℕ → Bool) (at : ℕ) (ws : List ℕ) (n : ℕ) (found : Boo
   pub test-end : Testing test at ws n found i → n ≤ i → found ≡ anyP test (slice at (at + n) ws)
   test-end c h = sym (pick-self found) ∙ ap (pick found true) (sym (none-there (omega (arith, c .mid)))) ∙ c .rest
 
+-- ---- the words of others at the front
+none-both : (test : ℕ → Bool) (l m : List ℕ) → anyP test l ≡ false → anyP test m ≡ false → anyP test (l ++ m) ≡ false
+unfolding anyP
+none-both test [] m p q = q
+none-both test (v ∷ l) m p q = go (none-both test l m) (test v) p
+  where
+    go : (anyP test l ≡ false → anyP test m ≡ false → anyP test (l ++ m) ≡ false) → (b : Bool) → pick b true (anyP test l) ≡ false → pick b true (anyP test (l ++ m)) ≡ false
+    go ih true e = e
+    go ih false e = ih e q
+
+without-others : (t x : ℕ) (l m : List ℕ) → anyP (ownsW t x) l ≡ false → without t x (l ++ m) ≡ l ++ without t x m
+unfolding anyP without
+without-others t x [] m p = refl
+without-others t x (w ∷ l) m p = go (without-others t x l m) (ownsW t x w) p
+  where
+    go : (anyP (ownsW t x) l ≡ false → without t x (l ++ m) ≡ l ++ without t x m) → (b : Bool) → pick b true (anyP (ownsW t x) l) ≡ false
+        → pick b (without t x (l ++ m)) (w ∷ without t x (l ++ m)) ≡ w ∷ (l ++ without t x m)
+    go ih true e = absurd (true≢false e)
+    go ih false e = ap (λ (r : List ℕ). w ∷ r) (ih e)
+
+slice-split : (f m t : ℕ) (l : List ℕ) → f ≤ m → m ≤ t → m ≤ length l → slice f t l ≡ slice f m l ++ slice m t l
+slice-split f m t l h k r =
+    ap (drop f) (sym (take-append-drop m (take t l)) ∙ ap (λ (u : List ℕ). u ++ drop m (take t l)) (take-take m t l k))
+    ∙ drop-append-le f (take m l) (drop m (take t l)) (omega (arith, h, length-take-le m l r))
+
+module _ (t at n x : ℕ) (ws : List ℕ) where
+  pub others-start : Others t at n x ws 0
+  unfolding anyP
+  others-start = record { none = rw (add-zero at, slice-empty at ws); few = omega arith }
+
+  pub others-turn : (i m : ℕ) → at + n ≤ length ws → Others t at n x ws i → i + m ≤ n → false ≡ anyP (ownsW t x) (slice (at + i) (at + i + m) ws) → Others t at n x ws (i + m)
+  others-turn i m size o h e =
+      let q : at + (i + m) ≡ at + i + m = omega arith in
+      record {
+        none = ap (λ (j : ℕ). anyP (ownsW t x) (slice at j ws)) q ∙ ap (anyP (ownsW t x)) (slice-split at (at + i) (at + i + m) ws (omega arith) (omega arith) (omega (arith, size, h)))
+            ∙ none-both (ownsW t x) (slice at (at + i) ws) (slice (at + i) (at + i + m) ws) (o .none) (sym e);
+        few = h;
+      }
+
 -- ---- taking out the words of x
 pub record Leaving (ws₀ : List ℕ) (t at n x : ℕ) (ws : List ℕ) (i k : ℕ) : Type 0 where
   pub fits : at + n ≤ length ws₀
@@ -69,14 +108,14 @@ pub record Leaving (ws₀ : List ℕ) (t at n x : ℕ) (ws : List ℕ) (i k : �
   pub ahead : drop (at + i) ws ≡ drop (at + i) ws₀
   pub done : slice at (at + k) ws ++ without t x (slice (at + i) (at + n) ws₀) ≡ without t x (slice at (at + n) ws₀)
 
-pub leave-start : (ws : List ℕ) (t at n x : ℕ) → at + n ≤ length ws → Leaving ws t at n x ws 0 0
-leave-start ws t at n x h = record {
+pub leave-start : (ws : List ℕ) (t at n x : ℕ) → at + n ≤ length ws → (r : ℕ) → Others t at n x ws r → Leaving ws t at n x ws r r
+leave-start ws t at n x h r o = record {
   fits = h;
-  mid = omega arith;
+  mid = o .few;
   low = omega arith;
   kept = kept-none at (at + n) ws;
   ahead = refl;
-  done = rw (add-zero at, slice-empty at ws);
+  done = sym (ap (without t x) (slice-split at (at + r) (at + n) ws (omega arith) (omega (arith, o .few)) (omega (arith, h, o .few))) ∙ without-others t x (slice at (at + r) ws) (slice (at + r) (at + n) ws) (o .none));
 }
 
 module _ (ws₀ : List ℕ) (t at n x : ℕ) (ws : List ℕ) (i k : ℕ) (c : Leaving ws₀ t at n x ws i k) (h : i < n) where

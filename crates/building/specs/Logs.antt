@@ -29,10 +29,14 @@ graphOfLogs s = tab 512 (nodeOf (s .values) (λ x. sel 0 x (s .edges)) (λ k. se
 unfoldable pub ownerW : ℕ → ℕ → ℕ
 ownerW t w = pick (eqb t 0) (w % 512) (w / 512 % 512)
 
+-- does x hold a word?
+abbrev pub ownsW : ℕ → ℕ → ℕ → Bool
+ownsW t x w = eqb (ownerW t w) x
+
 -- the words that x does not hold
 unfoldable pub without : ℕ → ℕ → List ℕ → List ℕ
 without t x [] = []
-without t x (w ∷ l) = pick (eqb (ownerW t w) x) (without t x l) (w ∷ without t x l)
+without t x (w ∷ l) = pick (ownsW t x w) (without t x l) (w ∷ without t x l)
 
 -- a missing node holds no word
 pub record Clean (s : Logs) : Type 0 where

@@ -10,8 +10,8 @@ ghost use lib.ListN.{length, getD, set};
 ghost use lib.Seq.{slice};
 ghost use Rattle.model.specs.Graph.{hasNode};
 ghost use Rattle.rows.specs.Layout.{LEAST, ENTRIES};
-ghost use Rattle.building.specs.Logs.{packW, ownerW, anyW, edgeG, entryG};
-ghost use Rattle.building.specs.Held.{graphOf, Room, Builds, Left};
+ghost use Rattle.building.specs.Logs.{packW, ownerW, ownsW, anyP, anyW, edgeG, entryG};
+ghost use Rattle.building.specs.Held.{graphOf, Room, Builds, Others, Left};
 
 // A log word.
 pub fn pack(from: u32, into: u32, list: u32, index: u32) -> u32
@@ -45,13 +45,46 @@ fn has_entry(ws: &[u32], n: usize, w: u32) -> bool
     found
 }
 
+// Does x hold one of n words? Looks at every word, as above.
+fn holds(ws: &[u32], t: u32, at: usize, n: usize, x: u32) -> bool
+    requires { ⌜ at + n ≤ length (now ws) ⌝ }
+    ensures { λ r. ⌜ r ≡ anyP (ownsW t x) (slice at (at + n) (now (ws .entry))) ⌝ }
+{
+    let mut found = false;
+    let mut i = 0;
+    while i < n {
+        let w = ws[at + i];
+        i += 1;
+        if owner(t, w) == x {
+            found = true;
+        }
+    }
+    found
+}
+
+// So many words at the front of a log are others', found 16 at a time: mostly x holds none, or its words are the last.
+fn others(ws: &[u32], t: u32, at: usize, n: usize, x: u32) -> usize
+    requires { ⌜ at + n ≤ length (now ws) ⌝ }
+    ensures { λ r. ⌜ Others t at n x (now (ws .entry)) r ⌝ }
+{
+    let mut i = 0;
+    while i + 16 <= n {
+        if holds(ws, t, at + i, 16, x) {
+            return i;
+        }
+        i += 16;
+    }
+    i
+}
+
 // Takes the words that x holds out of a log; the others keep their order.
 pub fn leave(ws: &mut [u32], t: u32, at: usize, n: usize, x: u32) -> usize
     requires { ⌜ at + n ≤ length (now ws) ⌝ }
     ensures { λ r. ⌜ Left t at n x (now (ws .entry)) (now (ws .exit)) r ⌝ }
 {
-    let mut i = 0;
-    let mut k = 0;
+    let first = others(ws, t, at, n, x);
+    let mut i = first;
+    let mut k = first;
     while i < n {
         let w = ws[at + i];
         i += 1;

@@ -7,15 +7,19 @@ use Rattle.building.proofs.logs.leave.Tie as tie
 use Rattle.building.proofs.logs.leave.Reads as reads
 use Rattle.building.proofs.logs.leave.Lts as lts
 use Rattle.building.proofs.logs.owner.Reads as owner-reads
+use Rattle.building.proofs.logs.others.Reads as others-reads
 
 abbrev Inv-loop : tie.InvT-loop
-Inv-loop ws₀ t at n x i₀ k₀ ws i k = Leaving ws₀ t at n x ws i k
+Inv-loop ws₀ t at n x first i₀ k₀ ws i k = Leaving ws₀ t at n x ws i k
 
 abbrev μ-loop : tie.MeasureT-loop
-μ-loop ws₀ t at n x i₀ k₀ ws i k = n - i
+μ-loop ws₀ t at n x first i₀ k₀ ws i k = n - i
+
+others-requires : tie.Need-others-requires Inv-loop μ-loop
+others-requires c κs = c .before .before .pre
 
 loop-holds : tie.Need-loop-holds Inv-loop μ-loop
-loop-holds c = leave-start _ _ _ _ _ (c .before .pre)
+loop-holds c = leave-start _ _ _ _ _ (c .before .before .before .pre) _ (c .others .ensures)
 
 add-w : tie.Need-add-w Inv-loop μ-loop
 add-w c = omega arith
@@ -68,6 +72,7 @@ leave-spec =
     (tie.spec
     Inv-loop
     μ-loop
+    others-requires
     loop-holds
     add-w
     mul-w
