@@ -311,6 +311,16 @@ fn hostile(memory: &mut [u32], good: &[u32], random: &mut Random) -> usize {
     }
 }
 
+unsafe extern "C" {
+    fn malloc_trim(pad: usize) -> std::ffi::c_int;
+}
+
+/// Gives back what the soak's own lists have freed, so that only what is in use is measured.
+fn trim() {
+    // SAFETY: the C library's function takes no pointer and touches freed memory alone.
+    unsafe { malloc_trim(0) };
+}
+
 /// A line of /proc/self/status, in kB.
 fn memory(line: &str) -> u64 {
     let status = std::fs::read_to_string("/proc/self/status").unwrap_or_default();
@@ -402,6 +412,7 @@ fn soak(calls: u64, seed: u64) -> Result<(), String> {
         looked_at += tally.looked_at;
         wrapped |= host.state.next < first;
         let made: u64 = tally.refusals.iter().sum();
+        trim();
         println!(
             "{number} | {made} | {} | {} | {} | {} | {} | {took:.1} | {:.2} | {:.2}",
             tally.refusals[0],
