@@ -1,2 +1,3 @@
 pub mod JudgeLaws
+pub mod KindLaws
 pub mod BlockLaws

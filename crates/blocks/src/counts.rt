@@ -1,6 +1,7 @@
 // What refusal 8 counts.
 ghost use mathlib.Core.Path.{_≡_};
 ghost use mathlib.Core.Bool.{Bool};
+ghost use Rattle.model.specs.Effects.{kindOf};
 ghost use Rattle.hir.specs.Numbers.{kindSays};
 ghost use Rattle.blocks.specs.Judging.{bump, withRelation, withMutation, withRender, tellKind};
 ghost use Rattle.blocks.specs.Says.{totalsAre};
@@ -16,6 +17,33 @@ pub fn bump(x: u32, stop: u32) -> u32
         return x + 1;
     }
     x
+}
+
+// The kind of a number; a number above 17 is refused before.
+pub fn kind_of(number: u32) -> EffectKind
+    ensures { λ r. ⌜ kindSays r ≡ kindOf number ⌝ }
+{
+    match number {
+        0 => EffectKind::Freeze,
+        1 => EffectKind::Mutate,
+        2 => EffectKind::MutateConditionally,
+        3 => EffectKind::MutateTransitive,
+        4 => EffectKind::MutateTransitiveConditionally,
+        5 => EffectKind::Capture,
+        6 => EffectKind::Alias,
+        7 => EffectKind::MaybeAlias,
+        8 => EffectKind::Assign,
+        9 => EffectKind::Create,
+        10 => EffectKind::CreateFrom,
+        11 => EffectKind::ImmutableCapture,
+        12 => EffectKind::Apply,
+        13 => EffectKind::CreateFunction,
+        14 => EffectKind::MutateFrozen,
+        15 => EffectKind::MutateGlobal,
+        16 => EffectKind::Impure,
+        17 => EffectKind::Render,
+        _ => EffectKind::Freeze,
+    }
 }
 
 impl Totals {

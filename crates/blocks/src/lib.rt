@@ -10,7 +10,6 @@ ghost use Rattle.blocks.specs.Judging.{judge, tellEffect, tellInstructio
 ghost use Rattle.blocks.specs.Says.{totalsAre, totalsSays};
 use hir::BlockStep;
 use hir::Cursor;
-use hir::EffectStep;
 use hir::KindStep;
 use hir::OrderStep;
 use hir::PlaceStep;
@@ -57,13 +56,13 @@ pub fn effects(
     }
     let mut t = totals;
     while 0 < left {
-        match effects::effect(c, s, n, m) {
-            EffectStep::Got(e, d2) => {
-                let kind = e.kind;
+        match effects::effect_kind(c, s, n, m) {
+            WordStep::Got(number, d2) => {
+                let kind = counts::kind_of(number);
                 t = t.effect(kind, terminal);
                 c = d2;
             }
-            EffectStep::Refused(k2) => {
+            WordStep::Refused(k2) => {
                 return TotalsStep::Refused(k2);
             }
         }

@@ -1,1 +1,3 @@
 pub mod EffectTable
+pub mod Fits
+pub mod LimitTable
