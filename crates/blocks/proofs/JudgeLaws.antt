@@ -3,15 +3,17 @@ use Prim.Native.Nat.{ℕ, zero, suc, _-_, _≤_, _<_}
 use native.Mathlib.Nat.{not-suc-le-zero, le-of-suc-le-suc}
 use native.Mathlib.Numerals.{sub-one}
 use native.Mathlib.Omega.{arith}
-use mathlib.Core.Path.{_≡_, _∙_, refl, sym, ap}
+use mathlib.Core.Path.{_≡_, _∙_, refl, sym, ap, subst}
 use mathlib.Core.Bool.{Bool, true, false}
 use mathlib.Core.List.{List, [], _∷_}
 use lib.ListN.{length, drop, set}
 use lib.Seq.{drop-length}
+use borrow.Author.Tests.{ne-eqb}
 use Rattle.model.specs.Limits.{mostBlockNumber}
-use Rattle.model.specs.Lists.{pick, each, among}
+use Rattle.model.specs.Lists.{pick, each, among, Every}
 use Rattle.model.specs.Sheet.{BlockId}
 use Rattle.model.specs.Reading.{Position, Result, got, refused, Read, andThen, _>>=_, pure, refuse, count, atMost, newNumber, times, numbered, counted}
+use Rattle.model.proofs.Everywhere.{every-mem}
 use Rattle.blocks.specs.Judging.{mapResult, judge}
 
 module _ {A B : Type 0} (f : Read A) (tell : A → B → B) (b : B) (ws : List ℕ) (c : Position) where
@@ -129,6 +131,22 @@ drop-stored l (suc i) x h g = rw sub-one (go l i g)
     go [] i g = absurd (not-suc-le-zero g)
     go (y ∷ l) zero g = refl
     go (y ∷ l) (suc i) g = go l i (le-of-suc-le-suc g)
+
+-- ---- numbers below a bound
+-- a number from the bound on is none of them
+pub none-above : (v a : ℕ) (l : List ℕ) → a ≤ v → Every (λ (x : ℕ). x < a) l → false ≡ among v l
+none-above v a [] h e = refl
+none-above v a (x ∷ l) h e = rw (ne-eqb v x (λ q. absurd (omega (arith, h, e .0, q)))) (none-above v a l h (e .1))
+
+-- there is none yet
+pub below-none : (a i : ℕ) (l : List ℕ) → length l ≡ i → Every (λ (x : ℕ). x < a) (drop i l)
+below-none a i l e = subst (λ (k : List ℕ). Every (λ (x : ℕ). x < a) k) (sym (drop-length l) ∙ ap (λ (j : ℕ). drop j l) e) tt
+
+-- one more was stored, and the bound was raised
+pub below-stored : (l : List ℕ) (i x a b : ℕ) → 0 < i → i ≤ length l → Every (λ (y : ℕ). y < a) (drop i l) → (a ≤ b) × (x < b) → Every (λ (y : ℕ). y < b) (drop (i - 1) (set l (i - 1) x))
+below-stored l i x a b h g e r =
+    subst (λ (k : List ℕ). Every (λ (y : ℕ). y < b) k) (sym (drop-stored l i x h g))
+    (r .1, every-mem (λ (y : ℕ). y < a) (λ (y : ℕ). y < b) (drop i l) (λ y m q. omega (arith, q, r .0)) e)
 
 module _ {A B : Type 0} (f : BlockId → Read A) (tell : A → B → B) (ws : List ℕ) where
   pub numbered-next : (k : ℕ) (used : List BlockId) (b b1 : B) (c d e : Position) (x : BlockId) → 0 < k → newNumber used ws c ≡ got x d →

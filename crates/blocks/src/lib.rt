@@ -190,6 +190,7 @@ pub fn blocks(start: Cursor, s: &[u32], n: u32, m: u32) -> TotalsStep
     };
     let mut used = [0u32; 256];
     let mut free: usize = 256;
+    let mut above: u32 = 0;
     let mut numbers = [0u32; 1024];
     while 0 < left {
         let number: u32;
@@ -203,9 +204,10 @@ pub fn blocks(start: Cursor, s: &[u32], n: u32, m: u32) -> TotalsStep
                 return TotalsStep::Refused(k2);
             }
         }
-        if phis::listed(&used, free, number) {
+        if phis::repeated(&used, free, above, number) {
             return TotalsStep::Refused(6);
         }
+        above = phis::raised(above, number);
         free -= 1;
         used[free] = number;
         match block(c1, s, n, m, &mut numbers, t, number) {

@@ -1,10 +1,10 @@
 // Phis, whose operands name no predecessor twice.
 ghost use mathlib.Core.Path.{_≡_};
 ghost use mathlib.Core.List.{[]};
-ghost use Prim.Native.Nat.{_≤_};
+ghost use Prim.Native.Nat.{ℕ, _≤_, _<_};
 ghost use lib.ListN.{length, drop};
-ghost use Rattle.model.specs.Limits.{mostCount};
-ghost use Rattle.model.specs.Lists.{each, among};
+ghost use Rattle.model.specs.Limits.{mostCount, mostBlockNumber};
+ghost use Rattle.model.specs.Lists.{each, among, Every};
 ghost use Rattle.model.specs.Reading.{numbered, counted};
 ghost use Rattle.model.specs.Sections.{operand, phi};
 ghost use Rattle.blocks.specs.Judging.{judge, tellOperand, tellPhi};
@@ -30,6 +30,27 @@ pub fn listed(numbers: &[u32], from: usize, number: u32) -> bool
     found
 }
 
+// The same for numbers that are all below `above`. Numbers mostly rise, and then none is looked at.
+pub fn repeated(numbers: &[u32], from: usize, above: u32, number: u32) -> bool
+    requires { ⌜ from ≤ length (now numbers) ⌝ }
+    requires { ⌜ Every (λ (v : ℕ). v < above) (drop from (now numbers)) ⌝ }
+    ensures { λ r. ⌜ r ≡ among number (drop from (now (numbers .entry))) ⌝ }
+{
+    if number < above {
+        listed(numbers, from, number)
+    } else {
+        false
+    }
+}
+
+// A bound that is above a number too.
+pub fn raised(above: u32, number: u32) -> u32
+    requires { ⌜ number ≤ mostBlockNumber ⌝ }
+    ensures { λ r. ⌜ (above ≤ r) × (number < r) ⌝ }
+{
+    if number < above { above } else { number + 1 }
+}
+
 // `count` operands: a predecessor's number that none before had, and a place. The numbers are kept in the lent slice, the last one first.
 fn operands(
     start: Cursor,
@@ -46,6 +67,7 @@ fn operands(
     let mut c = start;
     let mut t = totals;
     let mut free = numbers.len();
+    let mut above: u32 = 0;
     while 0 < left {
         let number: u32;
         let c1: Cursor;
@@ -58,9 +80,10 @@ fn operands(
                 return TotalsStep::Refused(k1);
             }
         }
-        if listed(numbers, free, number) {
+        if repeated(numbers, free, above, number) {
             return TotalsStep::Refused(6);
         }
+        above = raised(above, number);
         free -= 1;
         numbers[free] = number;
         match c1.place(s, n) {

@@ -60,7 +60,7 @@ module _ (test : ℕ → Bool) (at : ℕ) (ws : List ℕ) (n : ℕ) (found : Boo
   pub test-end : Testing test at ws n found i → n ≤ i → found ≡ anyP test (slice at (at + n) ws)
   test-end c h = sym (pick-self found) ∙ ap (pick found true) (sym (none-there (omega (arith, c .mid)))) ∙ c .rest
 
--- ---- the words of others at the front
+-- ---- words at the front of which none passes the test
 none-both : (test : ℕ → Bool) (l m : List ℕ) → anyP test l ≡ false → anyP test m ≡ false → anyP test (l ++ m) ≡ false
 unfolding anyP
 none-both test [] m p q = q
@@ -80,22 +80,22 @@ without-others t x (w ∷ l) m p = go (without-others t x l m) (ownsW t x w) p
     go ih true e = absurd (true≢false e)
     go ih false e = ap (λ (r : List ℕ). w ∷ r) (ih e)
 
-slice-split : (f m t : ℕ) (l : List ℕ) → f ≤ m → m ≤ t → m ≤ length l → slice f t l ≡ slice f m l ++ slice m t l
+pub slice-split : (f m t : ℕ) (l : List ℕ) → f ≤ m → m ≤ t → m ≤ length l → slice f t l ≡ slice f m l ++ slice m t l
 slice-split f m t l h k r =
     ap (drop f) (sym (take-append-drop m (take t l)) ∙ ap (λ (u : List ℕ). u ++ drop m (take t l)) (take-take m t l k))
     ∙ drop-append-le f (take m l) (drop m (take t l)) (omega (arith, h, length-take-le m l r))
 
-module _ (t at n x : ℕ) (ws : List ℕ) where
-  pub others-start : Others t at n x ws 0
+module _ (test : ℕ → Bool) (at n : ℕ) (ws : List ℕ) where
+  pub others-start : Others test at n ws 0
   unfolding anyP
   others-start = record { none = rw (add-zero at, slice-empty at ws); few = omega arith }
 
-  pub others-turn : (i m : ℕ) → at + n ≤ length ws → Others t at n x ws i → i + m ≤ n → false ≡ anyP (ownsW t x) (slice (at + i) (at + i + m) ws) → Others t at n x ws (i + m)
+  pub others-turn : (i m : ℕ) → at + n ≤ length ws → Others test at n ws i → i + m ≤ n → false ≡ anyP test (slice (at + i) (at + i + m) ws) → Others test at n ws (i + m)
   others-turn i m size o h e =
       let q : at + (i + m) ≡ at + i + m = omega arith in
       record {
-        none = ap (λ (j : ℕ). anyP (ownsW t x) (slice at j ws)) q ∙ ap (anyP (ownsW t x)) (slice-split at (at + i) (at + i + m) ws (omega arith) (omega arith) (omega (arith, size, h)))
-            ∙ none-both (ownsW t x) (slice at (at + i) ws) (slice (at + i) (at + i + m) ws) (o .none) (sym e);
+        none = ap (λ (j : ℕ). anyP test (slice at j ws)) q ∙ ap (anyP test) (slice-split at (at + i) (at + i + m) ws (omega arith) (omega arith) (omega (arith, size, h)))
+            ∙ none-both test (slice at (at + i) ws) (slice (at + i) (at + i + m) ws) (o .none) (sym e);
         few = h;
       }
 
@@ -108,7 +108,7 @@ pub record Leaving (ws₀ : List ℕ) (t at n x : ℕ) (ws : List ℕ) (i k : �
   pub ahead : drop (at + i) ws ≡ drop (at + i) ws₀
   pub done : slice at (at + k) ws ++ without t x (slice (at + i) (at + n) ws₀) ≡ without t x (slice at (at + n) ws₀)
 
-pub leave-start : (ws : List ℕ) (t at n x : ℕ) → at + n ≤ length ws → (r : ℕ) → Others t at n x ws r → Leaving ws t at n x ws r r
+pub leave-start : (ws : List ℕ) (t at n x : ℕ) → at + n ≤ length ws → (r : ℕ) → Others (ownsW t x) at n ws r → Leaving ws t at n x ws r r
 leave-start ws t at n x h r o = record {
   fits = h;
   mid = o .few;

@@ -1,31 +1,36 @@
 -- The waiting phi operands.
 use Prim.Native.Nat.{ℕ, zero, suc, _+_, _-_, _*_, _/_, _%_, _≤_, _<_}
 use native.Mathlib.Omega.{arith}
-use mathlib.Core.Bool.{Bool, true, false, not}
+use mathlib.Core.Bool.{Bool, true, false, not, true≢false}
 use mathlib.Core.List.{List, [], _∷_, _++_, append-nil}
 use mathlib.Core.Path.{_≡_, refl, sym, ap, subst, _∙_}
 use lib.ListN.{length, getD, set, take, drop, length-set}
 use lib.Seq.{slice, slice-cons, slice-empty, length-slice, take-set-le, drop-set-lt, append-snoc, getD-drop, take-take, drop-drop}
 use lib.Dec.{eqb}
 use borrow.Author.Tests.{eq-eqb, ne-eqb}
-use Rattle.model.specs.Lists.{keep, each, consIf}
+use Rattle.model.specs.Lists.{pick, keep, each, consIf}
 use Rattle.model.specs.Graph.{Graph, intoAliases, relate}
 use Rattle.model.specs.Built.{Waiting}
 use Rattle.model.specs.Building.{waitingFor}
 use Rattle.rows.specs.Layout.{LEAST, VALUE, FBOUND, EDGES, ENTRIES, PREDS, RELATIONS, HANDED}
 use Rattle.rows.proofs.Parts.{drop-more, take-less, drop-word, slice-at, slice-take, slice-drop, slice-push, slice-before, slice-after, slice-less}
 use Rattle.building.specs.declared.Held.{Held}
-use Rattle.building.specs.Logs.{packW, Logs, graphOfLogs, Clean}
-use Rattle.building.specs.Held.{logsOf, graphOf, operandOf, operandsOf, waitingOf, Room, Builds, Waits, Wakes}
+use Rattle.building.specs.Logs.{packW, Logs, graphOfLogs, anyP, Clean}
+use Rattle.building.specs.Held.{logsOf, graphOf, operandOf, operandsOf, waitingOf, Room, Builds, Others, Waits, Wakes}
 use Rattle.building.proofs.Graphs.{Says, says}
+use Rattle.building.proofs.Loops.{slice-split}
 use Rattle.building.proofs.Writes.{logs-eq}
+
+operands-both : (ps qs ws vs : List ℕ) → length ps ≡ length ws → operandsOf (ps ++ qs) (ws ++ vs) ≡ operandsOf ps ws ++ operandsOf qs vs
+unfolding operandsOf
+operands-both [] qs [] vs e = refl
+operands-both [] qs (w ∷ ws) vs e = absurd (omega arith)
+operands-both (p ∷ ps) qs [] vs e = absurd (omega arith)
+operands-both (p ∷ ps) qs (w ∷ ws) vs e = ap (λ (l : List Waiting). operandOf p w ∷ l) (operands-both ps qs ws vs (omega arith))
 
 waiting-push : (ps ws : List ℕ) (p w : ℕ) → length ps ≡ length ws → operandsOf (ps ++ (p ∷ [])) (ws ++ (w ∷ [])) ≡ operandsOf ps ws ++ (operandOf p w ∷ [])
 unfolding operandsOf
-waiting-push [] [] p w e = refl
-waiting-push [] (v ∷ ws) p w e = absurd (omega arith)
-waiting-push (q ∷ ps) [] p w e = absurd (omega arith)
-waiting-push (q ∷ ps) (v ∷ ws) p w e = ap (λ (l : List Waiting). operandOf q v ∷ l) (waiting-push ps ws p w (omega arith))
+waiting-push ps ws p w e = operands-both ps (p ∷ []) ws (w ∷ []) e
 
 -- the logs are words before PREDS, and the third count is not theirs
 logs-low : (ws ws′ : List ℕ) (e n a b : ℕ) → e ≤ 1024 → n ≤ 1024 → take PREDS ws′ ≡ take PREDS ws → logsOf ws′ (record { edges = e; entries = n; waiting = a }) ≡ logsOf ws (record { edges = e; entries = n; waiting = b })
@@ -115,10 +120,6 @@ ahead-none ws n i q = rw (q, slice-empty (PREDS + n) ws)
 abbrev pub held : ℕ → ℕ → ℕ → Held
 held e m k = record { edges = e; entries = m; waiting = k }
 
-ahead-all : (ws : List ℕ) (e m n : ℕ) → ahead ws n 0 ≡ waitingOf ws (held e m n)
-unfolding ahead waitingOf
-ahead-all ws e m n = refl
-
 kept-all : (ws : List ℕ) (e m k : ℕ) → operandsOf (slice PREDS (PREDS + k) ws) (slice RELATIONS (RELATIONS + k) ws) ≡ waitingOf ws (held e m k)
 unfolding waitingOf
 kept-all ws e m k = refl
@@ -146,10 +147,10 @@ pub record Waking (ws₀ : List ℕ) (block n e₀ m₀ : ℕ) (ws : List ℕ) (
   pub edges : e + left + (n - i) ≤ e₀ + n
   pub entries : m + left + (n - i) ≤ m₀ + n
 
-test-hit : (block p : ℕ) → p ≡ block → eqb block p ≡ true
+pub test-hit : (block p : ℕ) → p ≡ block → eqb block p ≡ true
 test-hit block p e = eq-eqb block p (sym e)
 
-test-miss : (block p : ℕ) → (p ≡ block → ⊥) → eqb block p ≡ false
+pub test-miss : (block p : ℕ) → (p ≡ block → ⊥) → eqb block p ≡ false
 test-miss block p e = ne-eqb block p (λ q. e (sym q))
 
 wake-hit : (block p w : ℕ) (l : List Waiting) (g : Graph) → p ≡ block → wakeAll block (operandOf p w ∷ l) g ≡ wakeAll block l (relate intoAliases (w / 1048576) (w % 512) (w / 512 % 512) g)
@@ -166,29 +167,59 @@ others-hit block p w l e = rw (test-hit block p e)
 others-miss : (block p w : ℕ) (l : List Waiting) → (p ≡ block → ⊥) → keep (others block) (operandOf p w ∷ l) ≡ operandOf p w ∷ keep (others block) l
 others-miss block p w l e = rw (test-miss block p e)
 
-start-none : (ws : List ℕ) (block : ℕ) (l : List Waiting) → operandsOf (slice PREDS (PREDS + 0) ws) (slice RELATIONS (RELATIONS + 0) ws) ++ keep (others block) l ≡ keep (others block) l
-unfolding operandsOf
-start-none ws block l = rw (slice-empty PREDS ws)
-
-pub wake-start : (ws : List ℕ) (block n e m : ℕ) → Room 0 0 ws (held e m n) → Waking ws block n e m ws e m 0 0
-wake-start ws block n e m room = record {
-  room = room;
-  mid = omega arith;
-  few = omega arith;
-  graph = ap (λ (l : List Waiting). wakeAll block l (graphOf ws (held e m 0))) (ahead-all ws e m n) ∙ ap (wakeAll block (waitingOf ws (held e m n))) (graph-low ws ws e m 0 n (omega (arith, room .edges)) (omega (arith, room .entries)) refl);
-  done = start ∙ ap (keep (others block)) (ahead-all ws e m n);
-  clean = room .clean;
-  preds = refl;
-  rels = refl;
-  low = refl;
-  high = refl;
-  same = refl;
-  edges = omega arith;
-  entries = omega arith;
-}
+-- operands of which none waits for the block
+wake-others : (block : ℕ) (ps ws : List ℕ) (m : List Waiting) → anyP (eqb block) ps ≡ false → keep (waitingFor block) (operandsOf ps ws ++ m) ≡ keep (waitingFor block) m
+unfolding anyP operandsOf
+wake-others block [] ws m e = refl
+wake-others block (p ∷ ps) [] m e = refl
+wake-others block (p ∷ ps) (w ∷ ws) m e = go (wake-others block ps ws m) (eqb block p) e
   where
-    start : operandsOf (slice PREDS (PREDS + 0) ws) (slice RELATIONS (RELATIONS + 0) ws) ++ keep (others block) (ahead ws n 0) ≡ keep (others block) (ahead ws n 0)
-    start = start-none ws block (ahead ws n 0)
+    go : (anyP (eqb block) ps ≡ false → keep (waitingFor block) (operandsOf ps ws ++ m) ≡ keep (waitingFor block) m) → (b : Bool) → pick b true (anyP (eqb block) ps) ≡ false
+        → consIf b (operandOf p w) (keep (waitingFor block) (operandsOf ps ws ++ m)) ≡ keep (waitingFor block) m
+    go ih true q = absurd (true≢false q)
+    go ih false q = ih q
+
+keep-others : (block : ℕ) (ps ws : List ℕ) (m : List Waiting) → anyP (eqb block) ps ≡ false → keep (others block) (operandsOf ps ws ++ m) ≡ operandsOf ps ws ++ keep (others block) m
+unfolding anyP operandsOf
+keep-others block [] ws m e = refl
+keep-others block (p ∷ ps) [] m e = refl
+keep-others block (p ∷ ps) (w ∷ ws) m e = go (keep-others block ps ws m) (eqb block p) e
+  where
+    go : (anyP (eqb block) ps ≡ false → keep (others block) (operandsOf ps ws ++ m) ≡ operandsOf ps ws ++ keep (others block) m) → (b : Bool) → pick b true (anyP (eqb block) ps) ≡ false
+        → consIf (not b) (operandOf p w) (keep (others block) (operandsOf ps ws ++ m)) ≡ operandOf p w ∷ (operandsOf ps ws ++ keep (others block) m)
+    go ih true q = absurd (true≢false q)
+    go ih false q = ap (λ (l : List Waiting). operandOf p w ∷ l) (ih q)
+
+module _ (ws : List ℕ) (block n e m : ℕ) (room : Room 0 0 ws (held e m n)) (r : ℕ) (o : Others (eqb block) PREDS n ws r) where
+  parted : waitingOf ws (held e m n) ≡ operandsOf (slice PREDS (PREDS + r) ws) (slice RELATIONS (RELATIONS + r) ws) ++ ahead ws n r
+  unfolding waitingOf ahead
+  parted =
+      ap (λ (l : List ℕ). operandsOf l (slice RELATIONS (RELATIONS + n) ws)) (slice-split PREDS (PREDS + r) (PREDS + n) ws (omega arith) (omega (arith, o .few)) (omega (arith, o .few, room .size, room .edges)))
+      ∙ ap (λ (l : List ℕ). operandsOf (slice PREDS (PREDS + r) ws ++ slice (PREDS + r) (PREDS + n) ws) l) (slice-split RELATIONS (RELATIONS + r) (RELATIONS + n) ws (omega arith) (omega (arith, o .few)) (omega (arith, o .few, room .size, room .edges)))
+      ∙ operands-both (slice PREDS (PREDS + r) ws) (slice (PREDS + r) (PREDS + n) ws) (slice RELATIONS (RELATIONS + r) ws) (slice (RELATIONS + r) (RELATIONS + n) ws)
+      (length-slice PREDS (PREDS + r) ws (omega (arith, o .few, room .size, room .edges)) ∙ omega arith ∙ sym (length-slice RELATIONS (RELATIONS + r) ws (omega (arith, o .few, room .size, room .edges))))
+
+  none-woken : (g : Graph) → wakeAll block (ahead ws n r) g ≡ wakeAll block (waitingOf ws (held e m n)) g
+  unfolding wakeAll
+  none-woken g = ap (λ (l : List Waiting). each (λ (w : Waiting). relate intoAliases (w .index) (w .origin) (w .into)) l g)
+      (sym (ap (keep (waitingFor block)) parted ∙ wake-others block (slice PREDS (PREDS + r) ws) (slice RELATIONS (RELATIONS + r) ws) (ahead ws n r) (o .none)))
+
+  pub wake-start : Waking ws block n e m ws e m r r
+  wake-start = record {
+    room = room;
+    mid = o .few;
+    few = omega arith;
+    graph = none-woken (graphOf ws (held e m 0)) ∙ ap (wakeAll block (waitingOf ws (held e m n))) (graph-low ws ws e m 0 n (omega (arith, room .edges)) (omega (arith, room .entries)) refl);
+    done = sym (ap (keep (others block)) parted ∙ keep-others block (slice PREDS (PREDS + r) ws) (slice RELATIONS (RELATIONS + r) ws) (ahead ws n r) (o .none));
+    clean = room .clean;
+    preds = refl;
+    rels = refl;
+    low = refl;
+    high = refl;
+    same = refl;
+    edges = omega (arith, o .few);
+    entries = omega (arith, o .few);
+  }
 
 module _ (ws₀ : List ℕ) (block n e₀ m₀ : ℕ) (ws : List ℕ) (e m i left : ℕ) (c : Waking ws₀ block n e₀ m₀ ws e m i left) (h : i < n) where
   size : LEAST ≤ length ws

@@ -1,6 +1,6 @@
 -- The alias graph and the waiting phi operands in the lent workspace, by three counts; and what each step of building promises.
 use Prim.Native.Nat.{ℕ, _+_, _*_, _/_, _%_, _≤_, _<_}
-use mathlib.Core.Bool.{false, not}
+use mathlib.Core.Bool.{Bool, false, not}
 use mathlib.Core.List.{List, [], _∷_, _++_}
 use mathlib.Core.Path.{_≡_}
 use lib.ListN.{length, take, drop}
@@ -13,7 +13,7 @@ use Rattle.rows.specs.Layout.{LEAST, VALUE, FBOUND, EDGES, ENTRIES, PREDS, RELA
 use Rattle.rows.specs.Rows.{rowsOf, fb, bb, Indexed, Kept}
 use Rattle.rows.specs.Graph.{graphOfRows}
 use Rattle.building.specs.declared.Held.{Held}
-use Rattle.building.specs.Logs.{Logs, graphOfLogs, ownsW, without, anyP, Clean}
+use Rattle.building.specs.Logs.{Logs, graphOfLogs, without, anyP, Clean}
 
 -- the logs
 abbrev pub logsOf : List ℕ → Held → Logs
@@ -56,9 +56,9 @@ pub record Builds (f : Graph → Graph) (a b : ℕ) (ws : List ℕ) (h : Held) (
   pub high : drop PREDS ws′ ≡ drop PREDS ws
   pub same : length ws′ ≡ length ws
 
--- x holds none of the first r words of a log of n words
-pub record Others (t at n x : ℕ) (ws : List ℕ) (r : ℕ) : Type 0 where
-  pub none : anyP (ownsW t x) (slice at (at + r) ws) ≡ false
+-- of n words none of the first r passes the test
+pub record Others (test : ℕ → Bool) (at n : ℕ) (ws : List ℕ) (r : ℕ) : Type 0 where
+  pub none : anyP test (slice at (at + r) ws) ≡ false
   pub few : r ≤ n
 
 -- the words that x holds are gone from a log of n words, and r are left

@@ -65,7 +65,7 @@ fn holds(ws: &[u32], t: u32, at: usize, n: usize, x: u32) -> bool
 // So many words at the front of a log are others', found 16 at a time: mostly x holds none, or its words are the last.
 fn others(ws: &[u32], t: u32, at: usize, n: usize, x: u32) -> usize
     requires { ⌜ at + n ≤ length (now ws) ⌝ }
-    ensures { λ r. ⌜ Others t at n x (now (ws .entry)) r ⌝ }
+    ensures { λ r. ⌜ Others (ownsW t x) at n (now (ws .entry)) r ⌝ }
 {
     let mut i = 0;
     while i + 16 <= n {

@@ -7,7 +7,11 @@ use rows::RELATIONS;
 ghost use mathlib.Core.Path.{_≡_};
 ghost use Prim.Native.Nat.{ℕ, _+_, _*_, _≤_, _<_};
 ghost use lib.ListN.{length, getD, set};
-ghost use Rattle.building.specs.Held.{Room, Waits, Wakes};
+ghost use lib.Seq.{slice};
+ghost use lib.Dec.{eqb};
+ghost use Rattle.rows.specs.Layout.{PREDS};
+ghost use Rattle.building.specs.Logs.{anyP};
+ghost use Rattle.building.specs.Held.{Room, Others, Waits, Wakes};
 
 // A phi operand waits for the end of the block `predecessor`, with its index.
 pub fn wait(ws: &mut [u32], h: Held, predecessor: u32, index: u32, from: u32, into: u32) -> Held
@@ -28,6 +32,38 @@ pub fn wait(ws: &mut [u32], h: Held, predecessor: u32, index: u32, from: u32, in
     }
 }
 
+// Does one of n operands wait for the block? Looks at every predecessor, so that the loop is compiled to vectors.
+fn one_waits(ws: &[u32], at: usize, n: usize, block: u32) -> bool
+    requires { ⌜ at + n ≤ length (now ws) ⌝ }
+    ensures { λ r. ⌜ r ≡ anyP (eqb block) (slice at (at + n) (now (ws .entry))) ⌝ }
+{
+    let mut found = false;
+    let mut i = 0;
+    while i < n {
+        let predecessor = ws[at + i];
+        i += 1;
+        if predecessor == block {
+            found = true;
+        }
+    }
+    found
+}
+
+// So many operands at the front wait for other blocks, found 16 at a time: at most ends of a block none waits for it.
+fn others(ws: &[u32], n: usize, block: u32) -> usize
+    requires { ⌜ PREDS + n ≤ length (now ws) ⌝ }
+    ensures { λ r. ⌜ Others (eqb block) PREDS n (now (ws .entry)) r ⌝ }
+{
+    let mut i = 0;
+    while i + 16 <= n {
+        if one_waits(ws, PREDS + i, 16, block) {
+            return i;
+        }
+        i += 16;
+    }
+    i
+}
+
 // The end of a block: stores those that wait for it, in order; the others go on waiting.
 pub fn wake(ws: &mut [u32], h: Held, block: u32) -> Held
     requires { ⌜ Room 0 0 (now ws) h ⌝ }
@@ -36,8 +72,9 @@ pub fn wake(ws: &mut [u32], h: Held, block: u32) -> Held
     let n = h.waiting;
     let mut edges = h.edges;
     let mut entries = h.entries;
-    let mut i = 0;
-    let mut left = 0;
+    let first = others(ws, n, block);
+    let mut i = first;
+    let mut left = first;
     while i < n {
         let predecessor = ws[PREDS + i];
         let w = ws[RELATIONS + i];

@@ -1,28 +1,30 @@
 use Rattle.blocks.proofs.BlockLaws.{blocks-got, blocks-refused}
-use Rattle.blocks.proofs.JudgeLaws.{numbered-next, numbered-refused, numbered-stop, numbered-done, new-got, new-used, new-refused, nothing-used, one-stored}
+use Rattle.blocks.proofs.JudgeLaws.{numbered-next, numbered-refused, numbered-stop, numbered-done, new-got, new-used, new-refused, nothing-used, one-stored, below-none, below-stored}
 use Rattle.blocks.specs.Says.{totalsAre, totalsSays}
 use Rattle.blocks.specs.Judging.{judge, tellBlock}
 use Rattle.hir.specs.Says.{wordSays, blockSays}
 use Rattle.model.proofs.ReadLaws.{count-reads}
 use Rattle.model.specs.Sections.{block}
 use Rattle.model.specs.Reading.{numbered}
-use Rattle.model.specs.Lists.{each}
+use Rattle.model.specs.Lists.{each, Every}
 use lib.ListN.{length, drop, length-set, replicate}
 use mathlib.Core.List.{[]}
-use Prim.Native.Nat.{_≤_}
+use Prim.Native.Nat.{ℕ, _≤_, _<_}
 use native.Mathlib.Omega.{arith}
 use mathlib.Core.Path.{_≡_, _∙_, sym, refl}
 use borrow.Author.Needs.{needs}
 use Rattle.hir.proofs.Answers.{says}
+use Rattle.hir.proofs.Ranges.{at-most-reads}
+use Rattle.model.specs.Limits.{mostBlockNumber}
 use Rattle.blocks.proofs.blocks.Statement.{statement}
 use Rattle.blocks.proofs.blocks.Tie as tie
 
 abbrev Inv-loop : tie.InvT-loop
-Inv-loop s n m left₀ c₀ t₀ used₀ free₀ numbers₀ left c t used free numbers = (judge (numbered left₀ [] (block n m)) (each tellBlock) (totalsAre t₀) s (c₀ .at)
-    ≡ judge (numbered left (drop free used) (block n m)) (each tellBlock) (totalsAre t) s (c .at)) × (left ≤ free) × (free ≤ 256) × (length used ≡ 256) × (length numbers ≡ 1024)
+Inv-loop s n m left₀ c₀ t₀ used₀ free₀ above₀ numbers₀ left c t used free above numbers = (judge (numbered left₀ [] (block n m)) (each tellBlock) (totalsAre t₀) s (c₀ .at)
+    ≡ judge (numbered left (drop free used) (block n m)) (each tellBlock) (totalsAre t) s (c .at)) × (left ≤ free) × (free ≤ 256) × (length used ≡ 256) × (length numbers ≡ 1024) × Every (λ (v : ℕ). v < above) (drop free used)
 
 abbrev μ-loop : tie.MeasureT-loop
-μ-loop s n m left₀ c₀ t₀ used₀ free₀ numbers₀ left c t used free numbers = left
+μ-loop s n m left₀ c₀ t₀ used₀ free₀ above₀ numbers₀ left c t used free above numbers = left
 
 count-requires : tie.Need-count-requires Inv-loop μ-loop
 count-requires c κs = tt
@@ -41,7 +43,7 @@ returns c =
 loop-holds : tie.Need-loop-holds Inv-loop μ-loop
 loop-holds c =
     let b3 = c .before .before .before in
-    (nothing-used _ _ _ _ (replicate 256 0) 256 _ _ refl, count-reads 256 _ _ _ _ (says wordSays (c .before .count2 .given .1) (b3 .count .ensures)), omega arith, refl, refl)
+    (nothing-used _ _ _ _ (replicate 256 0) 256 _ _ refl, count-reads 256 _ _ _ _ (says wordSays (c .before .count2 .given .1) (b3 .count .ensures)), omega arith, refl, refl, below-none 0 256 (replicate 256 0) refl)
 
 block-number-requires : tie.Need-block-number-requires Inv-loop μ-loop
 block-number-requires c κs = tt
@@ -63,15 +65,15 @@ returns-2 c =
     ∙ b5 .loop .inv .0
     ∙ numbered-refused _ _ _ _ _ _ _ _ (b4 .loop-test .taken) (new-refused _ _ _ _ (says blockSays (c .before .k2 .given .1) (b3 .block-number .ensures))))
 
-slice-aggregate-listed : tie.Need-slice-aggregate-listed Inv-loop μ-loop
-slice-aggregate-listed c =
+slice-aggregate-repeated : tie.Need-slice-aggregate-repeated Inv-loop μ-loop
+slice-aggregate-repeated c =
     let b6 = c .before .before .before .before .before .before in
     sym (b6 .loop .inv .3)
 
-listed-requires : tie.Need-listed-requires Inv-loop μ-loop
-listed-requires c κs =
+repeated-requires : tie.Need-repeated-requires Inv-loop μ-loop
+repeated-requires c κs =
     let b6 = c .before .before .before .before .before .before in
-    omega (arith, b6 .loop .inv .3)
+    (omega (arith, b6 .loop .inv .3), b6 .loop .inv .5)
 
 returns-3 : tie.Need-returns-3 Inv-loop μ-loop
 returns-3 c =
@@ -83,8 +85,13 @@ returns-3 c =
     let b12 = b10 .before .before in
     sym (blocks-got _ _ _ _ _ _ _ (says wordSays (b10 .count2 .given .1) (b12 .count .ensures))
     ∙ b8 .loop .inv .0
-    ∙ numbered-refused _ _ _ _ _ _ _ _ (b7 .loop-test .taken) (new-used _ _ _ _ _ (says blockSays (b4 .b .given .1) (b6 .block-number .ensures)) (sym (c .before .listed .ensures)
+    ∙ numbered-refused _ _ _ _ _ _ _ _ (b7 .loop-test .taken) (new-used _ _ _ _ _ (says blockSays (b4 .b .given .1) (b6 .block-number .ensures)) (sym (c .before .repeated .ensures)
     ∙ c .if1 .taken)))
+
+raised-requires : tie.Need-raised-requires Inv-loop μ-loop
+raised-requires c κs =
+    let b4 = c .before .before .before .before in
+    at-most-reads mostBlockNumber _ _ _ _ (says blockSays (b4 .b .given .1) (b4 .before .before .block-number .ensures))
 
 sub-free : tie.Need-sub-free Inv-loop μ-loop
 sub-free c = omega arith
@@ -97,13 +104,13 @@ array-write-used c = omega arith
 
 slice-aggregate-block : tie.Need-slice-aggregate-block Inv-loop μ-loop
 slice-aggregate-block c =
-    let b9 = c .before .before .before .before .before .before .before .before .before in
-    sym (b9 .loop .inv .4)
+    let b10 = c .before .before .before .before .before .before .before .before .before .before in
+    sym (b10 .loop .inv .4)
 
 block-requires : tie.Need-block-requires Inv-loop μ-loop
 block-requires c κs =
-    let b9 = c .before .before .before .before .before .before .before .before .before in
-    omega (arith, b9 .loop .inv .4)
+    let b10 = c .before .before .before .before .before .before .before .before .before .before in
+    omega (arith, b10 .loop .inv .4)
 
 enum-known-u : tie.Need-enum-known-u Inv-loop μ-loop
 enum-known-u c = search needs
@@ -114,18 +121,18 @@ enum-known-k3 c = search needs
 returns-4 : tie.Need-returns-4 Inv-loop μ-loop
 returns-4 c =
     let b4 = c .before .before .before .before in
-    let b6 = b4 .before .before in
-    let b7 = b6 .before in
-    let b10 = b7 .before .before .before in
-    let b12 = b10 .before .before in
-    let b13 = b12 .before in
+    let b7 = b4 .before .before .before in
+    let b8 = b7 .before in
+    let b11 = b8 .before .before .before in
+    let b13 = b11 .before .before in
     let b14 = b13 .before in
-    let b16 = b14 .before .before in
-    let b18 = b16 .before .before in
-    sym (blocks-got _ _ _ _ _ _ _ (says wordSays (b16 .count2 .given .1) (b18 .count .ensures))
-    ∙ b14 .loop .inv .0
-    ∙ numbered-stop _ _ _ _ _ _ _ _ _ _ (b13 .loop-test .taken) (new-got _ _ _ _ _ (says blockSays (b10 .b .given .1) (b12 .block-number .ensures)) (sym (b7 .listed .ensures)
-    ∙ b6 .if1 .left)) (says totalsSays (c .before .k3 .given .1) (b4 .block .ensures)))
+    let b15 = b14 .before in
+    let b17 = b15 .before .before in
+    let b19 = b17 .before .before in
+    sym (blocks-got _ _ _ _ _ _ _ (says wordSays (b17 .count2 .given .1) (b19 .count .ensures))
+    ∙ b15 .loop .inv .0
+    ∙ numbered-stop _ _ _ _ _ _ _ _ _ _ (b14 .loop-test .taken) (new-got _ _ _ _ _ (says blockSays (b11 .b .given .1) (b13 .block-number .ensures)) (sym (b8 .repeated .ensures)
+    ∙ b7 .if1 .left)) (says totalsSays (c .before .k3 .given .1) (b4 .block .ensures)))
 
 sub-left : tie.Need-sub-left Inv-loop μ-loop
 sub-left c = omega arith
@@ -139,13 +146,14 @@ loop-again c =
     let b4 = b3 .before in
     let b6 = b4 .before .before in
     let b7 = b6 .before in
-    let b10 = b7 .before .before .before in
-    let b12 = b10 .before .before in
-    let b13 = b12 .before in
+    let b8 = b7 .before in
+    let b11 = b8 .before .before .before in
+    let b13 = b11 .before .before in
     let b14 = b13 .before in
-    let l = b14 .loop in
+    let b15 = b14 .before in
+    let l = b15 .loop in
     let e : length (l .used) ≡ 256 = l .inv .3 in
-    (l .inv .0 ∙ numbered-next _ _ _ _ _ _ _ _ _ _ _ (b13 .loop-test .taken) (new-got _ _ _ _ _ (says blockSays (b10 .b .given .1) (b12 .block-number .ensures)) (sym (b7 .listed .ensures) ∙ b6 .if1 .left)) (says totalsSays (c .before .u .given .1) (b4 .block .ensures)) ∙ one-stored _ _ _ _ (l .used) (l .free) _ _ _ (omega arith) (omega arith), omega arith, omega arith, simp length-set e, b3 .numbers2 .given)
+    (l .inv .0 ∙ numbered-next _ _ _ _ _ _ _ _ _ _ _ (b14 .loop-test .taken) (new-got _ _ _ _ _ (says blockSays (b11 .b .given .1) (b13 .block-number .ensures)) (sym (b8 .repeated .ensures) ∙ b7 .if1 .left)) (says totalsSays (c .before .u .given .1) (b4 .block .ensures)) ∙ one-stored _ _ _ _ (l .used) (l .free) _ _ _ (omega arith) (omega arith), omega arith, omega arith, simp length-set e, b3 .numbers2 .given, below-stored (l .used) (l .free) _ _ _ (omega arith) (omega arith) (l .inv .5) (b6 .raised .ensures))
 
 returns-5 : tie.Need-returns-5 Inv-loop μ-loop
 returns-5 c =
@@ -170,9 +178,10 @@ blocks-spec =
     enum-known-b
     enum-known-k2
     returns-2
-    slice-aggregate-listed
-    listed-requires
+    slice-aggregate-repeated
+    repeated-requires
     returns-3
+    raised-requires
     sub-free
     mul-used
     array-write-used

@@ -1,3 +1,4 @@
+use Rattle.building.specs.Logs.{ownsW}
 use Rattle.building.specs.Held.{Others}
 use Rattle.building.proofs.Loops.{others-start, others-turn}
 use mathlib.Core.Path.{sym, _∙_}
@@ -10,13 +11,13 @@ use Rattle.building.proofs.logs.others.Lts as lts
 use Rattle.building.proofs.logs.holds.Reads as holds-reads
 
 abbrev Inv-loop : tie.InvT-loop
-Inv-loop ws t at n x i₀ i = Others t at n x ws i
+Inv-loop ws t at n x i₀ i = Others (ownsW t x) at n ws i
 
 abbrev μ-loop : tie.MeasureT-loop
 μ-loop ws t at n x i₀ i = n - i
 
 loop-holds : tie.Need-loop-holds Inv-loop μ-loop
-loop-holds c = others-start _ _ _ _ _
+loop-holds c = others-start _ _ _ _
 
 add-loop : tie.Need-add-loop Inv-loop μ-loop
 add-loop c = omega arith
@@ -37,7 +38,7 @@ loop-less : tie.Need-loop-less Inv-loop μ-loop
 loop-less c = omega arith
 
 loop-again : tie.Need-loop-again Inv-loop μ-loop
-loop-again c = others-turn _ _ _ _ _ _ 16 (c .before .before .before .before .before .pre) (c .before .before .before .loop .inv) (c .before .before .loop-test .taken) (sym (c .if1 .left) ∙ c .before .holds .ensures)
+loop-again c = others-turn _ _ _ _ _ 16 (c .before .before .before .before .before .pre) (c .before .before .before .loop .inv) (c .before .before .loop-test .taken) (sym (c .if1 .left) ∙ c .before .holds .ensures)
 
 returns-2 : tie.Need-returns-2 Inv-loop μ-loop
 returns-2 c = c .before .loop .inv

@@ -9,15 +9,19 @@ use Rattle.building.proofs.waiting.wake.Tie as tie
 use Rattle.building.proofs.waiting.wake.Reads as reads
 use Rattle.building.proofs.waiting.wake.Lts as lts
 use Rattle.building.proofs.graph.store.Reads as store-reads
+use Rattle.building.proofs.waiting.others.Reads as others-reads
 
 abbrev Inv-loop : tie.InvT-loop
-Inv-loop ws₀ block n edges₀ entries₀ i₀ left₀ ws edges entries i left = Waking ws₀ block n edges₀ entries₀ ws edges entries i left
+Inv-loop ws₀ block n edges₀ entries₀ first i₀ left₀ ws edges entries i left = Waking ws₀ block n edges₀ entries₀ ws edges entries i left
 
 abbrev μ-loop : tie.MeasureT-loop
-μ-loop ws₀ block n edges₀ entries₀ i₀ left₀ ws edges entries i left = n - i
+μ-loop ws₀ block n edges₀ entries₀ first i₀ left₀ ws edges entries i left = n - i
+
+others-requires : tie.Need-others-requires Inv-loop μ-loop
+others-requires c κs = omega arith
 
 loop-holds : tie.Need-loop-holds Inv-loop μ-loop
-loop-holds c = wake-start _ _ _ _ _ (c .before .pre)
+loop-holds c = wake-start _ _ _ _ _ (c .before .before .before .pre) _ (c .others .ensures)
 
 add-predecessor : tie.Need-add-predecessor Inv-loop μ-loop
 add-predecessor c = omega arith
@@ -100,6 +104,7 @@ wake-spec =
     (tie.spec
     Inv-loop
     μ-loop
+    others-requires
     loop-holds
     add-predecessor
     mul-predecessor

@@ -1,0 +1,22 @@
+use Rattle.blocks.proofs.JudgeLaws.{none-above}
+use lib.ListN.{drop}
+use borrow.Author.Needs.{needs}
+use Rattle.blocks.proofs.phis.repeated.Statement.{statement}
+use Rattle.blocks.proofs.phis.repeated.Tie as tie
+use Rattle.blocks.proofs.phis.repeated.Reads as reads
+use Rattle.blocks.proofs.phis.repeated.Lts as lts
+use Rattle.blocks.proofs.phis.listed.Reads as listed-reads
+
+listed-requires : tie.Need-listed-requires
+listed-requires c κs = search needs
+
+returns : tie.Need-returns
+returns c = search needs
+
+returns-2 : tie.Need-returns-2
+returns-2 c =
+    let b2 = c .before .before in
+    none-above _ _ (drop (b2 .args .from) (b2 .args .numbers .now)) (c .if1 .left) (b2 .pre .1)
+
+pub repeated-spec : {M : Type 1} → statement M
+repeated-spec = tie.close (tie.spec listed-requires returns returns-2)
