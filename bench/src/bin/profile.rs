@@ -10,7 +10,12 @@ fn main() {
     let calls: usize = std::env::args().nth(2).map_or(100_000, |c| c.parse().expect("a number"));
     let mut random = Random::new(1);
     let sheets: Vec<Vec<u32>> = match kind.as_str() {
-        "small" => (0..500).map(|_| { let n = random.between(10, 60); shapes::panel(&mut random, n).words() }).collect(),
+        "small" => (0..500)
+            .map(|_| {
+                let n = random.between(10, 60);
+                shapes::panel(&mut random, n).words()
+            })
+            .collect(),
         _ => (0..2000).map(|_| generate::sheet(&mut random).words()).collect(),
     };
     println!("{} words on average", sheets.iter().map(Vec::len).sum::<usize>() / sheets.len());
