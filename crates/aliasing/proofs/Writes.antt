@@ -3,7 +3,7 @@ use Prim.Native.Nat.{ℕ, zero, suc, _+_, _-_, _<_, max}
 use native.Mathlib.Omega.{arith}
 use mathlib.Core.Bool.{Bool, true, false}
 use mathlib.Core.List.{List}
-use mathlib.Core.Path.{_≡_, refl, _∙_}
+use mathlib.Core.Path.{_≡_, refl, sym, _∙_}
 use lib.ListN.{length, getD, set, length-set}
 use lib.Seq.{getD-set-same, getD-set-other}
 use lib.Dec.{ltb, eqb}
@@ -42,6 +42,15 @@ module _ (l : List ℕ) (i v : ℕ) where
       go : (b : Bool) → ltb (getD l i 0) v ≡ b → pick b v (getD l i 0) ≡ max (getD l i 0) v
       go true e = omega (arith, ltb-true (getD l i 0) v e)
       go false e = omega (arith, ltb-false (getD l i 0) v e)
+
+-- nothing is below 0, and so an unset end moves none
+pub raise-unset : (l : List ℕ) (i v : ℕ) (t : Bool) → t ≡ eqb v 0 → t ≡ true → l ≡ raiseW l i v
+unfolding raiseW
+raise-unset l i v t e h = go (ltb (getD l i 0) v) refl
+  where
+    go : (b : Bool) → ltb (getD l i 0) v ≡ b → l ≡ pick b (set l i v) l
+    go true f = absurd (omega (arith, ltb-true (getD l i 0) v f, eqb-true v 0 (sym e ∙ h)))
+    go false f = refl
 
 -- ---- the first
 -- v where there was nothing

@@ -68,6 +68,17 @@ fn raise(ws: &mut [u32], at: usize, v: u32)
     }
 }
 
+// The end at `at` becomes the larger of itself and this one; an unset end moves none.
+fn raise_end(ws: &mut [u32], at: usize, end: EvaluationOrder)
+    requires { ⌜ at < length (now ws) ⌝ }
+    ensures { λ _. ⌜ now (ws .exit) ≡ raiseW (now (ws .entry)) at (end .0) ⌝ }
+{
+    if end.is_unset() {
+        return;
+    }
+    raise(ws, at, end.0);
+}
+
 // ws[at] becomes v where it is 0.
 fn first(ws: &mut [u32], at: usize, v: u32)
     requires { ⌜ at < length (now ws) ⌝ }
@@ -94,9 +105,10 @@ fn accept(ws: &mut [u32], x: usize, transitive: u32, level: u32, m: Mutation)
     requires { ⌜ (x < 512) × (LEAST ≤ length (now ws)) ⌝ }
     ensures { λ _. ⌜ now (ws .exit) ≡ acceptW (now (ws .entry)) x transitive level m ⌝ }
 {
+    let end = m.end;
     first(ws, REASON + x, m.reason);
     raise(ws, LAST + x, m.index);
-    raise(ws, END + x, m.end.0);
+    raise_end(ws, END + x, end);
     if transitive == 1 {
         record_kind(ws, TKIND + x, level, m.span);
     } else {

@@ -7,6 +7,7 @@ use Rattle.aliasing.proofs.accept.Reads as reads
 use Rattle.aliasing.proofs.accept.Lts as lts
 use Rattle.aliasing.proofs.first.Reads as first-reads
 use Rattle.aliasing.proofs.raise.Reads as raise-reads
+use Rattle.aliasing.proofs.raise_end.Reads as raise-end-reads
 use Rattle.aliasing.proofs.record_kind.Reads as record-kind-reads
 
 add-first : tie.Need-add-first
@@ -21,11 +22,11 @@ add-raise c = search needs
 raise-requires : tie.Need-raise-requires
 raise-requires c κs = search needs
 
-add-raise-2 : tie.Need-add-raise-2
-add-raise-2 c = search needs
+add-raise-end : tie.Need-add-raise-end
+add-raise-end c = search needs
 
-raise-requires-2 : tie.Need-raise-requires-2
-raise-requires-2 c κs = search needs
+raise-end-requires : tie.Need-raise-end-requires
+raise-end-requires c κs = search needs
 
 add-record-kind : tie.Need-add-record-kind
 add-record-kind c = search needs
@@ -65,8 +66,8 @@ accept-spec =
     first-requires
     add-raise
     raise-requires
-    add-raise-2
-    raise-requires-2
+    add-raise-end
+    raise-end-requires
     add-record-kind
     record-kind-requires
     add-record-kind-2

@@ -1,0 +1,27 @@
+use Rattle.aliasing.proofs.Writes.{raise-unset}
+use borrow.Author.Needs.{needs}
+use Rattle.aliasing.proofs.raise_end.Statement.{statement}
+use Rattle.aliasing.proofs.raise_end.Tie as tie
+use Rattle.aliasing.proofs.raise_end.Reads as reads
+use Rattle.aliasing.proofs.raise_end.Lts as lts
+use Rattle.aliasing.proofs.raise.Reads as raise-reads
+use Rattle.hir.proofs.EvaluationOrder.is_unset.Reads as is-unset-reads
+
+is-unset-requires : tie.Need-is-unset-requires
+is-unset-requires c κs = search needs
+
+returns : tie.Need-returns
+returns c = raise-unset _ _ _ _ (c .before .is-unset .ensures) (c .if1 .taken)
+
+raise-requires : tie.Need-raise-requires
+raise-requires c κs = search needs
+
+same-length : tie.Need-same-length
+same-length c = search needs
+
+returns-2 : tie.Need-returns-2
+returns-2 c = search needs
+
+pub raise-end-spec : {M : Type 1} → statement M
+raise-end-spec =
+    tie.close (tie.spec is-unset-requires returns raise-requires same-length returns-2)
