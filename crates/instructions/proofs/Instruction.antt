@@ -1,7 +1,8 @@
 -- An instruction: its order, then its effects.
-use Prim.Native.Nat.{ℕ}
+use Prim.Native.Nat.{ℕ, _+_, _≤_}
 use mathlib.Core.Path.{_≡_}
 use mathlib.Core.List.{List}
+use lib.ListN.{length}
 use Rattle.model.specs.Limits.{mostOrder, mostCount}
 use Rattle.model.specs.Lists.{each}
 use Rattle.model.specs.Sheet.{EvaluationOrder, EffectList, Instruction}
@@ -13,6 +14,8 @@ use Rattle.instructions.specs.declared.BuildStep.{BuildStep}
 use Rattle.instructions.specs.Cost.{costs, effectCost, instructionCost}
 use Rattle.instructions.specs.Builds.{effectStep, Ready, Builds}
 use Rattle.instructions.proofs.Gots.{then-is, then-refused, counted-is, counted-refused}
+use Rattle.instructions.specs.InPlace.{wordAt}
+use Rattle.instructions.proofs.InPlace.{counted-inside, counted-here}
 use Rattle.instructions.proofs.Building.{ready-as, builds-as, last-ready, last-builds}
 
 -- the effects after their count
@@ -23,6 +26,16 @@ effects-are n m s c q = counted-is mostCount (effect n m) s c q
 pub effects-refused : (n m : ℕ) (s : List ℕ) (c : Position) {k : ℕ} → count mostCount s c ≡ refused k → effects n m s c ≡ refused k
 unfolding effects
 effects-refused n m s c q = counted-refused mostCount (effect n m) s c q
+
+-- their count is the first word
+module _ (n m : ℕ) (s : List ℕ) (c : Position) {l : EffectList} {d : Position} (e : effects n m s c ≡ got l d) where
+  pub effects-inside : c + 1 ≤ length s
+  unfolding effects
+  effects-inside = counted-inside mostCount (effect n m) s c e
+
+  pub effects-here : effects n m s c ≡ times (wordAt s c) (effect n m) s (c + 1)
+  unfolding effects
+  effects-here = counted-here mostCount (effect n m) s c e
 
 -- the instruction after its order
 abbrev withOrder : EvaluationOrder → EffectList → Instruction
