@@ -4,20 +4,19 @@ use native.Mathlib.Omega.{arith}
 use mathlib.Core.Path.{_≡_, refl, sym, subst, ap, _∙_}
 use mathlib.Core.Bool.{Bool, true, false}
 use mathlib.Core.List.{List}
-use borrow.Author.Tests.{eq-eqb, ne-eqb}
+use lib.Dec.{eqb}
+use borrow.Author.Tests.{ne-eqb}
 use Rattle.model.specs.Limits.{mostOrder, mostTerminal, mostRelations}
 use Rattle.model.specs.Lists.{pick, each, oneIf}
 use Rattle.model.specs.Sheet.{EvaluationOrder, Place, Effect, EffectList, Other, Return, MaybeThrow}
-use Rattle.model.specs.Effects.{rowOf, isAlias}
+use Rattle.model.specs.Effects.{kindOf, rowOf, isAlias}
 use Rattle.model.specs.Totals.{aliasesIn}
 use Rattle.model.specs.Reading.{Position, got, refused, andThen, atMost}
 use Rattle.model.specs.Sections.{place, effects, terminalOf, terminal}
 use Rattle.model.specs.Graph.{intoAliases, relate}
 use Rattle.model.specs.Built.{Built, between}
 use Rattle.model.specs.Building.{terminalEffect, terminal as terminalStep}
-use Rattle.hir.specs.Numbers.{terminalNumber, kindSays, kindNumber}
-use Rattle.hir.specs.declared.EffectKind.{EffectKind}
-use Rattle.hir.proofs.EffectKinds.{number-same}
+use Rattle.hir.specs.Numbers.{terminalNumber}
 use Rattle.hir.specs.declared.Cursor.{Cursor}
 use Rattle.hir.specs.declared.TerminalKind.{TerminalKind}
 use Rattle.building.specs.declared.Building.{Building}
@@ -28,6 +27,7 @@ use Rattle.instructions.specs.Cost.{relationsOnly, sum, costs, terminalE
 use Rattle.instructions.specs.Builds.{Spends, Ready, Builds}
 use Rattle.instructions.proofs.Gots.{then-is, then-refused}
 use Rattle.instructions.proofs.Spending.{spends-none, cost-eq, costs-relations}
+use Rattle.instructions.proofs.Effect.{number-row}
 use Rattle.instructions.proofs.Building.{step-builds, ready-as, builds-as, cost-ready, cost-builds, last-ready, last-builds, after-ready, after-builds}
 
 -- what the effects spend
@@ -108,11 +108,12 @@ module _ (n m : ℕ) (s : List ℕ) (r : Place) (o : EvaluationOrder) {ws : List
           (after-builds (relationsOnly 1) (costs terminalEffectCost) (λ (l : EffectList). terminalCost (Return o p l)) (returns-cost o p) x (each terminalEffect) h))
 
 -- an Alias is known by its number
-pub is-alias : (k : EffectKind) (n : ℕ) → n ≡ kindNumber k → n ≡ 6 → isAlias (kindSays k) ≡ true
-is-alias k n p q = eq-eqb (rowOf (kindSays k) .number) 6 (number-same k ∙ sym p ∙ q)
+pub is-alias : (k : ℕ) → k ≡ 6 → isAlias (kindOf k) ≡ true
+unfolding kindOf rowOf
+is-alias k q = ap (λ (k : ℕ). isAlias (kindOf k)) q
 
-pub not-alias : (k : EffectKind) (n : ℕ) → n ≡ kindNumber k → (n ≡ 6 → ⊥) → isAlias (kindSays k) ≡ false
-not-alias k n p q = ne-eqb (rowOf (kindSays k) .number) 6 (λ e. q (p ∙ sym (number-same k) ∙ e))
+pub not-alias : (k : ℕ) → (k ≡ 6 → ⊥) → isAlias (kindOf k) ≡ false
+not-alias k q = number-row (λ (x : ℕ). eqb x 6 ≡ false) k (ne-eqb k 6 q) refl
 
 -- an effect of a terminal: an Alias, or one that does nothing
 pub alias-fits : (e : Effect) {b : Building} → isAlias (e .kind) ≡ true → Fits (terminalEffectCost e) b → b .relations < mostRelations

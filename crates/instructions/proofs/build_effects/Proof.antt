@@ -1,16 +1,15 @@
 use native.Mathlib.Omega.{arith}
 use mathlib.Core.Path.{refl}
-use Rattle.model.specs.Limits.{mostCount}
 use Rattle.model.specs.Reading.{times}
-use Rattle.model.specs.Sections.{effect, effects}
+use Rattle.model.specs.Sections.{effect}
 use Rattle.instructions.specs.Cost.{effectCost}
 use Rattle.instructions.specs.InPlace.{effectAt}
-use Rattle.instructions.specs.Builds.{effectStep}
-use Rattle.instructions.proofs.Building.{step-builds, ready-fits, ready-as, builds-as}
-use Rattle.instructions.proofs.InPlace.{effect-stands, here-inside, here-got}
+use Rattle.instructions.specs.Builds.{effectStep, InRange}
+use Rattle.instructions.proofs.Building.{ready-as, builds-as}
+use Rattle.instructions.proofs.InPlace.{effect-stands}
 use Rattle.instructions.proofs.Ranges.{effect-known}
 use Rattle.instructions.proofs.Instruction.{effects-inside, effects-here}
-use Rattle.instructions.proofs.Looping.{Looping, loop-start, times-ready, times-turn, times-done}
+use Rattle.instructions.proofs.Looping.{Looping, loop-start, standing-inside, standing-fits, standing-known, standing-turn, times-done}
 use Rattle.instructions.proofs.build_effects.Statement.{statement}
 use Rattle.instructions.proofs.build_effects.Tie as tie
 
@@ -21,13 +20,25 @@ abbrev μ-loop : tie.MeasureT-loop
 μ-loop s n m ws₀ order at left₀ c₀ built₀ ws left c built = left
 
 mul-left : tie.Need-mul-left Inv-loop μ-loop
-mul-left c = let i = effects-inside (c .before .before .args .n) (c .before .before .args .m) (c .before .before .args .s .now) (c .before .before .args .start .at) (c .before .before .pre .1 .reads) in omega (arith, i)
+mul-left c =
+    let b = c .before .before in
+    let a = b .args in
+    let i = effects-inside (a .n) (a .m) (a .s .now) (a .start .at) (b .pre .1 .reads) in
+    omega (arith, i)
 
 shared-slice-read-left : tie.Need-shared-slice-read-left Inv-loop μ-loop
-shared-slice-read-left c = let i = effects-inside (c .before .before .before .args .n) (c .before .before .before .args .m) (c .before .before .before .args .s .now) (c .before .before .before .args .start .at) (c .before .before .before .pre .1 .reads) in omega (arith, i)
+shared-slice-read-left c =
+    let b = c .before .before .before in
+    let a = b .args in
+    let i = effects-inside (a .n) (a .m) (a .s .now) (a .start .at) (b .pre .1 .reads) in
+    omega (arith, i)
 
 add-c : tie.Need-add-c Inv-loop μ-loop
-add-c c = let i = effects-inside (c .before .before .before .args .n) (c .before .before .before .args .m) (c .before .before .before .args .s .now) (c .before .before .before .args .start .at) (c .before .before .before .pre .1 .reads) in omega (arith, i)
+add-c c =
+    let b = c .before .before .before in
+    let a = b .args in
+    let i = effects-inside (a .n) (a .m) (a .s .now) (a .start .at) (b .pre .1 .reads) in
+    omega (arith, i)
 
 loop-holds : tie.Need-loop-holds Inv-loop μ-loop
 loop-holds c =
@@ -40,16 +51,15 @@ build-effect-requires c κs =
     let l = c .before .before .loop in
     let b = c .before .before .before .before .before .before in
     let a = b .args in
-    let w = times-ready (effectStep (a .order .0)) effectCost (effect (a .n) (a .m)) (a .s .now) (l .left) (record { at = l .c }) (l .inv) (c .before .loop-test .taken) in
-    let q = here-got (effect (a .n) (a .m)) effectAt 8 (effect-stands (a .n) (a .m)) (a .s .now) (l .c) (w .reads) in
-    (here-inside (effect (a .n) (a .m)) effectAt 8 (effect-stands (a .n) (a .m)) (a .s .now) (l .c) (w .reads), (w .sound, (effect-known (a .n) (a .m) (b .pre .0 .0) (b .pre .0 .1) (a .s .now) (l .c) _ _ q, ready-fits w q)))
+    let t = c .before .loop-test .taken in
+    (standing-inside (effectStep (a .order .0)) effectCost (effect (a .n) (a .m)) effectAt 8 (effect-stands (a .n) (a .m)) (a .s .now) (l .left) (l .c) (l .inv) t, (l .inv .ready .sound, (standing-known (effectStep (a .order .0)) effectCost (effect (a .n) (a .m)) effectAt 8 (effect-stands (a .n) (a .m)) (a .s .now) (l .left) (l .c) (l .inv) t InRange (effect-known (a .n) (a .m) (b .pre .0 .0) (b .pre .0 .1)), standing-fits (effectStep (a .order .0)) effectCost (effect (a .n) (a .m)) effectAt 8 (effect-stands (a .n) (a .m)) (a .s .now) (l .left) (l .c) (l .inv) t)))
 
 add-c-2 : tie.Need-add-c-2 Inv-loop μ-loop
 add-c-2 c =
     let l = c .before .before .before .before .before .loop in
     let a = c .before .before .before .before .before .before .before .before .before .args in
-    let w = times-ready (effectStep (a .order .0)) effectCost (effect (a .n) (a .m)) (a .s .now) (l .left) (record { at = l .c }) (l .inv) (c .before .before .before .before .loop-test .taken) in
-    let i = here-inside (effect (a .n) (a .m)) effectAt 8 (effect-stands (a .n) (a .m)) (a .s .now) (l .c) (w .reads) in
+    let t = c .before .before .before .before .loop-test .taken in
+    let i = standing-inside (effectStep (a .order .0)) effectCost (effect (a .n) (a .m)) effectAt 8 (effect-stands (a .n) (a .m)) (a .s .now) (l .left) (l .c) (l .inv) t in
     omega (arith, i)
 
 sub-left : tie.Need-sub-left Inv-loop μ-loop
@@ -63,9 +73,7 @@ loop-again c =
     let l = c .before .before .before .before .before .loop in
     let a = c .before .before .before .before .before .before .before .before .before .args in
     let t = c .before .before .before .before .loop-test .taken in
-    let w = times-ready (effectStep (a .order .0)) effectCost (effect (a .n) (a .m)) (a .s .now) (l .left) (record { at = l .c }) (l .inv) t in
-    let q = here-got (effect (a .n) (a .m)) effectAt 8 (effect-stands (a .n) (a .m)) (a .s .now) (l .c) (w .reads) in
-    times-turn (effectStep (a .order .0)) effectCost (effect (a .n) (a .m)) (a .s .now) (l .left) (record { at = l .c }) (l .inv) _ t (step-builds _ _ q (c .before .before .build-effect .ensures))
+    standing-turn (effectStep (a .order .0)) effectCost (effect (a .n) (a .m)) effectAt 8 (effect-stands (a .n) (a .m)) (a .s .now) (l .left) (l .c) (l .inv) t (c .before .before .build-effect .ensures)
 
 same-length : tie.Need-same-length Inv-loop μ-loop
 same-length c = c .before .loop .inv .same
