@@ -5,8 +5,6 @@ use hir::Cursor;
 use hir::EvaluationOrder;
 use hir::FunctionId;
 use hir::IdentifierId;
-use hir::OrderStep;
-use hir::WordStep;
 ghost use Prim.Native.Nat.{_+_, _≤_};
 ghost use lib.ListN.{length};
 ghost use Rattle.model.specs.Limits.{mostCount};
@@ -94,10 +92,9 @@ fn build_instruction(c: Cursor, s: &[u32], n: u32, m: u32, ws: &mut [u32], b: Bu
     requires { ⌜ Ready (instruction n m (now s) (c .at)) instructionCost (now ws) b ⌝ }
     ensures { λ r. ⌜ Builds (instruction n m (now (s .entry)) (c .at)) instructionStep instructionCost (now (ws .entry)) b (now (ws .exit)) r ⌝ }
 {
-    match c.order(s) {
-        OrderStep::Got(order, d) => build_effects(d, s, n, m, ws, b, order),
-        OrderStep::Refused(k) => BuildStep::Refused(k),
-    }
+    let at = c.at;
+    let order = EvaluationOrder(s[at]);
+    build_effects(Cursor { at: at + 1 }, s, n, m, ws, b, order)
 }
 
 // An instruction count and the instructions.
@@ -113,17 +110,9 @@ pub fn build_instructions(
     requires { ⌜ Ready (counted mostCount (instruction n m) (now s) (start .at)) (costs instructionCost) (now ws) b ⌝ }
     ensures { λ r. ⌜ Builds (counted mostCount (instruction n m) (now (s .entry)) (start .at)) (each instructionStep) (costs instructionCost) (now (ws .entry)) b (now (ws .exit)) r ⌝ }
 {
-    let mut left: u32;
-    let mut c: Cursor;
-    match start.count(s, 1024) {
-        WordStep::Got(count, d) => {
-            left = count;
-            c = d;
-        }
-        WordStep::Refused(k1) => {
-            return BuildStep::Refused(k1);
-        }
-    }
+    let at = start.at;
+    let mut left = s[at];
+    let mut c = Cursor { at: at + 1 };
     let mut built = b;
     while 0 < left {
         match build_instruction(c, s, n, m, ws, built) {
@@ -131,8 +120,8 @@ pub fn build_instructions(
                 built = t;
                 c = d2;
             }
-            BuildStep::Refused(k2) => {
-                return BuildStep::Refused(k2);
+            BuildStep::Refused(k) => {
+                return BuildStep::Refused(k);
             }
         }
         left -= 1;
