@@ -7,17 +7,17 @@ use mathlib.Core.List.{List}
 use lib.ListN.{length, getD}
 use lib.Dec.{ltb, leb}
 use borrow.Author.Tests.{ltb-true}
-use Rattle.model.specs.Limits.{mostTraits, mostKind}
+use Rattle.model.specs.Limits.{mostBlockNumber, mostTraits, mostKind}
 use Rattle.model.specs.Lists.{pick}
-use Rattle.model.specs.Sheet.{Place, Effect, EffectKind}
+use Rattle.model.specs.Sheet.{BlockId, Place, Effect, EffectKind}
 use Rattle.model.specs.Traits.{effectOf, reactiveOf}
 use Rattle.model.specs.Effects.{kindOf, rowOf, isCreateFunction}
-use Rattle.model.specs.Reading.{Position, Result, got, refused, Read, andThen, pure, refuse, word, count, atMost, below, times, counted}
+use Rattle.model.specs.Reading.{Position, Result, got, refused, Read, andThen, pure, refuse, word, count, atMost, below, times, numbered, counted}
 use Rattle.model.specs.Sections.{place, unused, extra, effect}
 use Rattle.model.proofs.Got.{got-value, got-next, not-both}
 use Rattle.hir.proofs.Ranges.{at-most-reads}
-use Rattle.instructions.specs.InPlace.{wordAt, placeOf, placeAt, effectAt}
-use Rattle.instructions.proofs.Gots.{both-got, counted-is}
+use Rattle.instructions.specs.InPlace.{wordAt, placeOf, placeFrom, effectFrom}
+use Rattle.instructions.proofs.Gots.{both-got, counted-is, numbered-reads}
 
 -- this part of so many words, from c to d
 pub record Stands {A : Type 0} (s : List ℕ) (c : Position) (here : A) (words : ℕ) (a : A) (d : Position) : Type 0 where
@@ -69,7 +69,7 @@ further {s} q e = q .is ∙ ap (wordAt s) e
 place-same : {i j t u s r : ℕ} → i ≡ j → t ≡ u → s ≡ r → placeOf i t s ≡ placeOf j u r
 place-same {j = j} {t} {u} {s} a b c = ap (λ (x : ℕ). placeOf x t s) a ∙ ap (λ (x : ℕ). placeOf j x s) b ∙ ap (placeOf j u) c
 
-pub place-stands : (n : ℕ) → InPlace (place n) placeAt 3
+pub place-stands : (n : ℕ) → InPlace (place n) placeFrom 3
 unfolding place
 place-stands n s c a d e =
     let p = both-got (below n s c) _ e in
@@ -87,7 +87,7 @@ place-stands n s c a d e =
     }
 
 -- a place that is not used
-unused-stands : InPlace unused placeAt 3
+unused-stands : InPlace unused placeFrom 3
 unfolding unused effectOf reactiveOf
 unused-stands s c a d e =
     let p = both-got (atMost 0 s c) _ e in
@@ -110,7 +110,7 @@ unused-stands s c a d e =
     zero-is w h = omega (arith, h)
 
 -- a place that stands a few words further
-place-further : {s : List ℕ} {i j k l : Position} {p : Place} {d : Position} → Stands s i (placeAt s i) 3 p d → i ≡ j → i + 1 ≡ k → i + 2 ≡ l → p ≡ placeOf (wordAt s j) (wordAt s k) (wordAt s l)
+place-further : {s : List ℕ} {i j k l : Position} {p : Place} {d : Position} → Stands s i (placeFrom s i) 3 p d → i ≡ j → i + 1 ≡ k → i + 2 ≡ l → p ≡ placeOf (wordAt s j) (wordAt s k) (wordAt s l)
 place-further {s} q a b c = q .is ∙ place-same (ap (wordAt s) a) (ap (wordAt s) b) (ap (wordAt s) c)
 
 -- either
@@ -130,7 +130,7 @@ effect-same : {k l : EffectKind} {p p′ q q′ : Place} {x y : ℕ} → k ≡ l
 effect-same {l = l} {p} {p′} {q} {q′} {x} a b c d =
     ap (λ (z : EffectKind). effectBy z p q x) a ∙ ap (λ (z : Place). effectBy l z q x) b ∙ ap (λ (z : Place). effectBy l p′ z x) c ∙ ap (effectBy l p′ q′) d
 
-pub effect-stands : (n m : ℕ) → InPlace (effect n m) effectAt 8
+pub effect-stands : (n m : ℕ) → InPlace (effect n m) effectFrom 8
 unfolding effect
 effect-stands n m s c a d e =
     let p = both-got (atMost mostKind s c) _ e in
@@ -141,8 +141,8 @@ effect-stands n m s c a d e =
     let r = both-got (pick both (place n) unused s (q .next)) _ (q .second) in
     let t = both-got (extra m k s (r .next)) _ (r .second) in
     let w = at-most-stands mostKind s c (p .what) (p .next) (p .first) in
-    let f = either-stands used (place n) unused placeAt 3 (place-stands n) unused-stands s (p .next) (q .what) (q .next) (q .first) in
-    let g = either-stands both (place n) unused placeAt 3 (place-stands n) unused-stands s (q .next) (r .what) (r .next) (r .first) in
+    let f = either-stands used (place n) unused placeFrom 3 (place-stands n) unused-stands s (p .next) (q .what) (q .next) (q .first) in
+    let g = either-stands both (place n) unused placeFrom 3 (place-stands n) unused-stands s (q .next) (r .what) (r .next) (r .first) in
     let x = extra-stands m k s (r .next) (t .what) (t .next) (t .first) in
     let i : q .next ≡ c + 4 = omega (arith, w .next, f .next) in
     let j : r .next ≡ c + 7 = omega (arith, i, g .next) in
@@ -170,3 +170,11 @@ module _ {A : Type 0} (most : ℕ) (f : Read A) (s : List ℕ) (c : Position) {l
   pub counted-here : counted most f s c ≡ times (wordAt s c) f s (c + 1)
   unfolding counted
   counted-here = counted-is most f s c (here-got (count most) wordAt 1 (count-stands most) s c (both-got (count most s c) _ e .first))
+
+-- parts that have numbers: the first number is the first word
+pub number-here : {A : Type 0} (k : ℕ) (used : List BlockId) (f : BlockId → Read A) (s : List ℕ) (c : Position) {l : List A} {d : Position} → 0 < k → numbered k used f s c ≡ got l d → atMost mostBlockNumber s c ≡ got (wordAt s c) (c + 1)
+number-here k used f s c t e = go (atMost mostBlockNumber s c) refl
+  where
+    go : (r : Result ℕ) → atMost mostBlockNumber s c ≡ r → atMost mostBlockNumber s c ≡ got (wordAt s c) (c + 1)
+    go (got n j) q = here-got (atMost mostBlockNumber) wordAt 1 (at-most-stands mostBlockNumber) s c q
+    go (refused j) q = absurd (numbered-reads k used f s c t e q)

@@ -16,12 +16,12 @@ abbrev pub placeOf : ℕ → ℕ → ℕ → Place
 placeOf i t s = record { identifier = i; effect = effectOf t; reactive = reactiveOf t; span = s }
 
 -- the place from c on
-abbrev pub placeAt : List ℕ → Position → Place
-placeAt s c = placeOf (wordAt s c) (wordAt s (c + 1)) (wordAt s (c + 2))
+abbrev pub placeFrom : List ℕ → Position → Place
+placeFrom s c = placeOf (wordAt s c) (wordAt s (c + 1)) (wordAt s (c + 2))
 
 -- the effect from c on
-abbrev pub effectAt : List ℕ → Position → Effect
-effectAt s c = record {
+abbrev pub effectFrom : List ℕ → Position → Effect
+effectFrom s c = record {
   kind = kindOf (wordAt s c);
   first = placeOf (wordAt s (c + 1)) (wordAt s (c + 2)) (wordAt s (c + 3));
   second = placeOf (wordAt s (c + 4)) (wordAt s (c + 5)) (wordAt s (c + 6));

@@ -14,7 +14,7 @@ ghost use Rattle.model.specs.Sections.{effects, instruction};
 ghost use Rattle.model.specs.Building.{instruction as instructionStep};
 ghost use Rattle.building.specs.Built.{Sound};
 ghost use Rattle.instructions.specs.Cost.{costs, effectCost, instructionCost, Fits};
-ghost use Rattle.instructions.specs.InPlace.{effectAt};
+ghost use Rattle.instructions.specs.InPlace.{effectFrom};
 ghost use Rattle.instructions.specs.Builds.{effectStep, InRange, Spends, Ready, Builds};
 
 pub mod terminals;
@@ -35,8 +35,8 @@ fn build_effect(
 ) -> Building
     requires { ⌜ at + 8 ≤ length (now s) ⌝ }
     requires { ⌜ Sound (now ws) b ⌝ }
-    requires { ⌜ InRange (effectAt (now s) at) × Fits (effectCost (effectAt (now s) at)) b ⌝ }
-    ensures { λ r. ⌜ Spends (effectStep (order .0) (effectAt (now (s .entry)) at)) (effectCost (effectAt (now (s .entry)) at)) (now (ws .entry)) b (now (ws .exit)) r ⌝ }
+    requires { ⌜ InRange (effectFrom (now s) at) × Fits (effectCost (effectFrom (now s) at)) b ⌝ }
+    ensures { λ r. ⌜ Spends (effectStep (order .0) (effectFrom (now (s .entry)) at)) (effectCost (effectFrom (now (s .entry)) at)) (now (ws .entry)) b (now (ws .exit)) r ⌝ }
 {
     let number = s[at];
     let from = IdentifierId(s[at + 1]);

@@ -18,15 +18,15 @@ ghost use Rattle.hir.specs.Numbers.{terminalNumber};
 ghost use Rattle.hir.specs.Says.{placeIs};
 ghost use Rattle.building.specs.Built.{Sound};
 ghost use Rattle.instructions.specs.Cost.{costs, terminalEffectCost, terminalCost, Fits};
-ghost use Rattle.instructions.specs.InPlace.{effectAt};
+ghost use Rattle.instructions.specs.InPlace.{effectFrom};
 ghost use Rattle.instructions.specs.Builds.{InRange, Spends, Ready, Builds};
 
 // The effect of a terminal that stands at `at`: kind 6 is Alias.
 fn build_terminal_effect(s: &[u32], at: usize, ws: &mut [u32], b: Building) -> Building
     requires { ⌜ at + 8 ≤ length (now s) ⌝ }
     requires { ⌜ Sound (now ws) b ⌝ }
-    requires { ⌜ InRange (effectAt (now s) at) × Fits (terminalEffectCost (effectAt (now s) at)) b ⌝ }
-    ensures { λ r. ⌜ Spends (terminalEffect (effectAt (now (s .entry)) at)) (terminalEffectCost (effectAt (now (s .entry)) at)) (now (ws .entry)) b (now (ws .exit)) r ⌝ }
+    requires { ⌜ InRange (effectFrom (now s) at) × Fits (terminalEffectCost (effectFrom (now s) at)) b ⌝ }
+    ensures { λ r. ⌜ Spends (terminalEffect (effectFrom (now (s .entry)) at)) (terminalEffectCost (effectFrom (now (s .entry)) at)) (now (ws .entry)) b (now (ws .exit)) r ⌝ }
 {
     if s[at] == 6 {
         let from = IdentifierId(s[at + 1]);

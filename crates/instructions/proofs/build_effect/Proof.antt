@@ -4,7 +4,7 @@ use Rattle.model.specs.Effects.{kindOf, rowOf}
 use Rattle.model.specs.Building.{instructionEffect}
 use Rattle.model.specs.Sheet.{Create, CreateFunction, CreateFrom, Assign, Alias, MaybeAlias, Capture, MutateTransitive, MutateTransitiveConditionally, Mutate, MutateConditionally, Render}
 use Rattle.instructions.specs.Cost.{kindCost}
-use Rattle.instructions.specs.InPlace.{effectAt}
+use Rattle.instructions.specs.InPlace.{effectFrom}
 use Rattle.instructions.proofs.Effect.{effect-of, relation-fits, mutation-fits, render-fits, reason-below, function-below, idle-number}
 use Rattle.instructions.proofs.build_effect.Statement.{statement}
 use Rattle.instructions.proofs.build_effect.Tie as tie
@@ -56,56 +56,56 @@ unfolding kindOf rowOf
 push-mutation-requires c κs =
     let a = c .before .before .before .before .before .before .before .before .before .args in
     let p = c .before .before .before .before .before .before .before .before .before .pre in
-    (p .1 .0, (mutation-fits (effectAt (a .s .now) (a .at)) Mutate (ap kindOf (c .before .match .keys1)) (p .1 .1 .1) refl, (p .1 .1 .0 .first, (omega arith, (omega arith, reason-below (effectAt (a .s .now) (a .at)) (ap kindOf (c .before .match .keys1)) (p .1 .1 .0))))))
+    (p .1 .0, (mutation-fits (effectFrom (a .s .now) (a .at)) Mutate (ap kindOf (c .before .match .keys1)) (p .1 .1 .1) refl, (p .1 .1 .0 .first, (omega arith, (omega arith, reason-below (effectFrom (a .s .now) (a .at)) (ap kindOf (c .before .match .keys1)) (p .1 .1 .0))))))
 
 push-mutation-requires-2 : tie.Need-push-mutation-requires-2
 unfolding kindOf rowOf
 push-mutation-requires-2 c κs =
     let a = c .before .before .before .before .before .before .before .before .before .args in
     let p = c .before .before .before .before .before .before .before .before .before .pre in
-    (p .1 .0, (mutation-fits (effectAt (a .s .now) (a .at)) MutateConditionally (ap kindOf (c .before .match .keys2)) (p .1 .1 .1) refl, (p .1 .1 .0 .first, (omega arith, (omega arith, omega arith)))))
+    (p .1 .0, (mutation-fits (effectFrom (a .s .now) (a .at)) MutateConditionally (ap kindOf (c .before .match .keys2)) (p .1 .1 .1) refl, (p .1 .1 .0 .first, (omega arith, (omega arith, omega arith)))))
 
 push-mutation-requires-3 : tie.Need-push-mutation-requires-3
 unfolding kindOf rowOf
 push-mutation-requires-3 c κs =
     let a = c .before .before .before .before .before .before .before .before .before .args in
     let p = c .before .before .before .before .before .before .before .before .before .pre in
-    (p .1 .0, (mutation-fits (effectAt (a .s .now) (a .at)) MutateTransitive (ap kindOf (c .before .match .keys3)) (p .1 .1 .1) refl, (p .1 .1 .0 .first, (omega arith, (omega arith, omega arith)))))
+    (p .1 .0, (mutation-fits (effectFrom (a .s .now) (a .at)) MutateTransitive (ap kindOf (c .before .match .keys3)) (p .1 .1 .1) refl, (p .1 .1 .0 .first, (omega arith, (omega arith, omega arith)))))
 
 push-mutation-requires-4 : tie.Need-push-mutation-requires-4
 unfolding kindOf rowOf
 push-mutation-requires-4 c κs =
     let a = c .before .before .before .before .before .before .before .before .before .args in
     let p = c .before .before .before .before .before .before .before .before .before .pre in
-    (p .1 .0, (mutation-fits (effectAt (a .s .now) (a .at)) MutateTransitiveConditionally (ap kindOf (c .before .match .keys4)) (p .1 .1 .1) refl, (p .1 .1 .0 .first, (omega arith, (omega arith, omega arith)))))
+    (p .1 .0, (mutation-fits (effectFrom (a .s .now) (a .at)) MutateTransitiveConditionally (ap kindOf (c .before .match .keys4)) (p .1 .1 .1) refl, (p .1 .1 .0 .first, (omega arith, (omega arith, omega arith)))))
 
 capture-requires : tie.Need-capture-requires
 unfolding kindOf rowOf
 capture-requires c κs =
     let a = c .before .before .before .before .before .before .before .before .before .args in
     let p = c .before .before .before .before .before .before .before .before .before .pre in
-    (p .1 .0, (relation-fits (effectAt (a .s .now) (a .at)) Capture (ap kindOf (c .before .match .keys5)) (p .1 .1 .1) refl, (p .1 .1 .0 .first, p .1 .1 .0 .second)))
+    (p .1 .0, (relation-fits (effectFrom (a .s .now) (a .at)) Capture (ap kindOf (c .before .match .keys5)) (p .1 .1 .1) refl, (p .1 .1 .0 .first, p .1 .1 .0 .second)))
 
 assign-requires : tie.Need-assign-requires
 unfolding kindOf rowOf
 assign-requires c κs =
     let a = c .before .before .before .before .before .before .before .before .before .args in
     let p = c .before .before .before .before .before .before .before .before .before .pre in
-    (p .1 .0, (relation-fits (effectAt (a .s .now) (a .at)) Alias (ap kindOf (c .before .match .keys6)) (p .1 .1 .1) refl, (p .1 .1 .0 .first, p .1 .1 .0 .second)))
+    (p .1 .0, (relation-fits (effectFrom (a .s .now) (a .at)) Alias (ap kindOf (c .before .match .keys6)) (p .1 .1 .1) refl, (p .1 .1 .0 .first, p .1 .1 .0 .second)))
 
 maybe-alias-requires : tie.Need-maybe-alias-requires
 unfolding kindOf rowOf
 maybe-alias-requires c κs =
     let a = c .before .before .before .before .before .before .before .before .before .args in
     let p = c .before .before .before .before .before .before .before .before .before .pre in
-    (p .1 .0, (relation-fits (effectAt (a .s .now) (a .at)) MaybeAlias (ap kindOf (c .before .match .keys7)) (p .1 .1 .1) refl, (p .1 .1 .0 .first, p .1 .1 .0 .second)))
+    (p .1 .0, (relation-fits (effectFrom (a .s .now) (a .at)) MaybeAlias (ap kindOf (c .before .match .keys7)) (p .1 .1 .1) refl, (p .1 .1 .0 .first, p .1 .1 .0 .second)))
 
 assign-effect-requires : tie.Need-assign-effect-requires
 unfolding kindOf rowOf
 assign-effect-requires c κs =
     let a = c .before .before .before .before .before .before .before .before .before .args in
     let p = c .before .before .before .before .before .before .before .before .before .pre in
-    (p .1 .0, (relation-fits (effectAt (a .s .now) (a .at)) Assign (ap kindOf (c .before .match .keys8)) (p .1 .1 .1) refl, (p .1 .1 .0 .first, p .1 .1 .0 .second)))
+    (p .1 .0, (relation-fits (effectFrom (a .s .now) (a .at)) Assign (ap kindOf (c .before .match .keys8)) (p .1 .1 .1) refl, (p .1 .1 .0 .first, p .1 .1 .0 .second)))
 
 create-requires : tie.Need-create-requires
 unfolding kindOf rowOf
@@ -119,21 +119,21 @@ unfolding kindOf rowOf
 create-from-requires c κs =
     let a = c .before .before .before .before .before .before .before .before .before .args in
     let p = c .before .before .before .before .before .before .before .before .before .pre in
-    (p .1 .0, (relation-fits (effectAt (a .s .now) (a .at)) CreateFrom (ap kindOf (c .before .match .keys10)) (p .1 .1 .1) refl, (p .1 .1 .0 .first, p .1 .1 .0 .second)))
+    (p .1 .0, (relation-fits (effectFrom (a .s .now) (a .at)) CreateFrom (ap kindOf (c .before .match .keys10)) (p .1 .1 .1) refl, (p .1 .1 .0 .first, p .1 .1 .0 .second)))
 
 create-requires-2 : tie.Need-create-requires-2
 unfolding kindOf rowOf
 create-requires-2 c κs =
     let a = c .before .before .before .before .before .before .before .before .before .args in
     let p = c .before .before .before .before .before .before .before .before .before .pre in
-    (p .1 .0, (p .1 .1 .0 .first, function-below (effectAt (a .s .now) (a .at)) (ap kindOf (c .before .match .keys11)) (p .1 .1 .0)))
+    (p .1 .0, (p .1 .1 .0 .first, function-below (effectFrom (a .s .now) (a .at)) (ap kindOf (c .before .match .keys11)) (p .1 .1 .0)))
 
 push-render-requires : tie.Need-push-render-requires
 unfolding kindOf rowOf
 push-render-requires c κs =
     let a = c .before .before .before .before .before .before .before .before .before .args in
     let p = c .before .before .before .before .before .before .before .before .before .pre in
-    (p .1 .0, (render-fits (effectAt (a .s .now) (a .at)) Render (ap kindOf (c .before .match .keys12)) (p .1 .1 .1) refl, p .1 .1 .0 .first))
+    (p .1 .0, (render-fits (effectFrom (a .s .now) (a .at)) Render (ap kindOf (c .before .match .keys12)) (p .1 .1 .1) refl, p .1 .1 .0 .first))
 
 same-length : tie.Need-same-length
 same-length c = c .before .before .push-mutation .ensures .same
@@ -142,7 +142,7 @@ returns : tie.Need-returns
 unfolding kindOf instructionEffect kindCost rowOf
 returns c =
     let a = c .before .before .before .before .before .before .before .before .before .before .before .before .args in
-    effect-of (effectAt (a .s .now) (a .at)) Mutate (ap kindOf (c .before .before .before .before .match .keys1)) (a .order .0) (c .before .before .push-mutation .ensures)
+    effect-of (effectFrom (a .s .now) (a .at)) Mutate (ap kindOf (c .before .before .before .before .match .keys1)) (a .order .0) (c .before .before .push-mutation .ensures)
 
 same-length-2 : tie.Need-same-length-2
 same-length-2 c = c .before .before .push-mutation2 .ensures .same
@@ -151,7 +151,7 @@ returns-2 : tie.Need-returns-2
 unfolding kindOf instructionEffect kindCost rowOf
 returns-2 c =
     let a = c .before .before .before .before .before .before .before .before .before .before .before .before .args in
-    effect-of (effectAt (a .s .now) (a .at)) MutateConditionally (ap kindOf (c .before .before .before .before .match .keys2)) (a .order .0) (c .before .before .push-mutation2 .ensures)
+    effect-of (effectFrom (a .s .now) (a .at)) MutateConditionally (ap kindOf (c .before .before .before .before .match .keys2)) (a .order .0) (c .before .before .push-mutation2 .ensures)
 
 same-length-3 : tie.Need-same-length-3
 same-length-3 c = c .before .before .push-mutation3 .ensures .same
@@ -160,7 +160,7 @@ returns-3 : tie.Need-returns-3
 unfolding kindOf instructionEffect kindCost rowOf
 returns-3 c =
     let a = c .before .before .before .before .before .before .before .before .before .before .before .before .args in
-    effect-of (effectAt (a .s .now) (a .at)) MutateTransitive (ap kindOf (c .before .before .before .before .match .keys3)) (a .order .0) (c .before .before .push-mutation3 .ensures)
+    effect-of (effectFrom (a .s .now) (a .at)) MutateTransitive (ap kindOf (c .before .before .before .before .match .keys3)) (a .order .0) (c .before .before .push-mutation3 .ensures)
 
 same-length-4 : tie.Need-same-length-4
 same-length-4 c = c .before .before .push-mutation4 .ensures .same
@@ -169,7 +169,7 @@ returns-4 : tie.Need-returns-4
 unfolding kindOf instructionEffect kindCost rowOf
 returns-4 c =
     let a = c .before .before .before .before .before .before .before .before .before .before .before .before .args in
-    effect-of (effectAt (a .s .now) (a .at)) MutateTransitiveConditionally (ap kindOf (c .before .before .before .before .match .keys4)) (a .order .0) (c .before .before .push-mutation4 .ensures)
+    effect-of (effectFrom (a .s .now) (a .at)) MutateTransitiveConditionally (ap kindOf (c .before .before .before .before .match .keys4)) (a .order .0) (c .before .before .push-mutation4 .ensures)
 
 same-length-5 : tie.Need-same-length-5
 same-length-5 c = c .before .before .capture .ensures .same
@@ -178,7 +178,7 @@ returns-5 : tie.Need-returns-5
 unfolding kindOf instructionEffect kindCost rowOf
 returns-5 c =
     let a = c .before .before .before .before .before .before .before .before .before .before .before .before .args in
-    effect-of (effectAt (a .s .now) (a .at)) Capture (ap kindOf (c .before .before .before .before .match .keys5)) (a .order .0) (c .before .before .capture .ensures)
+    effect-of (effectFrom (a .s .now) (a .at)) Capture (ap kindOf (c .before .before .before .before .match .keys5)) (a .order .0) (c .before .before .capture .ensures)
 
 same-length-6 : tie.Need-same-length-6
 same-length-6 c = c .before .before .assign .ensures .same
@@ -187,7 +187,7 @@ returns-6 : tie.Need-returns-6
 unfolding kindOf instructionEffect kindCost rowOf
 returns-6 c =
     let a = c .before .before .before .before .before .before .before .before .before .before .before .before .args in
-    effect-of (effectAt (a .s .now) (a .at)) Alias (ap kindOf (c .before .before .before .before .match .keys6)) (a .order .0) (c .before .before .assign .ensures)
+    effect-of (effectFrom (a .s .now) (a .at)) Alias (ap kindOf (c .before .before .before .before .match .keys6)) (a .order .0) (c .before .before .assign .ensures)
 
 same-length-7 : tie.Need-same-length-7
 same-length-7 c = c .before .before .maybe-alias .ensures .same
@@ -196,7 +196,7 @@ returns-7 : tie.Need-returns-7
 unfolding kindOf instructionEffect kindCost rowOf
 returns-7 c =
     let a = c .before .before .before .before .before .before .before .before .before .before .before .before .args in
-    effect-of (effectAt (a .s .now) (a .at)) MaybeAlias (ap kindOf (c .before .before .before .before .match .keys7)) (a .order .0) (c .before .before .maybe-alias .ensures)
+    effect-of (effectFrom (a .s .now) (a .at)) MaybeAlias (ap kindOf (c .before .before .before .before .match .keys7)) (a .order .0) (c .before .before .maybe-alias .ensures)
 
 same-length-8 : tie.Need-same-length-8
 same-length-8 c = c .before .before .assign-effect .ensures .same
@@ -205,7 +205,7 @@ returns-8 : tie.Need-returns-8
 unfolding kindOf instructionEffect kindCost rowOf
 returns-8 c =
     let a = c .before .before .before .before .before .before .before .before .before .before .before .before .args in
-    effect-of (effectAt (a .s .now) (a .at)) Assign (ap kindOf (c .before .before .before .before .match .keys8)) (a .order .0) (c .before .before .assign-effect .ensures)
+    effect-of (effectFrom (a .s .now) (a .at)) Assign (ap kindOf (c .before .before .before .before .match .keys8)) (a .order .0) (c .before .before .assign-effect .ensures)
 
 same-length-9 : tie.Need-same-length-9
 same-length-9 c = c .before .before .create .ensures .same
@@ -214,7 +214,7 @@ returns-9 : tie.Need-returns-9
 unfolding kindOf instructionEffect kindCost rowOf
 returns-9 c =
     let a = c .before .before .before .before .before .before .before .before .before .before .before .before .args in
-    effect-of (effectAt (a .s .now) (a .at)) Create (ap kindOf (c .before .before .before .before .match .keys9)) (a .order .0) (c .before .before .create .ensures)
+    effect-of (effectFrom (a .s .now) (a .at)) Create (ap kindOf (c .before .before .before .before .match .keys9)) (a .order .0) (c .before .before .create .ensures)
 
 same-length-10 : tie.Need-same-length-10
 same-length-10 c = c .before .before .create-from .ensures .same
@@ -223,7 +223,7 @@ returns-10 : tie.Need-returns-10
 unfolding kindOf instructionEffect kindCost rowOf
 returns-10 c =
     let a = c .before .before .before .before .before .before .before .before .before .before .before .before .args in
-    effect-of (effectAt (a .s .now) (a .at)) CreateFrom (ap kindOf (c .before .before .before .before .match .keys10)) (a .order .0) (c .before .before .create-from .ensures)
+    effect-of (effectFrom (a .s .now) (a .at)) CreateFrom (ap kindOf (c .before .before .before .before .match .keys10)) (a .order .0) (c .before .before .create-from .ensures)
 
 same-length-11 : tie.Need-same-length-11
 same-length-11 c = c .before .before .create2 .ensures .same
@@ -232,7 +232,7 @@ returns-11 : tie.Need-returns-11
 unfolding kindOf instructionEffect kindCost rowOf
 returns-11 c =
     let a = c .before .before .before .before .before .before .before .before .before .before .before .before .args in
-    effect-of (effectAt (a .s .now) (a .at)) CreateFunction (ap kindOf (c .before .before .before .before .match .keys11)) (a .order .0) (c .before .before .create2 .ensures)
+    effect-of (effectFrom (a .s .now) (a .at)) CreateFunction (ap kindOf (c .before .before .before .before .match .keys11)) (a .order .0) (c .before .before .create2 .ensures)
 
 same-length-12 : tie.Need-same-length-12
 same-length-12 c = c .before .before .push-render .ensures .same
@@ -241,12 +241,12 @@ returns-12 : tie.Need-returns-12
 unfolding kindOf instructionEffect kindCost rowOf
 returns-12 c =
     let a = c .before .before .before .before .before .before .before .before .before .before .before .before .args in
-    effect-of (effectAt (a .s .now) (a .at)) Render (ap kindOf (c .before .before .before .before .match .keys12)) (a .order .0) (c .before .before .push-render .ensures)
+    effect-of (effectFrom (a .s .now) (a .at)) Render (ap kindOf (c .before .before .before .before .match .keys12)) (a .order .0) (c .before .before .push-render .ensures)
 
 returns-13 : tie.Need-returns-13
 returns-13 c =
     let a = c .before .before .before .before .before .before .before .before .args in
-    idle-number (a .order .0) (effectAt (a .s .now) (a .at)) (c .before .before .before .before .before .before .before .before .pre .1 .0) _ (c .match .rest)
+    idle-number (a .order .0) (effectFrom (a .s .now) (a .at)) (c .before .before .before .before .before .before .before .before .pre .1 .0) _ (c .match .rest)
 
 pub build-effect-spec : {M : Type 1} → statement M
 build-effect-spec =

@@ -3,7 +3,7 @@ use mathlib.Core.Path.{refl}
 use Rattle.model.specs.Reading.{times}
 use Rattle.model.specs.Sections.{effect}
 use Rattle.instructions.specs.Cost.{effectCost}
-use Rattle.instructions.specs.InPlace.{effectAt}
+use Rattle.instructions.specs.InPlace.{effectFrom}
 use Rattle.instructions.specs.Builds.{effectStep, InRange}
 use Rattle.instructions.proofs.Building.{ready-as, builds-as}
 use Rattle.instructions.proofs.InPlace.{effect-stands}
@@ -52,14 +52,14 @@ build-effect-requires c κs =
     let b = c .before .before .before .before .before .before in
     let a = b .args in
     let t = c .before .loop-test .taken in
-    (standing-inside (effectStep (a .order .0)) effectCost (effect (a .n) (a .m)) effectAt 8 (effect-stands (a .n) (a .m)) (a .s .now) (l .left) (l .c) (l .inv) t, (l .inv .ready .sound, (standing-known (effectStep (a .order .0)) effectCost (effect (a .n) (a .m)) effectAt 8 (effect-stands (a .n) (a .m)) (a .s .now) (l .left) (l .c) (l .inv) t InRange (effect-known (a .n) (a .m) (b .pre .0 .0) (b .pre .0 .1)), standing-fits (effectStep (a .order .0)) effectCost (effect (a .n) (a .m)) effectAt 8 (effect-stands (a .n) (a .m)) (a .s .now) (l .left) (l .c) (l .inv) t)))
+    (standing-inside (effectStep (a .order .0)) effectCost (effect (a .n) (a .m)) effectFrom 8 (effect-stands (a .n) (a .m)) (a .s .now) (l .left) (l .c) (l .inv) t, (l .inv .ready .sound, (standing-known (effectStep (a .order .0)) effectCost (effect (a .n) (a .m)) effectFrom 8 (effect-stands (a .n) (a .m)) (a .s .now) (l .left) (l .c) (l .inv) t InRange (effect-known (a .n) (a .m) (b .pre .0 .0) (b .pre .0 .1)), standing-fits (effectStep (a .order .0)) effectCost (effect (a .n) (a .m)) effectFrom 8 (effect-stands (a .n) (a .m)) (a .s .now) (l .left) (l .c) (l .inv) t)))
 
 add-c-2 : tie.Need-add-c-2 Inv-loop μ-loop
 add-c-2 c =
     let l = c .before .before .before .before .before .loop in
     let a = c .before .before .before .before .before .before .before .before .before .args in
     let t = c .before .before .before .before .loop-test .taken in
-    let i = standing-inside (effectStep (a .order .0)) effectCost (effect (a .n) (a .m)) effectAt 8 (effect-stands (a .n) (a .m)) (a .s .now) (l .left) (l .c) (l .inv) t in
+    let i = standing-inside (effectStep (a .order .0)) effectCost (effect (a .n) (a .m)) effectFrom 8 (effect-stands (a .n) (a .m)) (a .s .now) (l .left) (l .c) (l .inv) t in
     omega (arith, i)
 
 sub-left : tie.Need-sub-left Inv-loop μ-loop
@@ -73,7 +73,7 @@ loop-again c =
     let l = c .before .before .before .before .before .loop in
     let a = c .before .before .before .before .before .before .before .before .before .args in
     let t = c .before .before .before .before .loop-test .taken in
-    standing-turn (effectStep (a .order .0)) effectCost (effect (a .n) (a .m)) effectAt 8 (effect-stands (a .n) (a .m)) (a .s .now) (l .left) (l .c) (l .inv) t (c .before .before .build-effect .ensures)
+    standing-turn (effectStep (a .order .0)) effectCost (effect (a .n) (a .m)) effectFrom 8 (effect-stands (a .n) (a .m)) (a .s .now) (l .left) (l .c) (l .inv) t (c .before .before .build-effect .ensures)
 
 same-length : tie.Need-same-length Inv-loop μ-loop
 same-length c = c .before .loop .inv .same

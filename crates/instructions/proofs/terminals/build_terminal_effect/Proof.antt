@@ -1,5 +1,5 @@
 use native.Mathlib.Omega.{arith}
-use Rattle.instructions.specs.InPlace.{effectAt}
+use Rattle.instructions.specs.InPlace.{effectFrom}
 use Rattle.instructions.proofs.Terminal.{is-alias, not-alias, alias-fits, alias-step, idle-step}
 use Rattle.instructions.proofs.terminals.build_terminal_effect.Statement.{statement}
 use Rattle.instructions.proofs.terminals.build_terminal_effect.Tie as tie
@@ -32,7 +32,7 @@ assign-requires : tie.Need-assign-requires
 assign-requires c κs =
     let a = c .before .before .before .before .before .before .before .args in
     let p = c .before .before .before .before .before .before .before .pre in
-    (p .1 .0, (alias-fits (effectAt (a .s .now) (a .at)) (is-alias _ (c .before .before .before .if1 .taken)) (p .1 .1 .1), (p .1 .1 .0 .first, p .1 .1 .0 .second)))
+    (p .1 .0, (alias-fits (effectFrom (a .s .now) (a .at)) (is-alias _ (c .before .before .before .if1 .taken)) (p .1 .1 .1), (p .1 .1 .0 .first, p .1 .1 .0 .second)))
 
 same-length : tie.Need-same-length
 same-length c = c .before .before .assign .ensures .same
@@ -40,12 +40,12 @@ same-length c = c .before .before .assign .ensures .same
 returns : tie.Need-returns
 returns c =
     let a = c .before .before .before .before .before .before .before .before .before .before .args in
-    alias-step (effectAt (a .s .now) (a .at)) (is-alias _ (c .before .before .before .before .before .before .if1 .taken)) (c .before .before .assign .ensures)
+    alias-step (effectFrom (a .s .now) (a .at)) (is-alias _ (c .before .before .before .before .before .before .if1 .taken)) (c .before .before .assign .ensures)
 
 returns-2 : tie.Need-returns-2
 returns-2 c =
     let a = c .before .before .before .before .args in
-    idle-step (effectAt (a .s .now) (a .at)) (not-alias _ (c .if1 .left)) (c .before .before .before .before .pre .1 .0)
+    idle-step (effectFrom (a .s .now) (a .at)) (not-alias _ (c .if1 .left)) (c .before .before .before .before .pre .1 .0)
 
 pub build-terminal-effect-spec : {M : Type 1} → statement M
 build-terminal-effect-spec =

@@ -4,7 +4,7 @@ use Rattle.model.specs.Reading.{times}
 use Rattle.model.specs.Building.{terminalEffect}
 use Rattle.model.specs.Sections.{effect}
 use Rattle.instructions.specs.Cost.{terminalEffectCost}
-use Rattle.instructions.specs.InPlace.{effectAt}
+use Rattle.instructions.specs.InPlace.{effectFrom}
 use Rattle.instructions.specs.Builds.{InRange}
 use Rattle.instructions.proofs.Building.{ready-as, builds-as}
 use Rattle.instructions.proofs.InPlace.{effect-stands}
@@ -53,14 +53,14 @@ build-terminal-effect-requires c κs =
     let b = c .before .before .before .before .before .before in
     let a = b .args in
     let t = c .before .loop-test .taken in
-    (standing-inside terminalEffect terminalEffectCost (effect (a .n) (a .m)) effectAt 8 (effect-stands (a .n) (a .m)) (a .s .now) (l .left) (l .c) (l .inv) t, (l .inv .ready .sound, (standing-known terminalEffect terminalEffectCost (effect (a .n) (a .m)) effectAt 8 (effect-stands (a .n) (a .m)) (a .s .now) (l .left) (l .c) (l .inv) t InRange (effect-known (a .n) (a .m) (b .pre .0 .0) (b .pre .0 .1)), standing-fits terminalEffect terminalEffectCost (effect (a .n) (a .m)) effectAt 8 (effect-stands (a .n) (a .m)) (a .s .now) (l .left) (l .c) (l .inv) t)))
+    (standing-inside terminalEffect terminalEffectCost (effect (a .n) (a .m)) effectFrom 8 (effect-stands (a .n) (a .m)) (a .s .now) (l .left) (l .c) (l .inv) t, (l .inv .ready .sound, (standing-known terminalEffect terminalEffectCost (effect (a .n) (a .m)) effectFrom 8 (effect-stands (a .n) (a .m)) (a .s .now) (l .left) (l .c) (l .inv) t InRange (effect-known (a .n) (a .m) (b .pre .0 .0) (b .pre .0 .1)), standing-fits terminalEffect terminalEffectCost (effect (a .n) (a .m)) effectFrom 8 (effect-stands (a .n) (a .m)) (a .s .now) (l .left) (l .c) (l .inv) t)))
 
 add-c-2 : tie.Need-add-c-2 Inv-loop μ-loop
 add-c-2 c =
     let l = c .before .before .before .before .before .loop in
     let a = c .before .before .before .before .before .before .before .before .before .args in
     let t = c .before .before .before .before .loop-test .taken in
-    let i = standing-inside terminalEffect terminalEffectCost (effect (a .n) (a .m)) effectAt 8 (effect-stands (a .n) (a .m)) (a .s .now) (l .left) (l .c) (l .inv) t in
+    let i = standing-inside terminalEffect terminalEffectCost (effect (a .n) (a .m)) effectFrom 8 (effect-stands (a .n) (a .m)) (a .s .now) (l .left) (l .c) (l .inv) t in
     omega (arith, i)
 
 sub-left : tie.Need-sub-left Inv-loop μ-loop
@@ -74,7 +74,7 @@ loop-again c =
     let l = c .before .before .before .before .before .loop in
     let a = c .before .before .before .before .before .before .before .before .before .args in
     let t = c .before .before .before .before .loop-test .taken in
-    standing-turn terminalEffect terminalEffectCost (effect (a .n) (a .m)) effectAt 8 (effect-stands (a .n) (a .m)) (a .s .now) (l .left) (l .c) (l .inv) t (c .before .before .build-terminal-effect .ensures)
+    standing-turn terminalEffect terminalEffectCost (effect (a .n) (a .m)) effectFrom 8 (effect-stands (a .n) (a .m)) (a .s .now) (l .left) (l .c) (l .inv) t (c .before .before .build-terminal-effect .ensures)
 
 same-length : tie.Need-same-length Inv-loop μ-loop
 same-length c = c .before .loop .inv .same
