@@ -11,7 +11,6 @@ use Rattle.model.specs.Built.{Built}
 use Rattle.model.proofs.ReadLaws.{Reads}
 use Rattle.hir.specs.declared.Cursor.{Cursor}
 use Rattle.building.specs.declared.Building.{Building}
-use Rattle.instructions.specs.declared.BuildStep.{BuildStep}
 use Rattle.instructions.specs.declared.BuildStep.the-variants.{Got}
 use Rattle.instructions.specs.Cost.{Cost, costs, Fits}
 use Rattle.instructions.specs.InPlace.{wordAt}

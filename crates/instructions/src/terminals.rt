@@ -2,19 +2,13 @@
 use crate::BuildStep;
 use building::Building;
 use hir::Cursor;
-use hir::EvaluationOrder;
 use hir::IdentifierId;
-use hir::KindStep;
-use hir::OrderStep;
 use hir::Place;
-use hir::PlaceStep;
-use hir::TerminalKind;
 ghost use Prim.Native.Nat.{_+_, _≤_, _<_};
 ghost use lib.ListN.{length};
 ghost use Rattle.model.specs.Lists.{each};
-ghost use Rattle.model.specs.Sections.{effects, terminal, terminalOf};
+ghost use Rattle.model.specs.Sections.{effects, terminal};
 ghost use Rattle.model.specs.Building.{terminalEffect, terminal as terminalStep};
-ghost use Rattle.hir.specs.Numbers.{terminalNumber};
 ghost use Rattle.hir.specs.Says.{placeIs};
 ghost use Rattle.building.specs.Built.{Sound};
 ghost use Rattle.instructions.specs.Cost.{costs, terminalEffectCost, terminalCost, Fits};
@@ -61,38 +55,7 @@ fn build_terminal_effects(
     BuildStep::Got(built, Cursor { at: c })
 }
 
-// What follows a terminal's kind and order: of a Return its value, of a Return and a MaybeThrow the effects.
-fn build_terminal_of(
-    c: Cursor,
-    s: &[u32],
-    n: u32,
-    m: u32,
-    ws: &mut [u32],
-    b: Building,
-    returns: Place,
-    kind: TerminalKind,
-    order: EvaluationOrder,
-) -> BuildStep
-    requires { ⌜ (n ≤ 512) × ((m ≤ 64) × (returns .identifier .0 < 512)) ⌝ }
-    requires { ⌜ Ready (terminalOf n m (terminalNumber kind) (order .0) (now s) (c .at)) terminalCost (now ws) b ⌝ }
-    ensures { λ r. ⌜ Builds (terminalOf n m (terminalNumber kind) (order .0) (now (s .entry)) (c .at)) (terminalStep (placeIs returns)) terminalCost (now (ws .entry)) b (now (ws .exit)) r ⌝ }
-{
-    match kind {
-        TerminalKind::Other => BuildStep::Got(b, c),
-        TerminalKind::Return => match c.place(s, n) {
-            PlaceStep::Got(value, d) => {
-                let from = value.identifier;
-                let into = returns.identifier;
-                let stored = b.assign(ws, from, into);
-                build_terminal_effects(d, s, n, m, ws, stored)
-            }
-            PlaceStep::Refused(k) => BuildStep::Refused(k),
-        },
-        TerminalKind::MaybeThrow => build_terminal_effects(c, s, n, m, ws, b),
-    }
-}
-
-// A terminal: the Return value is assigned to `returns`, then come its effects.
+// A terminal, by its kind: Return (1) has a value, which is assigned to `returns`, then effects; MaybeThrow (2) has effects, and any other nothing. Its order does not matter here.
 pub fn build_terminal(
     c: Cursor,
     s: &[u32],
@@ -106,21 +69,17 @@ pub fn build_terminal(
     requires { ⌜ Ready (terminal n m (now s) (c .at)) terminalCost (now ws) b ⌝ }
     ensures { λ r. ⌜ Builds (terminal n m (now (s .entry)) (c .at)) (terminalStep (placeIs returns)) terminalCost (now (ws .entry)) b (now (ws .exit)) r ⌝ }
 {
-    match c.terminal_kind(s) {
-        KindStep::Got(kind, d1) => match d1.order(s) {
-            OrderStep::Got(order, d2) => build_terminal_of(
-                d2,
-                s,
-                n,
-                m,
-                ws,
-                b,
-                returns,
-                kind,
-                order,
-            ),
-            OrderStep::Refused(k2) => BuildStep::Refused(k2),
-        },
-        KindStep::Refused(k1) => BuildStep::Refused(k1),
+    let at = c.at;
+    let kind = s[at];
+    let inside = at + 2;
+    match kind {
+        0 => BuildStep::Got(b, Cursor { at: inside }),
+        1 => {
+            let from = IdentifierId(s[inside]);
+            let into = returns.identifier;
+            let stored = b.assign(ws, from, into);
+            build_terminal_effects(Cursor { at: inside + 3 }, s, n, m, ws, stored)
+        }
+        _ => build_terminal_effects(Cursor { at: inside }, s, n, m, ws, b),
     }
 }
