@@ -1,35 +1,53 @@
 -- A phi: its place, then its operands, each after its predecessor's number.
-use Prim.Native.Nat.{ℕ}
+use Prim.Native.Nat.{ℕ, _+_, _≤_, _<_}
 use native.Mathlib.Omega.{arith}
-use mathlib.Core.Path.{_≡_, _∙_}
+use mathlib.Core.Path.{_≡_, sym, ap, _∙_}
 use mathlib.Core.List.{List, []}
+use lib.ListN.{length}
 use Rattle.model.specs.Limits.{mostCount}
 use Rattle.model.specs.Lists.{each}
 use Rattle.model.specs.Sheet.{BlockId, Place, Operand, Phi}
-use Rattle.model.specs.Reading.{Position, got, refused, andThen, count, numbered}
+use Rattle.model.specs.Reading.{Position, Result, got, andThen, pure, count, numbered}
 use Rattle.model.specs.Sections.{place, operand, phi}
 use Rattle.model.specs.Graph.{create}
 use Rattle.model.specs.Graph.{phi as phiValue}
 use Rattle.model.specs.Built.{changed}
 use Rattle.model.specs.Building.{operand as operandStep, phiNode}
 use Rattle.model.proofs.Counted.{tally-one}
+use Rattle.model.proofs.Got.{got-value, got-next}
+use Rattle.model.proofs.ReadLaws.{Reads, pure-reads, bind-reads}
 use Rattle.building.specs.declared.Building.{Building}
 use Rattle.instructions.specs.declared.BuildStep.{BuildStep}
 use Rattle.instructions.specs.Cost.{relationsOnly, sum, costs}
+use Rattle.instructions.specs.InPlace.{wordAt, placeFrom}
 use Rattle.instructions.specs.Builds.{Spends, Ready, Builds}
-use Rattle.instructions.proofs.Gots.{then-is, then-refused}
+use Rattle.instructions.proofs.Gots.{Both, both-got, then-is}
+use Rattle.instructions.proofs.InPlace.{InPlace, count-stands, place-stands, here-inside, here-got}
+use Rattle.instructions.proofs.Ranges.{place-known}
 use Rattle.instructions.proofs.Spending.{cost-eq, tally-none}
 use Rattle.instructions.proofs.Building.{ready-as, builds-as, last-ready, last-builds, after-ready, after-builds}
 use Rattle.dataflow.specs.Cost.{operandCost, phiCost}
 
--- an operand after its predecessor's number
-pub operand-is : (n : ℕ) (k : BlockId) (s : List ℕ) (c : Position) {p : Place} {d : Position} → place n s c ≡ got p d → operand n k s c ≡ got (record { predecessor = k; place = p }) d
-unfolding operand
-operand-is n k s c q = then-is (place n s c) _ q
+-- an operand after its predecessor's number: a place
+abbrev pub operandFrom : BlockId → List ℕ → Position → Operand
+operandFrom k s c = record { predecessor = k; place = placeFrom s c }
 
-pub operand-refused : (n : ℕ) (k : BlockId) (s : List ℕ) (c : Position) {j : ℕ} → place n s c ≡ refused j → operand n k s c ≡ refused j
+pub operand-stands : (n : ℕ) (k : BlockId) → InPlace (operand n k) (operandFrom k) 3
 unfolding operand
-operand-refused n k s c q = then-refused (place n s c) _ q
+operand-stands n k s c a d e =
+    let p = both-got (place n s c) _ e in
+    let q = place-stands n s c (p .what) (p .next) (p .first) in
+    record {
+      is = sym (got-value (p .second)) ∙ ap (λ (x : Place). record { predecessor = k; place = x }) (q .is);
+      next = sym (got-next (p .second)) ∙ q .next;
+      inside = q .inside;
+    }
+
+pub operand-known : (n : ℕ) → n ≤ 512 → (k : BlockId) → Reads (operand n k) (λ (o : Operand). o .place .identifier < 512)
+unfolding operand
+operand-known n h k =
+    bind-reads (place n) (λ (p : Place). pure (record { predecessor = k; place = p })) (λ (p : Place). p .identifier < 512) (λ (o : Operand). o .place .identifier < 512) (place-known n h)
+    (λ p q. pure-reads (record { predecessor = k; place = p }) (λ (o : Operand). o .place .identifier < 512) q)
 
 -- the phi whose place is p
 abbrev phiAt : Place → List Operand → Phi
@@ -45,13 +63,26 @@ phi-is : (n : ℕ) (s : List ℕ) (c : Position) {p : Place} {k : ℕ} {d e : Po
 unfolding phi
 phi-is n s c {d = d} q r = then-is (place n s c) _ q ∙ then-is (count mostCount s d) _ r
 
-pub phi-refused : (n : ℕ) (s : List ℕ) (c : Position) {j : ℕ} → place n s c ≡ refused j → phi n s c ≡ refused j
-unfolding phi
-phi-refused n s c q = then-refused (place n s c) _ q
+-- its place is the first three words, its count the next
+module _ (n : ℕ) (s : List ℕ) (c : Position) {p : Phi} {d : Position} (e : phi n s c ≡ got p d) where
+  pub place-here : place n s c ≡ got (placeFrom s c) (c + 3)
+  unfolding phi
+  place-here = here-got (place n) placeFrom 3 (place-stands n) s c (both-got (place n s c) _ e .first)
 
-pub count-refused : (n : ℕ) (s : List ℕ) (c : Position) {p : Place} {d : Position} {j : ℕ} → place n s c ≡ got p d → count mostCount s d ≡ refused j → phi n s c ≡ refused j
-unfolding phi
-count-refused n s c {d = d} q r = then-is (place n s c) _ q ∙ then-refused (count mostCount s d) _ r
+  abbrev after : ℕ → Position → Result Phi
+  after k j = andThen (numbered k [] (operand n) s j) (λ (l : List Operand) (i : Position). got (phiAt (placeFrom s c) l) i)
+
+  count-got : Both (count mostCount s (c + 3)) after p d
+  unfolding phi
+  count-got = both-got (count mostCount s (c + 3)) after (sym (then-is (place n s c) _ place-here) ∙ e)
+
+  pub count-here : count mostCount s (c + 3) ≡ got (wordAt s (c + 3)) (c + 4)
+  count-here =
+      let k : c + 3 + 1 ≡ c + 4 = omega arith in
+      here-got (count mostCount) wordAt 1 (count-stands mostCount) s (c + 3) (count-got .first) ∙ ap (got (wordAt s (c + 3))) k
+
+  pub phi-inside : c + 4 ≤ length s
+  phi-inside = omega (arith, here-inside (count mostCount) wordAt 1 (count-stands mostCount) s (c + 3) (count-got .first))
 
 module _ (n : ℕ) (s : List ℕ) (c : Position) {p : Place} {k : ℕ} {d e : Position} (q : place n s c ≡ got p d) (r : count mostCount s d ≡ got k e) {ws ws₁ : List ℕ} {b b₁ : Building} (x : Spends (changed (create (p .identifier) phiValue)) (relationsOnly 0) ws b ws₁ b₁) where
   pub operands-ready : Ready (phi n s c) phiCost ws b → Ready (numbered k [] (operand n) s e) (costs operandCost) ws₁ b₁

@@ -2,7 +2,6 @@
 use crate::phis::build_phis;
 use building::Building;
 use hir::BlockId;
-use hir::BlockStep;
 use hir::Cursor;
 use hir::Place;
 use instructions::BuildStep;
@@ -76,24 +75,15 @@ pub fn build_blocks(
     let mut c = start;
     let mut built = b;
     while 0 < left {
-        let number: BlockId;
-        let d: Cursor;
-        match c.block_number(s) {
-            BlockStep::Got(w, d1) => {
-                number = w;
-                d = d1;
-            }
-            BlockStep::Refused(k1) => {
-                return BuildStep::Refused(k1);
-            }
-        }
-        match build_block(d, s, n, m, ws, built, number, returns) {
-            BuildStep::Got(t, d2) => {
+        let at = c.at;
+        let number = BlockId(s[at]);
+        match build_block(Cursor { at: at + 1 }, s, n, m, ws, built, number, returns) {
+            BuildStep::Got(t, d) => {
                 built = t;
-                c = d2;
+                c = d;
             }
-            BuildStep::Refused(k2) => {
-                return BuildStep::Refused(k2);
+            BuildStep::Refused(k) => {
+                return BuildStep::Refused(k);
             }
         }
         left -= 1;

@@ -1,10 +1,10 @@
--- What is read is built: where the reading refuses, where a part is read and then built, and where the part is the last of a whole.
+-- What is read is built: where a part is read and then built, and where the part is the last of a whole.
 use Prim.Native.Nat.{ℕ}
 use mathlib.Core.Path.{_≡_, sym, subst, _∙_}
 use mathlib.Core.List.{List}
-use Rattle.model.specs.Reading.{Position, Result, got, refused, andThen}
+use Rattle.model.specs.Reading.{Position, Result, got, andThen}
 use Rattle.model.specs.Built.{Built}
-use Rattle.model.proofs.Got.{got-value, got-next, not-both}
+use Rattle.model.proofs.Got.{got-value, got-next}
 use Rattle.hir.specs.declared.Cursor.{Cursor}
 use Rattle.building.specs.declared.Building.{Building}
 use Rattle.building.specs.Built.{Sound}
@@ -16,10 +16,6 @@ use Rattle.instructions.proofs.Gots.{both-got}
 use Rattle.instructions.proofs.Spending.{spends-then, fits-second}
 
 module _ {A : Type 0} {read : Result A} {step : A → Built → Built} {cost : A → Cost} {ws : List ℕ} {b : Building} where
-  -- a refusal is not what is read
-  pub refused-builds : {k : ℕ} {ws′ : List ℕ} {r : BuildStep} → read ≡ refused k → Builds read step cost ws b ws′ r
-  refused-builds q = record { reaches = λ x d e. absurd (not-both e q) }
-
   -- what was read, built
   pub step-builds : (a : A) (c : Cursor) {ws′ : List ℕ} {r : Building} → read ≡ got a (c .at) → Spends (step a) (cost a) ws b ws′ r → Builds read step cost ws b ws′ (Got r c)
   step-builds a c {ws′} {r} q h = record {
@@ -39,9 +35,6 @@ module _ {A : Type 0} {read : Result A} {step : A → Built → Built} {cost : A
 module _ {A : Type 0} {read : Result A} {cost : A → Cost} {ws : List ℕ} {b : Building} (w : Ready read cost ws b) where
   pub ready-fits : {a : A} {d : Position} → read ≡ got a d → Fits (cost a) b
   ready-fits q = subst (λ (z : A). Fits (cost z) b) (got-value (sym (w .reads) ∙ q)) (w .fits)
-
-  pub ready-refused : {k : ℕ} → read ≡ refused k → ⊥
-  ready-refused q = not-both (w .reads) q
 
 -- the same answer of the reading
 pub ready-as : {A : Type 0} {read read′ : Result A} {cost : A → Cost} {ws : List ℕ} {b : Building} → read ≡ read′ → Ready read cost ws b → Ready read′ cost ws b

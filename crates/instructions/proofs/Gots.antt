@@ -32,7 +32,7 @@ module _ {A B : Type 0} where
   then-is r f e = ap (λ (z : Result A). andThen z f) e
 
   -- if it is refused, so is the whole
-  pub then-refused : (r : Result A) (f : A → Position → Result B) {k : ℕ} → r ≡ refused k → andThen r f ≡ refused k
+  then-refused : (r : Result A) (f : A → Position → Result B) {k : ℕ} → r ≡ refused k → andThen r f ≡ refused k
   then-refused r f e = ap (λ (z : Result A). andThen z f) e
 
 module _ {A : Type 0} where

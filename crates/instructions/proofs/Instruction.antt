@@ -1,28 +1,32 @@
 -- An instruction: its order, then its effects.
-use Prim.Native.Nat.{ℕ}
+use Prim.Native.Nat.{ℕ, _+_, _≤_}
 use mathlib.Core.Path.{_≡_}
 use mathlib.Core.List.{List}
+use lib.ListN.{length}
 use Rattle.model.specs.Limits.{mostOrder, mostCount}
 use Rattle.model.specs.Lists.{each}
 use Rattle.model.specs.Sheet.{EvaluationOrder, EffectList, Instruction}
-use Rattle.model.specs.Reading.{Position, got, refused, count, atMost, times}
+use Rattle.model.specs.Reading.{Position, got, atMost, times}
 use Rattle.model.specs.Sections.{effect, effects, instruction}
 use Rattle.model.specs.Building.{instruction as instructionStep}
 use Rattle.building.specs.declared.Building.{Building}
 use Rattle.instructions.specs.declared.BuildStep.{BuildStep}
 use Rattle.instructions.specs.Cost.{costs, effectCost, instructionCost}
 use Rattle.instructions.specs.Builds.{effectStep, Ready, Builds}
-use Rattle.instructions.proofs.Gots.{then-is, then-refused, counted-is, counted-refused}
+use Rattle.instructions.proofs.Gots.{both-got, then-is}
+use Rattle.instructions.specs.InPlace.{wordAt}
+use Rattle.instructions.proofs.InPlace.{at-most-stands, here-inside, here-got, counted-inside, counted-here}
 use Rattle.instructions.proofs.Building.{ready-as, builds-as, last-ready, last-builds}
 
--- the effects after their count
-pub effects-are : (n m : ℕ) (s : List ℕ) (c : Position) {k : ℕ} {d : Position} → count mostCount s c ≡ got k d → effects n m s c ≡ times k (effect n m) s d
-unfolding effects
-effects-are n m s c q = counted-is mostCount (effect n m) s c q
+-- the effects: their count is the first word
+module _ (n m : ℕ) (s : List ℕ) (c : Position) {l : EffectList} {d : Position} (e : effects n m s c ≡ got l d) where
+  pub effects-inside : c + 1 ≤ length s
+  unfolding effects
+  effects-inside = counted-inside mostCount (effect n m) s c e
 
-pub effects-refused : (n m : ℕ) (s : List ℕ) (c : Position) {k : ℕ} → count mostCount s c ≡ refused k → effects n m s c ≡ refused k
-unfolding effects
-effects-refused n m s c q = counted-refused mostCount (effect n m) s c q
+  pub effects-here : effects n m s c ≡ times (wordAt s c) (effect n m) s (c + 1)
+  unfolding effects
+  effects-here = counted-here mostCount (effect n m) s c e
 
 -- the instruction after its order
 abbrev withOrder : EvaluationOrder → EffectList → Instruction
@@ -37,6 +41,12 @@ module _ (n m : ℕ) (s : List ℕ) (c : Position) {o : EvaluationOrder} {d : Po
   unfolding instruction instructionCost instructionStep
   instruction-builds h = builds-as (then-is (atMost mostOrder s c) _ q) (last-builds (effects n m s d) (withOrder o) instructionCost instructionStep h)
 
-pub instruction-refused : (n m : ℕ) (s : List ℕ) (c : Position) {k : ℕ} → atMost mostOrder s c ≡ refused k → instruction n m s c ≡ refused k
-unfolding instruction
-instruction-refused n m s c q = then-refused (atMost mostOrder s c) _ q
+-- its order is the first word
+module _ (n m : ℕ) (s : List ℕ) (c : Position) {i : Instruction} {d : Position} (e : instruction n m s c ≡ got i d) where
+  pub order-inside : c + 1 ≤ length s
+  unfolding instruction
+  order-inside = here-inside (atMost mostOrder) wordAt 1 (at-most-stands mostOrder) s c (both-got (atMost mostOrder s c) _ e .first)
+
+  pub order-here : atMost mostOrder s c ≡ got (wordAt s c) (c + 1)
+  unfolding instruction
+  order-here = here-got (atMost mostOrder) wordAt 1 (at-most-stands mostOrder) s c (both-got (atMost mostOrder s c) _ e .first)

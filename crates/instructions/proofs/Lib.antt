@@ -7,3 +7,4 @@ pub mod Ranges
 pub mod Effect
 pub mod Instruction
 pub mod Terminal
+pub mod InPlace

@@ -1,11 +1,12 @@
 -- A loop that reads a list of parts and builds each: the rest of the list is still to be built, and then all of it is.
-use Prim.Native.Nat.{ℕ, _-_, _≤_, _<_}
+use Prim.Native.Nat.{ℕ, _+_, _-_, _≤_, _<_}
 use mathlib.Core.Path.{_≡_, refl, sym, subst, ap, _∙_}
 use mathlib.Core.List.{List, [], _∷_}
 use lib.ListN.{length}
 use Rattle.model.specs.Lists.{each}
 use Rattle.model.specs.Reading.{Position, Result, got, Read, times}
 use Rattle.model.specs.Built.{Built}
+use Rattle.model.proofs.ReadLaws.{Reads}
 use Rattle.hir.specs.declared.Cursor.{Cursor}
 use Rattle.building.specs.declared.Building.{Building}
 use Rattle.instructions.specs.declared.BuildStep.{BuildStep}
@@ -14,7 +15,8 @@ use Rattle.instructions.specs.Cost.{Cost, costs, Fits}
 use Rattle.instructions.specs.Builds.{Spends, Reaches, Ready, Builds}
 use Rattle.instructions.proofs.Gots.{joined, joined-got, times-joined, times-none}
 use Rattle.instructions.proofs.Spending.{spends-none, spends-then, fits-first, fits-second}
-use Rattle.instructions.proofs.Building.{step-builds, builds-as, ready-as}
+use Rattle.instructions.proofs.Building.{step-builds, builds-as, ready-fits, ready-as}
+use Rattle.instructions.proofs.InPlace.{InPlace, here-inside, here-got}
 
 module _ {A : Type 0} (step : A → Built → Built) (cost : A → Cost) where
   -- what is left to be read, `now`: whatever builds it has built the whole
@@ -85,3 +87,28 @@ module _ {A : Type 0} (step : A → Built → Built) (cost : A → Cost) (f : Re
 
   pub times-done : left ≤ 0 → Builds whole (each step) (costs cost) ws₀ b₀ ws (Got b c)
   times-done t = loop-done step cost i c (times-none left f s (c .at) t)
+
+-- parts of so many words each, read in place: so many are left at c
+module _ {A : Type 0} (step : A → Built → Built) (cost : A → Cost) (f : Read A) (here : List ℕ → Position → A) (words : ℕ) (stands : InPlace f here words) (s : List ℕ) {whole : Result (List A)} {ws₀ : List ℕ} {b₀ : Building} (left : ℕ) (c : Position) {ws : List ℕ} {b : Building} (i : Looping step cost whole ws₀ b₀ (times left f s c) ws b) where
+  module _ (t : 0 < left) where
+    ready : Ready (f s c) cost ws b
+    ready = times-ready step cost f s left (record { at = c }) i t
+
+    is-here : f s c ≡ got (here s c) (c + words)
+    is-here = here-got f here words stands s c (ready .reads)
+
+    -- the next one is inside the sheet
+    pub standing-inside : c + words ≤ length s
+    standing-inside = here-inside f here words stands s c (ready .reads)
+
+    -- there is room for it
+    pub standing-fits : Fits (cost (here s c)) b
+    standing-fits = ready-fits ready is-here
+
+    -- it is what the reading makes it
+    pub standing-known : (P : A → Type 0) → Reads f P → P (here s c)
+    standing-known P h = h s c (here s c) (c + words) is-here
+
+    -- it was built: one less is left
+    pub standing-turn : {ws₁ : List ℕ} {b₁ : Building} → Spends (step (here s c)) (cost (here s c)) ws b ws₁ b₁ → Looping step cost whole ws₀ b₀ (times (left - 1) f s (c + words)) ws₁ b₁
+    standing-turn h = times-turn step cost f s left (record { at = c }) i (record { at = c + words }) t (step-builds (here s c) (record { at = c + words }) is-here h)

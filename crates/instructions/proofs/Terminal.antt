@@ -1,33 +1,34 @@
 -- A terminal: its kind and order, of a Return its value, then its effects.
-use Prim.Native.Nat.{ℕ, suc, _<_}
+use Prim.Native.Nat.{ℕ, zero, suc, _+_, _≤_, _<_}
 use native.Mathlib.Omega.{arith}
 use mathlib.Core.Path.{_≡_, refl, sym, subst, ap, _∙_}
 use mathlib.Core.Bool.{Bool, true, false}
 use mathlib.Core.List.{List}
-use borrow.Author.Tests.{eq-eqb, ne-eqb}
+use lib.Dec.{eqb}
+use lib.ListN.{length}
+use borrow.Author.Tests.{ne-eqb}
 use Rattle.model.specs.Limits.{mostOrder, mostTerminal, mostRelations}
 use Rattle.model.specs.Lists.{pick, each, oneIf}
-use Rattle.model.specs.Sheet.{EvaluationOrder, Place, Effect, EffectList, Other, Return, MaybeThrow}
-use Rattle.model.specs.Effects.{rowOf, isAlias}
+use Rattle.model.specs.Sheet.{EvaluationOrder, Place, Effect, EffectList, Terminal, Other, Return, MaybeThrow}
+use Rattle.model.specs.Effects.{kindOf, rowOf, isAlias}
 use Rattle.model.specs.Totals.{aliasesIn}
-use Rattle.model.specs.Reading.{Position, got, refused, andThen, atMost}
+use Rattle.model.specs.Reading.{Position, got, andThen, atMost}
 use Rattle.model.specs.Sections.{place, effects, terminalOf, terminal}
 use Rattle.model.specs.Graph.{intoAliases, relate}
 use Rattle.model.specs.Built.{Built, between}
 use Rattle.model.specs.Building.{terminalEffect, terminal as terminalStep}
-use Rattle.hir.specs.Numbers.{terminalNumber, kindSays, kindNumber}
-use Rattle.hir.specs.declared.EffectKind.{EffectKind}
-use Rattle.hir.proofs.EffectKinds.{number-same}
 use Rattle.hir.specs.declared.Cursor.{Cursor}
-use Rattle.hir.specs.declared.TerminalKind.{TerminalKind}
 use Rattle.building.specs.declared.Building.{Building}
 use Rattle.building.specs.Built.{Sound}
 use Rattle.instructions.specs.declared.BuildStep.{BuildStep}
 use Rattle.instructions.specs.declared.BuildStep.the-variants.{Got}
 use Rattle.instructions.specs.Cost.{relationsOnly, sum, costs, terminalEffectCost, terminalCost, Fits}
+use Rattle.instructions.specs.InPlace.{wordAt, placeFrom}
 use Rattle.instructions.specs.Builds.{Spends, Ready, Builds}
-use Rattle.instructions.proofs.Gots.{then-is, then-refused}
+use Rattle.instructions.proofs.Gots.{Both, both-got, then-is}
+use Rattle.instructions.proofs.InPlace.{at-most-stands, place-stands, here-inside, here-got}
 use Rattle.instructions.proofs.Spending.{spends-none, cost-eq, costs-relations}
+use Rattle.instructions.proofs.Effect.{number-row}
 use Rattle.instructions.proofs.Building.{step-builds, ready-as, builds-as, cost-ready, cost-builds, last-ready, last-builds, after-ready, after-builds}
 
 -- what the effects spend
@@ -47,21 +48,39 @@ returns-cost o p l =
     ap (sum (relationsOnly 1)) (effects-cost l) ∙ e
 
 -- the terminal after its kind and order
-pub terminal-is : (n m : ℕ) (s : List ℕ) (c : Position) {k o : ℕ} {d e : Position} → atMost mostTerminal s c ≡ got k d → atMost mostOrder s d ≡ got o e → terminal n m s c ≡ terminalOf n m k o s e
+terminal-is : (n m : ℕ) (s : List ℕ) (c : Position) {k o : ℕ} {d e : Position} → atMost mostTerminal s c ≡ got k d → atMost mostOrder s d ≡ got o e → terminal n m s c ≡ terminalOf n m k o s e
 unfolding terminal
 terminal-is n m s c {d = d} p q = then-is (atMost mostTerminal s c) _ p ∙ then-is (atMost mostOrder s d) _ q
 
-pub kind-refused : (n m : ℕ) (s : List ℕ) (c : Position) {j : ℕ} → atMost mostTerminal s c ≡ refused j → terminal n m s c ≡ refused j
-unfolding terminal
-kind-refused n m s c p = then-refused (atMost mostTerminal s c) _ p
+-- its kind is the first word, its order the second
+module _ (n m : ℕ) (s : List ℕ) (c : Position) {t : Terminal} {d : Position} (e : terminal n m s c ≡ got t d) where
+  kind-here : atMost mostTerminal s c ≡ got (wordAt s c) (c + 1)
+  unfolding terminal
+  kind-here = here-got (atMost mostTerminal) wordAt 1 (at-most-stands mostTerminal) s c (both-got (atMost mostTerminal s c) _ e .first)
 
-pub order-refused : (n m : ℕ) (s : List ℕ) (c : Position) {k j : ℕ} {d : Position} → atMost mostTerminal s c ≡ got k d → atMost mostOrder s d ≡ refused j → terminal n m s c ≡ refused j
-unfolding terminal
-order-refused n m s c {d = d} p q = then-is (atMost mostTerminal s c) _ p ∙ then-refused (atMost mostOrder s d) _ q
+  order-got : Both (atMost mostOrder s (c + 1)) (λ (o : ℕ) (j : Position). terminalOf n m (wordAt s c) o s j) t d
+  unfolding terminal
+  order-got = both-got (atMost mostOrder s (c + 1)) (λ (o : ℕ) (j : Position). terminalOf n m (wordAt s c) o s j) (sym (then-is (atMost mostTerminal s c) _ kind-here) ∙ e)
 
--- what follows a kind
-pub of-kind : (n m : ℕ) (o : EvaluationOrder) (s : List ℕ) (c : Position) {j k : TerminalKind} → j ≡ k → terminalOf n m (terminalNumber j) o s c ≡ terminalOf n m (terminalNumber k) o s c
-of-kind n m o s c e = ap (λ (k : TerminalKind). terminalOf n m (terminalNumber k) o s c) e
+  pub terminal-inside : c + 2 ≤ length s
+  terminal-inside = omega (arith, here-inside (atMost mostOrder) wordAt 1 (at-most-stands mostOrder) s (c + 1) (order-got .first))
+
+  -- what follows them, by the kind
+  pub terminal-here : {k : ℕ} → wordAt s c ≡ k → terminal n m s c ≡ terminalOf n m k (wordAt s (c + 1)) s (c + 2)
+  terminal-here q =
+      let j : c + 1 + 1 ≡ c + 2 = omega arith in
+      let o = here-got (atMost mostOrder) wordAt 1 (at-most-stands mostOrder) s (c + 1) (order-got .first) ∙ ap (got (wordAt s (c + 1))) j in
+      terminal-is n m s c kind-here o ∙ ap (λ (k : ℕ). terminalOf n m k (wordAt s (c + 1)) s (c + 2)) q
+
+  -- any other kind is MaybeThrow
+  pub throw-here : (wordAt s c ≡ 0 → ⊥) → (wordAt s c ≡ 1 → ⊥) → terminal n m s c ≡ terminalOf n m 2 (wordAt s (c + 1)) s (c + 2)
+  unfolding terminalOf
+  throw-here a b = terminal-here refl ∙ go (wordAt s c) a b
+    where
+      go : (k : ℕ) → (k ≡ 0 → ⊥) → (k ≡ 1 → ⊥) → terminalOf n m k (wordAt s (c + 1)) s (c + 2) ≡ terminalOf n m 2 (wordAt s (c + 1)) s (c + 2)
+      go zero a b = absurd (a refl)
+      go (suc zero) a b = absurd (b refl)
+      go (suc (suc k)) a b = refl
 
 -- a Return after its value
 return-is : (n m : ℕ) (s : List ℕ) (o : EvaluationOrder) (c : Position) {p : Place} {d : Position}
@@ -69,9 +88,10 @@ return-is : (n m : ℕ) (s : List ℕ) (o : EvaluationOrder) (c : Position) {p :
 unfolding terminalOf
 return-is n m s o c q = then-is (place n s c) _ q
 
-pub return-refused : (n m : ℕ) (s : List ℕ) (o : EvaluationOrder) (c : Position) {j : ℕ} → place n s c ≡ refused j → terminalOf n m 1 o s c ≡ refused j
+-- which is the next three words
+pub value-here : (n m : ℕ) (s : List ℕ) (o : EvaluationOrder) (c : Position) {t : Terminal} {d : Position} → terminalOf n m 1 o s c ≡ got t d → place n s c ≡ got (placeFrom s c) (c + 3)
 unfolding terminalOf
-return-refused n m s o c q = then-refused (place n s c) _ q
+value-here n m s o c e = here-got (place n) placeFrom 3 (place-stands n) s c (both-got (place n s c) _ e .first)
 
 module _ (n m : ℕ) (s : List ℕ) (r : Place) (o : EvaluationOrder) {ws : List ℕ} {b : Building} where
   -- another terminal has neither value nor effects
@@ -108,11 +128,12 @@ module _ (n m : ℕ) (s : List ℕ) (r : Place) (o : EvaluationOrder) {ws : List
           (after-builds (relationsOnly 1) (costs terminalEffectCost) (λ (l : EffectList). terminalCost (Return o p l)) (returns-cost o p) x (each terminalEffect) h))
 
 -- an Alias is known by its number
-pub is-alias : (k : EffectKind) (n : ℕ) → n ≡ kindNumber k → n ≡ 6 → isAlias (kindSays k) ≡ true
-is-alias k n p q = eq-eqb (rowOf (kindSays k) .number) 6 (number-same k ∙ sym p ∙ q)
+pub is-alias : (k : ℕ) → k ≡ 6 → isAlias (kindOf k) ≡ true
+unfolding kindOf rowOf
+is-alias k q = ap (λ (k : ℕ). isAlias (kindOf k)) q
 
-pub not-alias : (k : EffectKind) (n : ℕ) → n ≡ kindNumber k → (n ≡ 6 → ⊥) → isAlias (kindSays k) ≡ false
-not-alias k n p q = ne-eqb (rowOf (kindSays k) .number) 6 (λ e. q (p ∙ sym (number-same k) ∙ e))
+pub not-alias : (k : ℕ) → (k ≡ 6 → ⊥) → isAlias (kindOf k) ≡ false
+not-alias k q = number-row (λ (x : ℕ). eqb x 6 ≡ false) k (ne-eqb k 6 q) refl
 
 -- an effect of a terminal: an Alias, or one that does nothing
 pub alias-fits : (e : Effect) {b : Building} → isAlias (e .kind) ≡ true → Fits (terminalEffectCost e) b → b .relations < mostRelations

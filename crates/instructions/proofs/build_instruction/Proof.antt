@@ -1,50 +1,51 @@
-use borrow.Author.Needs.{needs}
-use Rattle.hir.specs.Says.{orderSays}
-use Rattle.hir.proofs.Answers.{says}
-use Rattle.instructions.proofs.Instruction.{instruction-ready, instruction-builds, instruction-refused}
-use Rattle.instructions.proofs.Building.{refused-builds}
+use native.Mathlib.Omega.{arith}
+use Rattle.instructions.proofs.Instruction.{order-inside, order-here, instruction-ready, instruction-builds}
 use Rattle.instructions.proofs.build_instruction.Statement.{statement}
 use Rattle.instructions.proofs.build_instruction.Tie as tie
 
-order-requires : tie.Need-order-requires
-order-requires c κs = search needs
+mul-t9 : tie.Need-mul-t9
+mul-t9 c =
+    let b = c .before .before in
+    let a = b .args in
+    let i = order-inside (a .n) (a .m) (a .s .now) (a .c .at) (b .pre .1 .reads) in
+    omega (arith, i)
 
-enum-known-order : tie.Need-enum-known-order
-enum-known-order c = search needs
+shared-slice-read-t11 : tie.Need-shared-slice-read-t11
+shared-slice-read-t11 c =
+    let b = c .before .before .before in
+    let a = b .args in
+    let i = order-inside (a .n) (a .m) (a .s .now) (a .c .at) (b .pre .1 .reads) in
+    omega (arith, i)
+
+add-t9 : tie.Need-add-t9
+add-t9 c =
+    let b = c .before .before .before in
+    let a = b .args in
+    let i = order-inside (a .n) (a .m) (a .s .now) (a .c .at) (b .pre .1 .reads) in
+    omega (arith, i)
 
 build-effects-requires : tie.Need-build-effects-requires
 build-effects-requires c κs =
-    let b4 = c .before .before .before .before in
-    let b7 = b4 .before .before .before in
-    (b7 .pre .0, instruction-ready (b7 .args .n) (b7 .args .m) (b7 .args .s .now) (b7 .args .c .at) (says orderSays (c .before .before .order2 .given .1) (b4 .order .ensures)) (b7 .pre .1))
-
-enum-known-k : tie.Need-enum-known-k
-enum-known-k c = search needs
+    let b = c .before .before .before .before in
+    let a = b .args in
+    (b .pre .0, instruction-ready (a .n) (a .m) (a .s .now) (a .c .at) (order-here (a .n) (a .m) (a .s .now) (a .c .at) (b .pre .1 .reads)) (b .pre .1))
 
 same-length : tie.Need-same-length
 same-length c = c .before .before .build-effects .kept .1 .1 .1 .1 .0
 
 returns : tie.Need-returns
 returns c =
-    let b5 = c .before .before .before .before .before in
-    let b7 = b5 .before .before in
-    let b10 = b7 .before .before .before in
-    instruction-builds (b10 .args .n) (b10 .args .m) (b10 .args .s .now) (b10 .args .c .at) (says orderSays (b5 .order2 .given .1) (b7 .order .ensures)) (c .before .before .build-effects .ensures)
-
-returns-2 : tie.Need-returns-2
-returns-2 c =
-    let b3 = c .before .before .before in
-    let b6 = b3 .before .before .before in
-    refused-builds (instruction-refused (b6 .args .n) (b6 .args .m) (b6 .args .s .now) (b6 .args .c .at) (says orderSays (c .before .k .given .1) (b3 .order .ensures)))
+    let b = c .before .before .before .before .before .before .before in
+    let a = b .args in
+    instruction-builds (a .n) (a .m) (a .s .now) (a .c .at) (order-here (a .n) (a .m) (a .s .now) (a .c .at) (b .pre .1 .reads)) (c .before .before .build-effects .ensures)
 
 pub build-instruction-spec : {M : Type 1} → statement M
 build-instruction-spec =
     tie.close
     (tie.spec
-    order-requires
-    enum-known-order
+    mul-t9
+    shared-slice-read-t11
+    add-t9
     build-effects-requires
-    enum-known-k
     same-length
-    returns
-    returns-2)
+    returns)

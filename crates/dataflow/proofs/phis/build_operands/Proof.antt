@@ -1,91 +1,109 @@
 use native.Mathlib.Omega.{arith}
+use Prim.Native.Nat.{_+_, _<_}
 use mathlib.Core.List.{[]}
-use borrow.Author.Needs.{needs}
+use Rattle.model.specs.Sheet.{Operand}
 use Rattle.model.specs.Sections.{operand}
 use Rattle.model.specs.Reading.{numbered}
 use Rattle.model.specs.Building.{operand as operandStep}
-use Rattle.hir.specs.Says.{placeIs, placeSays, blockSays}
-use Rattle.hir.proofs.Answers.{says}
-use Rattle.instructions.proofs.Ranges.{place-known}
-use Rattle.instructions.proofs.Numbering.{Numbering, numbering-start, numbering-done, number-refused, numbering-ready, numbering-turn}
-use Rattle.instructions.proofs.Building.{step-builds, ready-fits, ready-refused}
+use Rattle.instructions.specs.InPlace.{placeFrom}
+use Rattle.instructions.proofs.Numbering.{Numbering, numbering-start, numbering-done, numbered-inside, numbered-fits, numbered-known, numbered-turn}
 use Rattle.dataflow.specs.Cost.{operandCost}
-use Rattle.dataflow.proofs.Phi.{operand-is, operand-refused}
+use Rattle.dataflow.proofs.Phi.{operandFrom, operand-stands, operand-known}
 use Rattle.dataflow.proofs.phis.build_operands.Statement.{statement}
 use Rattle.dataflow.proofs.phis.build_operands.Tie as tie
 
 abbrev Inv-loop : tie.InvT-loop
-Inv-loop s n ws₀ into count left₀ c₀ built₀ ws left c built = Numbering (operandStep (placeIs into)) operandCost (operand n) s (numbered left₀ [] (operand n) s (c₀ .at)) ws₀ built₀ left c ws built
+Inv-loop at s n ws₀ phi left₀ c₀ built₀ ws left c built = Numbering (operandStep (placeFrom s at)) operandCost (operand n) s (numbered left₀ [] (operand n) s c₀) ws₀ built₀ left (record { at = c }) ws built
 
 abbrev μ-loop : tie.MeasureT-loop
-μ-loop s n ws₀ into count left₀ c₀ built₀ ws left c built = left
+μ-loop at s n ws₀ phi left₀ c₀ built₀ ws left c built = left
+
+mul-left : tie.Need-mul-left Inv-loop μ-loop
+mul-left c = omega (arith, c .before .before .pre .0 .1 .1)
+
+shared-slice-read-left : tie.Need-shared-slice-read-left Inv-loop μ-loop
+shared-slice-read-left c = omega (arith, c .before .before .before .pre .0 .1 .1)
+
+add-left : tie.Need-add-left Inv-loop μ-loop
+add-left c = omega (arith, c .before .before .before .pre .0 .1 .1)
+
+mul-left-2 : tie.Need-mul-left-2 Inv-loop μ-loop
+mul-left-2 c = omega (arith, c .before .before .before .pre .0 .1 .1)
+
+shared-slice-read-left-2 : tie.Need-shared-slice-read-left-2 Inv-loop μ-loop
+shared-slice-read-left-2 c = omega (arith, c .before .before .before .before .pre .0 .1 .1)
+
+add-c : tie.Need-add-c Inv-loop μ-loop
+add-c c = omega (arith, c .before .before .before .before .pre .0 .1 .1)
 
 loop-holds : tie.Need-loop-holds Inv-loop μ-loop
-loop-holds c = let a = c .before .before .args in numbering-start (operandStep (placeIs (a .into))) operandCost (operand (a .n)) (a .s .now) (a .count) (a .start) (c .before .before .pre .1)
+loop-holds c =
+    let b = c .before .before .before .before in
+    let a = b .args in
+    numbering-start (operandStep (placeFrom (a .s .now) (a .at))) operandCost (operand (a .n)) (a .s .now) _ (record { at = a .at + 4 }) (b .pre .1)
 
-block-number-requires : tie.Need-block-number-requires Inv-loop μ-loop
-block-number-requires c κs = search needs
+mul-t18 : tie.Need-mul-t18 Inv-loop μ-loop
+mul-t18 c =
+    let l = c .before .loop in
+    let b = c .before .before .before .before .before .before in
+    let a = b .args in
+    let t = c .loop-test .taken in
+    let i = numbered-inside (operandStep (placeFrom (a .s .now) (a .at))) operandCost (operand (a .n)) operandFrom 3 (operand-stands (a .n)) (a .s .now) (l .left) (l .c) (l .inv) t in
+    omega (arith, i)
 
-enum-known-predecessor : tie.Need-enum-known-predecessor Inv-loop μ-loop
-enum-known-predecessor c = search needs
+shared-slice-read-t20 : tie.Need-shared-slice-read-t20 Inv-loop μ-loop
+shared-slice-read-t20 c =
+    let l = c .before .before .loop in
+    let b = c .before .before .before .before .before .before .before in
+    let a = b .args in
+    let t = c .before .loop-test .taken in
+    let i = numbered-inside (operandStep (placeFrom (a .s .now) (a .at))) operandCost (operand (a .n)) operandFrom 3 (operand-stands (a .n)) (a .s .now) (l .left) (l .c) (l .inv) t in
+    omega (arith, i)
 
-place-requires : tie.Need-place-requires Inv-loop μ-loop
-place-requires c κs = search needs
+add-t18 : tie.Need-add-t18 Inv-loop μ-loop
+add-t18 c =
+    let l = c .before .before .loop in
+    let b = c .before .before .before .before .before .before .before in
+    let a = b .args in
+    let t = c .before .loop-test .taken in
+    let i = numbered-inside (operandStep (placeFrom (a .s .now) (a .at))) operandCost (operand (a .n)) operandFrom 3 (operand-stands (a .n)) (a .s .now) (l .left) (l .c) (l .inv) t in
+    omega (arith, i)
 
-enum-known-place : tie.Need-enum-known-place Inv-loop μ-loop
-enum-known-place c = search needs
+mul-t21 : tie.Need-mul-t21 Inv-loop μ-loop
+mul-t21 c =
+    let l = c .before .before .loop in
+    let b = c .before .before .before .before .before .before .before in
+    let a = b .args in
+    let t = c .before .loop-test .taken in
+    let i = numbered-inside (operandStep (placeFrom (a .s .now) (a .at))) operandCost (operand (a .n)) operandFrom 3 (operand-stands (a .n)) (a .s .now) (l .left) (l .c) (l .inv) t in
+    omega (arith, i)
+
+shared-slice-read-t20-2 : tie.Need-shared-slice-read-t20-2 Inv-loop μ-loop
+shared-slice-read-t20-2 c =
+    let l = c .before .before .before .loop in
+    let b = c .before .before .before .before .before .before .before .before in
+    let a = b .args in
+    let t = c .before .before .loop-test .taken in
+    let i = numbered-inside (operandStep (placeFrom (a .s .now) (a .at))) operandCost (operand (a .n)) operandFrom 3 (operand-stands (a .n)) (a .s .now) (l .left) (l .c) (l .inv) t in
+    omega (arith, i)
 
 operand-requires : tie.Need-operand-requires Inv-loop μ-loop
 operand-requires c κs =
-    let b4 = c .before .before .before .before in
-    let b6 = b4 .before .before in
-    let b8 = b6 .before .before in
-    let b10 = b8 .before .before in
-    let b11 = b10 .before in
-    let b12 = b11 .before in
-    let b15 = b12 .before .before .before in
-    let a = b15 .args in
-    let l = b12 .loop in
-    let p = says placeSays (b4 .place2 .given .1) (b6 .place .ensures) in
-    let w = numbering-ready (operandStep (placeIs (a .into))) operandCost (operand (a .n)) (a .s .now) (l .left) (l .c) (l .inv) (b11 .loop-test .taken) (says blockSays (b8 .predecessor .given .1) (b10 .block-number .ensures)) in
-    let f = ready-fits w (operand-is (a .n) _ (a .s .now) _ p) in
-    (w .sound, (omega (arith, f .relations), (place-known (a .n) (b15 .pre .0 .0) (a .s .now) _ _ _ p, b15 .pre .0 .1)))
+    let l = c .before .before .before .before .loop in
+    let b = c .before .before .before .before .before .before .before .before .before in
+    let a = b .args in
+    let t = c .before .before .before .loop-test .taken in
+    let f = numbered-fits (operandStep (placeFrom (a .s .now) (a .at))) operandCost (operand (a .n)) operandFrom 3 (operand-stands (a .n)) (a .s .now) (l .left) (l .c) (l .inv) t in
+    (l .inv .looping .ready .sound, (omega (arith, f .relations), (numbered-known (operandStep (placeFrom (a .s .now) (a .at))) operandCost (operand (a .n)) operandFrom 3 (operand-stands (a .n)) (a .s .now) (l .left) (l .c) (l .inv) t (λ (o : Operand). o .place .identifier < 512) (operand-known (a .n) (b .pre .0 .0)), b .pre .0 .1 .0)))
 
-enum-known-k2 : tie.Need-enum-known-k2 Inv-loop μ-loop
-enum-known-k2 c = search needs
-
-same-length : tie.Need-same-length Inv-loop μ-loop
-same-length c =
-    let b9 = c .before .before .before .before .before .before .before .before .before in
-    b9 .loop .inv .looping .same
-
-returns : tie.Need-returns Inv-loop μ-loop
-returns c =
-    let b3 = c .before .before .before in
-    let b5 = b3 .before .before in
-    let b7 = b5 .before .before in
-    let b8 = b7 .before in
-    let b9 = b8 .before in
-    let b12 = b9 .before .before .before in
-    let a = b12 .args in
-    let l = b9 .loop in absurd (ready-refused (numbering-ready (operandStep (placeIs (a .into))) operandCost (operand (a .n)) (a .s .now) (l .left) (l .c) (l .inv) (b8 .loop-test .taken) (says blockSays (b5 .predecessor .given .1) (b7 .block-number .ensures))) (operand-refused (a .n) _ (a .s .now) _ (says placeSays (c .before .k2 .given .1) (b3 .place .ensures))))
-
-enum-known-k1 : tie.Need-enum-known-k1 Inv-loop μ-loop
-enum-known-k1 c = search needs
-
-same-length-2 : tie.Need-same-length-2 Inv-loop μ-loop
-same-length-2 c =
-    let b5 = c .before .before .before .before .before in
-    b5 .loop .inv .looping .same
-
-returns-2 : tie.Need-returns-2 Inv-loop μ-loop
-returns-2 c =
-    let b3 = c .before .before .before in
-    let b4 = b3 .before in
-    let b5 = b4 .before in
-    let b8 = b5 .before .before .before in
-    let a = b8 .args in
-    let l = b5 .loop in number-refused (operandStep (placeIs (a .into))) operandCost (operand (a .n)) (a .s .now) (l .left) (l .c) (l .inv) (b4 .loop-test .taken) (says blockSays (c .before .k1 .given .1) (b3 .block-number .ensures))
+add-c-2 : tie.Need-add-c-2 Inv-loop μ-loop
+add-c-2 c =
+    let l = c .before .before .before .before .before .before .before .loop in
+    let b = c .before .before .before .before .before .before .before .before .before .before .before .before in
+    let a = b .args in
+    let t = c .before .before .before .before .before .before .loop-test .taken in
+    let i = numbered-inside (operandStep (placeFrom (a .s .now) (a .at))) operandCost (operand (a .n)) operandFrom 3 (operand-stands (a .n)) (a .s .now) (l .left) (l .c) (l .inv) t in
+    omega (arith, i)
 
 sub-left : tie.Need-sub-left Inv-loop μ-loop
 sub-left c = omega arith
@@ -96,24 +114,21 @@ loop-less c = omega arith
 loop-again : tie.Need-loop-again Inv-loop μ-loop
 unfolding operandStep
 loop-again c =
-    let b7 = c .before .before .before .before .before .before .before in
-    let b9 = b7 .before .before in
-    let b11 = b9 .before .before in
-    let b13 = b11 .before .before in
-    let b14 = b13 .before in
-    let b15 = b14 .before in
-    let b18 = b15 .before .before .before in
-    let a = b18 .args in
-    let l = b15 .loop in numbering-turn (operandStep (placeIs (a .into))) operandCost (operand (a .n)) (a .s .now) (l .left) (l .c) (l .inv) (b14 .loop-test .taken) (says blockSays (b11 .predecessor .given .1) (b13 .block-number .ensures)) _ (step-builds _ _ (operand-is (a .n) _ (a .s .now) _ (says placeSays (b7 .place2 .given .1) (b9 .place .ensures))) (c .before .before .operand .ensures))
+    let l = c .before .before .before .before .before .before .before .loop in
+    let b = c .before .before .before .before .before .before .before .before .before .before .before .before in
+    let a = b .args in
+    let t = c .before .before .before .before .before .before .loop-test .taken in
+    numbered-turn (operandStep (placeFrom (a .s .now) (a .at))) operandCost (operand (a .n)) operandFrom 3 (operand-stands (a .n)) (a .s .now) (l .left) (l .c) (l .inv) t _ (omega arith) (c .before .before .operand .ensures)
 
-same-length-3 : tie.Need-same-length-3 Inv-loop μ-loop
-same-length-3 c = c .before .loop .inv .looping .same
+same-length : tie.Need-same-length Inv-loop μ-loop
+same-length c = c .before .loop .inv .looping .same
 
-returns-3 : tie.Need-returns-3 Inv-loop μ-loop
-returns-3 c =
-    let b4 = c .before .before .before .before in
-    let a = b4 .args in
-    let l = c .before .loop in numbering-done (operandStep (placeIs (a .into))) operandCost (operand (a .n)) (a .s .now) (l .left) (l .c) (l .inv) (c .loop-test .left)
+returns : tie.Need-returns Inv-loop μ-loop
+returns c =
+    let l = c .before .loop in
+    let b = c .before .before .before .before .before .before in
+    let a = b .args in
+    numbering-done (operandStep (placeFrom (a .s .now) (a .at))) operandCost (operand (a .n)) (a .s .now) (l .left) (record { at = l .c }) (l .inv) (c .loop-test .left)
 
 pub build-operands-spec : {M : Type 1} → statement M
 build-operands-spec =
@@ -121,20 +136,22 @@ build-operands-spec =
     (tie.spec
     Inv-loop
     μ-loop
+    mul-left
+    shared-slice-read-left
+    add-left
+    mul-left-2
+    shared-slice-read-left-2
+    add-c
     loop-holds
-    block-number-requires
-    enum-known-predecessor
-    place-requires
-    enum-known-place
+    mul-t18
+    shared-slice-read-t20
+    add-t18
+    mul-t21
+    shared-slice-read-t20-2
     operand-requires
-    enum-known-k2
-    same-length
-    returns
-    enum-known-k1
-    same-length-2
-    returns-2
+    add-c-2
     sub-left
     loop-less
     loop-again
-    same-length-3
-    returns-3)
+    same-length
+    returns)
