@@ -1,11 +1,10 @@
 -- The parts of a block, judged: what is left to read once the words so far were read.
-use Prim.Native.Nat.{ℕ, zero, suc, _-_, _≤_, _<_}
-use native.Mathlib.Nat.{not-suc-le-zero, le-of-suc-le-suc}
-use native.Mathlib.Numerals.{sub-one}
+use Prim.Native.Nat.{ℕ, _+_, _<_}
+use native.Mathlib.Numerals.{add-one}
 use mathlib.Core.Path.{_≡_, _∙_, refl, sym, ap}
-use mathlib.Core.Bool.{Bool, true, false, _||_}
+use mathlib.Core.Bool.{Bool, true, false, _||_, or-false, or-assoc, or-comm}
 use mathlib.Core.List.{List, [], _∷_}
-use lib.ListN.{length, drop, set, getD}
+use lib.ListN.{length, drop, getD}
 use lib.Seq.{drop-length, drop-cons}
 use lib.Dec.{eqb}
 use Rattle.model.specs.Limits.{mostCount, mostOrder, mostTerminal, mostBlocks}
@@ -17,14 +16,13 @@ use Rattle.model.specs.Totals.{Totals}
 use Rattle.blocks.specs.Judging.{judge, withRelation, tellEffect, tellOperand, tellPhi, tellInstruction, tellTerminal, tellBlock, blocksOf}
 use Rattle.blocks.proofs.JudgeLaws.{judge-got, judge-refused, got-judged, refused-judged, then-got, then-refused, then-made}
 
--- a search from the end: nothing was looked at
-pub listed-start : (x : ℕ) (l : List ℕ) → false ≡ among x (drop (length l) l)
-listed-start x l = rw (drop-length l)
+-- a search: what is found or stands from here on, one number later
+pub listed-next : (x : ℕ) (l : List ℕ) (i : ℕ) (found : Bool) → i < length l → found || among x (drop i l) ≡ eqb x (getD l i 0) || found || among x (drop (i + 1) l)
+listed-next x l i found h = rw (drop-cons l i 0 h, add-one, or-comm (eqb x (getD l i 0)) found, or-assoc)
 
--- and one more
-pub listed-next : (x : ℕ) (l : List ℕ) (i : ℕ) (found : Bool) → 0 < i → i ≤ length l → found ≡ among x (drop i l) → eqb x (getD l (i - 1) 0) || found ≡ among x (drop (i - 1) l)
-listed-next x l zero found h g e = absurd (not-suc-le-zero h)
-listed-next x l (suc i) found h g e = rw (sub-one, drop-cons l i 0 g, e)
+-- and at the end nothing stands any more
+pub listed-end : (x : ℕ) (l : List ℕ) (i : ℕ) (found : Bool) → i ≡ length l → found || among x (drop i l) ≡ found
+listed-end x l i found e = rw (e, drop-length l, or-false found)
 
 module _ (n : ℕ) (t : Totals) (ws : List ℕ) (c : Position) where
   pub operand-got : (x : BlockId) (p : Place) (d : Position) → place n ws c ≡ got p d → judge (operand n x) tellOperand t ws c ≡ got (withRelation t) d

@@ -22,10 +22,10 @@ pub fn listed(numbers: &[u32], from: usize, number: u32) -> bool
     ensures { λ r. ⌜ r ≡ among number (drop from (now (numbers .entry))) ⌝ }
 {
     let mut found = false;
-    let mut i = numbers.len();
-    while from < i {
-        i -= 1;
+    let mut i = from;
+    while i < numbers.len() {
         found = (number == numbers[i]) | found;
+        i += 1;
     }
     found
 }
