@@ -1,42 +1,11 @@
 //! Sheets: panels as they are written, the limits, and the worst for each side.
 
-use oracle::plain::sheet::{
-    Block, Effect, Identifier, Instruction, MAX_COUNT, Phi, Place, Sheet, Terminal,
-};
+use oracle::dense::{block, place, sheet, two};
+use oracle::plain::sheet::{Block, Effect, Instruction, Phi, Sheet, Terminal};
 use oracle::random::Random;
-
-pub fn place(identifier: usize) -> Place {
-    Place { identifier: identifier as u32, traits: 0, span: identifier as u32 + 1 }
-}
 
 fn one(kind: u32, identifier: usize) -> Effect {
     Effect { kind, first: place(identifier), ..Effect::default() }
-}
-
-fn two(kind: u32, from: usize, into: usize) -> Effect {
-    Effect { kind, first: place(from), second: place(into), extra: 0 }
-}
-
-fn block(number: usize, phis: Vec<Phi>, effects: &[Effect]) -> Block {
-    let instructions = (1..)
-        .zip(effects.chunks(MAX_COUNT as usize))
-        .map(|(order, part)| Instruction { order, effects: part.to_vec() })
-        .collect();
-    Block { number: number as u32, phis, instructions, terminal: Terminal::Other { order: 9 } }
-}
-
-/// The first identifier is the parameter, the last one what is returned.
-fn sheet(identifiers: usize, blocks: Vec<Block>) -> Sheet {
-    Sheet {
-        function_expression: false,
-        validations: true,
-        identifiers: vec![Identifier::default(); identifiers],
-        functions: Vec::new(),
-        params: vec![place(0)],
-        context: Vec::new(),
-        returns: place(identifiers - 1),
-        blocks,
-    }
 }
 
 /// The smallest sheet: one identifier, which is returned, and no block.

@@ -2,25 +2,30 @@
 
 use crate::plain::sheet::{
     Block, Effect, Identifier, Instruction, MAX_COUNT, MAX_IDENTIFIERS, MAX_MUTATIONS,
-    MAX_RELATIONS, Place, Sheet, Terminal,
+    MAX_RELATIONS, Phi, Place, Sheet, Terminal,
 };
 use crate::random::Random;
 
-fn place(identifier: usize) -> Place {
+pub fn place(identifier: usize) -> Place {
     Place { identifier: identifier as u32, traits: 0, span: identifier as u32 + 1 }
 }
 
-fn two(kind: u32, from: usize, into: usize) -> Effect {
+/// An effect between two identifiers.
+pub fn two(kind: u32, from: usize, into: usize) -> Effect {
     Effect { kind, first: place(from), second: place(into), extra: 0 }
 }
 
-/// One block with these effects, in instructions as full as may be. The first identifier is the
-/// parameter, the last one what is returned.
-fn sheet(identifiers: usize, effects: &[Effect]) -> Sheet {
+/// A block with these effects, in instructions as full as may be.
+pub fn block(number: usize, phis: Vec<Phi>, effects: &[Effect]) -> Block {
     let instructions = (1..)
         .zip(effects.chunks(MAX_COUNT as usize))
         .map(|(order, part)| Instruction { order, effects: part.to_vec() })
         .collect();
+    Block { number: number as u32, phis, instructions, terminal: Terminal::Other { order: 9 } }
+}
+
+/// A sheet of these blocks. The first identifier is the parameter, the last one what is returned.
+pub fn sheet(identifiers: usize, blocks: Vec<Block>) -> Sheet {
     Sheet {
         function_expression: false,
         validations: true,
@@ -29,13 +34,13 @@ fn sheet(identifiers: usize, effects: &[Effect]) -> Sheet {
         params: vec![place(0)],
         context: Vec::new(),
         returns: place(identifiers - 1),
-        blocks: vec![Block {
-            number: 0,
-            phis: Vec::new(),
-            instructions,
-            terminal: Terminal::Other { order: 9 },
-        }],
+        blocks,
     }
+}
+
+/// The same of one block with these effects.
+fn one_block(identifiers: usize, effects: &[Effect]) -> Sheet {
+    sheet(identifiers, vec![block(0, Vec::new(), effects)])
 }
 
 fn mutations(random: &mut Random, count: usize, kinds: &[u32], below: usize) -> Vec<Effect> {
@@ -54,7 +59,7 @@ pub fn chain(random: &mut Random, relations: usize, mutated: usize) -> Sheet {
     let back = (0..last).rev().map(|i| two(5, i + 1, i));
     let mut effects: Vec<Effect> = there.chain(back).take(relations).collect();
     effects.extend(mutations(random, mutated, &[3, 4], last));
-    sheet(last + 1, &effects)
+    one_block(last + 1, &effects)
 }
 
 /// Random relations of these kinds between so many identifiers, and mutations of the last kinds.
@@ -76,7 +81,7 @@ pub fn random(
         effects.push(two(random.choose(kinds), from, into));
     }
     effects.extend(mutations(random, mutated, mutating, identifiers));
-    sheet(identifiers, &effects)
+    one_block(identifiers, &effects)
 }
 
 /// Each identifier may be an alias of each other one, and is one: definite walks come after
@@ -90,7 +95,7 @@ pub fn twice(random: &mut Random, identifiers: usize, mutated: usize) -> Sheet {
         kind = 13 - kind;
     }
     effects.extend(mutations(random, mutated, &[3], identifiers));
-    sheet(identifiers, &effects)
+    one_block(identifiers, &effects)
 }
 
 /// The longest and densest, each with its name.
