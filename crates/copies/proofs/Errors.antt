@@ -1,11 +1,10 @@
 -- The diagnostics of inner functions.
 use Prim.Native.Nat.{ℕ, zero, suc, _+_, _-_, _*_, _≤_, _<_}
 use native.Mathlib.Omega.{arith}
-use native.Mathlib.Numerals.{add-one}
 use mathlib.Core.Path.{_≡_, refl, sym, ap, subst, _∙_}
 use mathlib.Core.List.{List, [], _∷_, _++_, append-assoc}
-use lib.ListN.{length, getD, take, drop, List·getD-eq-default, drop-of-length-le, length-take}
-use lib.Seq.{slice, slice-cons, length-take-le}
+use lib.ListN.{length, getD, List·getD-eq-default}
+use lib.Seq.{slice}
 use Rattle.model.specs.Limits.{mostInnerDiagnostics}
 use Rattle.model.specs.Lists.{gather}
 use Rattle.model.specs.Sheet.{Diagnostic, InnerFunction, noFunction}
@@ -20,7 +19,7 @@ use Rattle.copies.specs.Copies.{Copies}
 use Rattle.copies.specs.Functions.{Functions, Appended, AllAppended}
 use Rattle.copies.proofs.Copying.{counted-got, counted-refused}
 use Rattle.copies.proofs.Gathers.{gather-append}
-use Rattle.copies.proofs.Loops.{Leaves, leaves-all, leaves-then, leaves-none}
+use Rattle.copies.proofs.Loops.{Leaves, leaves-all, leaves-then, leaves-none, slice-next, slice-none}
 
 -- the list of an inner function
 module _ (ws : List ℕ) (c : Position) (f : InnerFunction) (d : Position) where
@@ -72,17 +71,14 @@ module _ {sheet ws : List ℕ} {m hand : ℕ} {a₀ : List ℕ} {at₀ i : ℕ} 
   pub handing-turn : i < hand → hand ≤ length ws → {a′ : List ℕ} {at′ : ℕ} → Appended sheet ws m (getD ws i 0) a at a′ at′ → length a′ ≡ length a → Handing sheet ws m hand a₀ at₀ (i + 1) a′ at′
   handing-turn h k p e = record {
     leaves = λ fs q g.
-        let s : slice i hand ws ≡ getD ws i 0 ∷ slice (i + 1) hand ws = slice-cons i hand ws 0 h k ∙ ap (λ (j : ℕ). getD ws i 0 ∷ slice j hand ws) (sym (add-one i)) in
         leaves-then (v .leaves fs q g) (p .wrote fs q g)
-        (ap (λ (l : List ℕ). gather diagnosticWords (gather (functionErrors fs) l)) s ∙ gather-append diagnosticWords (functionErrors fs (getD ws i 0)) (gather (functionErrors fs) (slice (i + 1) hand ws)));
+        (ap (λ (l : List ℕ). gather diagnosticWords (gather (functionErrors fs) l)) (slice-next i hand ws h k) ∙ gather-append diagnosticWords (functionErrors fs (getD ws i 0)) (gather (functionErrors fs) (slice (i + 1) hand ws)));
     few = omega (arith, v .few, p .few, h);
     same = e ∙ v .same;
   }
 
   pub handing-end : hand ≤ i → AllAppended sheet ws m hand a₀ at₀ a at
   handing-end h = record {
-    wrote = λ fs q g.
-        let n : length (take hand ws) ≤ i = omega (arith, h, length-take hand ws) in
-        leaves-none (v .leaves fs q g) (ap (λ (l : List ℕ). gather diagnosticWords (gather (functionErrors fs) l)) (drop-of-length-le (take hand ws) {i = i} n));
+    wrote = λ fs q g. leaves-none (v .leaves fs q g) (ap (λ (l : List ℕ). gather diagnosticWords (gather (functionErrors fs) l)) (slice-none i hand ws h));
     few = omega (arith, v .few);
   }

@@ -1,105 +1,121 @@
--- The kind of an effect stands in its first word, and kinds below 14 are copied to neither section: their effects are passed over, eight words each.
+-- The number of an effect's kind stands in its first word and says what is copied: of kinds below 14 nothing, of the others words as they stand. So no effect is read: they are passed over, eight words each.
 use Prim.Native.Nat.{ℕ, _+_, _*_, _-_, _≤_, _<_}
 use native.Mathlib.Omega.{arith}
 use mathlib.Core.Path.{_≡_, refl, sym, ap, _∙_}
-use mathlib.Core.Bool.{Bool, true, false, _||_, not}
-use mathlib.Core.List.{List, []}
+use mathlib.Core.Bool.{Bool, _&&_, not}
+use mathlib.Core.List.{List, [], _∷_}
 use lib.ListN.{length, getD}
-use lib.Dec.{T, ltb, leb}
-use borrow.Author.Tests.{lt-leb}
-use Rattle.model.specs.Limits.{mostKind, mostCount}
-use Rattle.model.specs.Lists.{pick, gather}
-use Rattle.model.specs.Sheet.{Place, Effect, EffectKind, EffectList, Freeze}
-use Rattle.model.specs.Effects.{kinds, kindOf, Role, relation, mutation, render, diagnosis, nothing, Row, rowOf, isRender, isDiagnosis}
-use Rattle.model.specs.Reading.{Position, Result, got, refused, Read, _>>=_, pure, refuse, word, count, atMost}
-use Rattle.model.specs.Sections.{place, unused, extra, effect, effects}
-use Rattle.model.proofs.Got.{got-value, not-both, bind-got}
-use Rattle.model.proofs.ReadLaws.{Reads, pure-reads, any-reads, bind-reads}
-use Rattle.hir.proofs.Table.{at as entry}
+use lib.Seq.{slice, length-slice}
+use lib.Dec.{leb, eqb}
+use borrow.Author.Tests.{lt-leb, le-leb, ne-eqb}
+use Rattle.model.specs.Limits.{mostCount}
+use Rattle.model.specs.Lists.{gather, listIf}
+use Rattle.model.specs.Sheet.{EffectKind, Freeze, Mutate, MutateConditionally, MutateTransitive, MutateTransitiveConditionally, Capture, Alias, MaybeAlias, Assign, Create, CreateFrom, ImmutableCapture, Apply, CreateFunction, MutateFrozen, MutateGlobal, Impure, Render, Effect, EffectList}
+use Rattle.model.specs.Effects.{rowOf}
+use Rattle.model.specs.Reading.{Position, got, count}
+use Rattle.model.specs.Sections.{effect, effects}
+use Rattle.model.specs.Answer.{effectWords}
+use Rattle.rows.proofs.Parts.{slice-at}
 use Rattle.writing.specs.Wrote.{Wrote}
 use Rattle.writing.proofs.Writing.{wrote-none, wrote-as}
 use Rattle.copies.specs.Copies.{Copies}
-use Rattle.copies.specs.Words.{copyWords}
+use Rattle.copies.specs.Words.{takes, takenWords, copyWords}
 use Rattle.copies.specs.declared.effect_lists.Section.{Section}
+use Rattle.copies.specs.declared.effect_lists.Section.the-variants.{Diagnostics, Effects}
 use Rattle.copies.proofs.Copying.{Loop, loop-start, loop-turn, loop-end, copies-counted, counted-got}
 use Rattle.copies.proofs.Positions.{count-takes, effect-takes, times-takes}
-use Rattle.copies.proofs.Sections.{copy-none}
+use Rattle.copies.proofs.Standing.{effect-stands}
 
--- ---- the first word of an effect
-word-is : (ws : List ℕ) (c : Position) (w : ℕ) (d : Position) → word ws c ≡ got w d → getD ws c 0 ≡ w
-unfolding word
-word-is ws c w d e = go (ltb c (length ws)) e
-  where
-    go : (t : Bool) → pick t (got (getD ws c 0) (c + 1)) (refused 3) ≡ got w d → getD ws c 0 ≡ w
-    go true f = got-value f
-    go false f = absurd (not-both f refl)
+-- ---- "kinds 14 to 17 are copied to the effects and the diagnostics of 14 to 16 recorded"
+abbrev takesNumber : Section → ℕ → Bool
+takesNumber Diagnostics w = leb 14 w && not (eqb w 17)
+takesNumber Effects w = leb 14 w
 
-at-most-is : (most : ℕ) (ws : List ℕ) (c : Position) (w : ℕ) (d : Position) → atMost most ws c ≡ got w d → getD ws c 0 ≡ w
-unfolding atMost
-at-most-is most ws c w d e =
-    let s = bind-got word (λ (x : ℕ). pick (leb x most) (pure x) (refuse 5)) ws c w d e in
-    word-is ws c (s .value) (s .next) (s .first) ∙ go (s .value) (s .next) (leb (s .value) most) (s .second)
-  where
-    go : (x : ℕ) (j : Position) (t : Bool) → pick t (pure x) (refuse 5) ws j ≡ got w d → x ≡ w
-    go x j true f = got-value f
-    go x j false f = absurd (not-both f refl)
+abbrev ByNumber : EffectKind → Section → Type 0
+ByNumber k s = takes s (rowOf k .role) ≡ takesNumber s (rowOf k .number)
 
--- what follows the kind leaves it
-kind-kept : (n m w : ℕ)
-    → Reads
-    (pick (leb 1 (rowOf (kindOf w) .places)) (place n) unused
-    >>= λ (p : Place). pick (leb 2 (rowOf (kindOf w) .places)) (place n) unused
-    >>= λ (q : Place). extra m (kindOf w)
-    >>= λ (x : ℕ). pure (record { kind = kindOf w; first = p; second = q; extra = x }))
-    (λ (e : Effect). kindOf w ≡ e .kind)
-kind-kept n m w =
-    let same : Effect → Type 0 = λ (e : Effect). kindOf w ≡ e .kind in
-    bind-reads (pick (leb 1 (rowOf (kindOf w) .places)) (place n) unused)
-    (λ (p : Place). pick (leb 2 (rowOf (kindOf w) .places)) (place n) unused
-    >>= λ (q : Place). extra m (kindOf w)
-    >>= λ (x : ℕ). pure (record { kind = kindOf w; first = p; second = q; extra = x }))
-    (λ (p : Place). Unit {0}) same (any-reads (pick (leb 1 (rowOf (kindOf w) .places)) (place n) unused))
-    (λ p u. bind-reads (pick (leb 2 (rowOf (kindOf w) .places)) (place n) unused)
-    (λ (q : Place). extra m (kindOf w) >>= λ (x : ℕ). pure (record { kind = kindOf w; first = p; second = q; extra = x }))
-    (λ (q : Place). Unit {0}) same (any-reads (pick (leb 2 (rowOf (kindOf w) .places)) (place n) unused))
-    (λ q v. bind-reads (extra m (kindOf w)) (λ (x : ℕ). pure (record { kind = kindOf w; first = p; second = q; extra = x }))
-    (λ (x : ℕ). Unit {0}) same (any-reads (extra m (kindOf w)))
-    (λ x z. pure-reads (record { kind = kindOf w; first = p; second = q; extra = x }) same refl)))
+by-number : (k : EffectKind) → ByNumber k Diagnostics × ByNumber k Effects
+unfolding rowOf
+by-number Freeze = (refl, refl)
+by-number Mutate = (refl, refl)
+by-number MutateConditionally = (refl, refl)
+by-number MutateTransitive = (refl, refl)
+by-number MutateTransitiveConditionally = (refl, refl)
+by-number Capture = (refl, refl)
+by-number Alias = (refl, refl)
+by-number MaybeAlias = (refl, refl)
+by-number Assign = (refl, refl)
+by-number Create = (refl, refl)
+by-number CreateFrom = (refl, refl)
+by-number ImmutableCapture = (refl, refl)
+by-number Apply = (refl, refl)
+by-number CreateFunction = (refl, refl)
+by-number MutateFrozen = (refl, refl)
+by-number MutateGlobal = (refl, refl)
+by-number Impure = (refl, refl)
+by-number Render = (refl, refl)
 
-effect-kind : (n m : ℕ) (ws : List ℕ) (c : Position) (e : Effect) (d : Position) → effect n m ws c ≡ got e d → kindOf (getD ws c 0) ≡ e .kind
-unfolding effect
-effect-kind n m ws c e d h =
-    let s =
-    bind-got (atMost mostKind)
-    (λ (w : ℕ). pick (leb 1 (rowOf (kindOf w) .places)) (place n) unused
-    >>= λ (p : Place). pick (leb 2 (rowOf (kindOf w) .places)) (place n) unused
-    >>= λ (q : Place). extra m (kindOf w)
-    >>= λ (x : ℕ). pure (record { kind = kindOf w; first = p; second = q; extra = x })) ws c e d h in
-    ap kindOf (at-most-is mostKind ws c (s .value) (s .next) (s .first)) ∙ kind-kept n m (s .value) ws (s .next) e d (s .second)
+takes-number : (s : Section) (k : EffectKind) → ByNumber k s
+takes-number Diagnostics k = by-number k .0
+takes-number Effects k = by-number k .1
 
--- ---- the kinds that are copied
-abbrev quiet : Role → Bool
-quiet r = not (isDiagnosis r || isRender r)
+-- ---- an effect as it stands
+module _ (n m : ℕ) (ws : List ℕ) (c : Position) (e : Effect) (d : Position) (h : effect n m ws c ≡ got e d) where
+  words-here : slice c (c + 8) ws ≡ effectWords e
+  words-here = ap (λ (j : Position). slice c j ws) (sym (effect-takes n m ws c e d h .0)) ∙ effect-stands n m ws c e d h .1
 
-quiet-role : (r : Role) → T (quiet r) → (isDiagnosis r ≡ false) × (isRender r ≡ false)
-quiet-role relation t = (refl, refl)
-quiet-role mutation t = (refl, refl)
-quiet-role render t = absurd t
-quiet-role diagnosis t = absurd t
-quiet-role nothing t = (refl, refl)
+  word-here : (i : ℕ) → i < 8 → getD ws (c + i) 0 ≡ getD (effectWords e) i 0
+  word-here i k = sym (slice-at c (c + 8) i ws (omega (arith, k))) ∙ ap (λ (l : List ℕ). getD l i 0) words-here
 
--- "kinds 14 to 17 are copied": no kind before them
-unfoldable copiedFrom14 : ℕ → EffectKind → Bool
-copiedFrom14 k x = leb 14 k || quiet (rowOf x .role)
+  number-here : rowOf (e .kind) .number ≡ getD ws c 0
+  number-here = sym (ap (λ (j : Position). getD ws j 0) (omega arith) ∙ word-here 0 (omega arith))
 
-low-quiet : (k : ℕ) → k < 14 → T (quiet (rowOf (kindOf k) .role))
-unfolding copiedFrom14 kindOf rowOf
-low-quiet k h = rw (lt-leb 14 k h) at (entry Freeze copiedFrom14 kinds tt k (omega (arith, h)))
+  copy-here : (s : Section) → copyWords s e ≡ listIf (takesNumber s (getD ws c 0)) (takenWords s e)
+  unfolding copyWords
+  copy-here s = ap (λ (b : Bool). listIf b (takenWords s e)) (takes-number s (e .kind) ∙ ap (takesNumber s) number-here)
 
-low-none : (s : Section) (e : Effect) (k : ℕ) → kindOf k ≡ e .kind → k < 14 → copyWords s e ≡ []
-low-none s e k q h =
-    let r = quiet-role (rowOf (kindOf k) .role) (low-quiet k h) in
-    copy-none s e (ap (λ (x : EffectKind). isDiagnosis (rowOf x .role)) (sym q) ∙ r .0) (ap (λ (x : EffectKind). isRender (rowOf x .role)) (sym q) ∙ r .1)
+-- ---- words that were copied unread
+module _ (n m : ℕ) (ws : List ℕ) (c : Position) where
+  copies-as : (s : Section) (us : List ℕ) {a : List ℕ} {at : ℕ} {a′ : List ℕ} {at′ : ℕ} → Wrote us a at a′ at′ → length us ≤ 8 → ((e : Effect) (d : Position) → effect n m ws c ≡ got e d → us ≡ copyWords s e)
+      → Copies (effect n m ws c) (copyWords s) 8 a at a′ at′ (c + 8)
+  copies-as s us p k q = record {
+    wrote = λ e d h. wrote-as p (q e d h);
+    after = λ e d h. sym (effect-takes n m ws c e d h .0);
+    few = omega (arith, p .next, k);
+  }
+
+  -- of a kind below 14 none
+  low-copies : (s : Section) (a : List ℕ) (at : ℕ) → getD ws c 0 < 14 → Copies (effect n m ws c) (copyWords s) 8 a at a at (c + 8)
+  low-copies s a at k = copies-as s [] (wrote-none a at) (omega arith) (λ e d h. sym (copy-here n m ws c e d h s ∙ none s (takenWords s e)))
+    where
+      none : (s : Section) (us : List ℕ) → listIf (takesNumber s (getD ws c 0)) us ≡ []
+      none Diagnostics us = rw (lt-leb 14 (getD ws c 0) k)
+      none Effects us = rw (lt-leb 14 (getD ws c 0) k)
+
+  -- of a render no diagnostic
+  pub render-copies : (a : List ℕ) (at : ℕ) → getD ws c 0 ≡ 17 → Copies (effect n m ws c) (copyWords Diagnostics) 8 a at a at (c + 8)
+  render-copies a at k =
+      copies-as Diagnostics [] (wrote-none a at) (omega arith) (λ e d h. sym (copy-here n m ws c e d h Diagnostics ∙ ap (λ (w : ℕ). listIf (takesNumber Diagnostics w) (takenWords Diagnostics e)) k))
+
+  -- of kinds 14 to 16 the extra word
+  pub diagnostic-copies : {a : List ℕ} {at : ℕ} {a′ : List ℕ} {at′ : ℕ} → 14 ≤ getD ws c 0 → (getD ws c 0 ≡ 17 → ⊥) → Wrote (getD ws (c + 7) 0 ∷ []) a at a′ at′
+      → Copies (effect n m ws c) (copyWords Diagnostics) 8 a at a′ at′ (c + 8)
+  diagnostic-copies k j p =
+      copies-as Diagnostics (getD ws (c + 7) 0 ∷ []) p (omega arith)
+      (λ e d h. ap (λ (w : ℕ). w ∷ []) (word-here n m ws c e d h 7 (omega arith)) ∙ sym (copy-here n m ws c e d h Diagnostics ∙ all (takenWords Diagnostics e)))
+    where
+      all : (us : List ℕ) → listIf (takesNumber Diagnostics (getD ws c 0)) us ≡ us
+      all us = rw (le-leb 14 (getD ws c 0) k, ne-eqb (getD ws c 0) 17 j)
+
+  -- of kinds 14 to 17 all eight
+  pub effect-copies : {a : List ℕ} {at : ℕ} {a′ : List ℕ} {at′ : ℕ} → 14 ≤ getD ws c 0 → c + 8 ≤ length ws → Wrote (slice c (c + 8) ws) a at a′ at′
+      → Copies (effect n m ws c) (copyWords Effects) 8 a at a′ at′ (c + 8)
+  effect-copies k b p =
+      copies-as Effects (slice c (c + 8) ws) p (omega (arith, length-slice c (c + 8) ws b))
+      (λ e d h. words-here n m ws c e d h ∙ sym (copy-here n m ws c e d h Effects ∙ all (takenWords Effects e)))
+    where
+      all : (us : List ℕ) → listIf (takesNumber Effects (getD ws c 0)) us ≡ us
+      all us = rw (le-leb 14 (getD ws c 0) k)
 
 -- ---- the loop over k₀ effects, with k of them left from c on; the sheet has their words
 pub record Listing (n m : ℕ) (s : Section) (ws : List ℕ) (k₀ : ℕ) (c₀ : Position) (a₀ : List ℕ) (at₀ : ℕ) (k : ℕ) (c : Position) (a : List ℕ) (at : ℕ) : Type 0 where
@@ -112,22 +128,13 @@ module _ (n m : ℕ) (s : Section) (ws : List ℕ) where
   listing-start k c a at h i = record { loop = loop-start (effect n m) (copyWords s) k c a at; few = omega (arith, h); inside = i }
 
 module _ {n m : ℕ} {s : Section} {ws : List ℕ} {k₀ : ℕ} {c₀ : Position} {a₀ : List ℕ} {at₀ k : ℕ} {c : Position} {a : List ℕ} {at : ℕ} (v : Listing n m s ws k₀ c₀ a₀ at₀ k c a at) where
-  -- an effect was copied: it has eight words
-  pub listing-turn : 0 < k → {a′ : List ℕ} {at′ c′ : ℕ} → Copies (effect n m ws c) (copyWords s) 8 a at a′ at′ c′ → length a′ ≡ length a → Listing n m s ws k₀ c₀ a₀ at₀ (k - 1) (c + 8) a′ at′
-  listing-turn z {a′} {at′} p e =
-      let q : Copies (effect n m ws c) (copyWords s) 8 a at a′ at′ (c + 8) = record { wrote = p .wrote; after = λ x d h. sym (effect-takes n m ws c x d h .0); few = p .few } in
-      record { loop = loop-turn (effect n m) (copyWords s) (v .loop) z q e; few = omega (arith, v .few, p .few, z); inside = omega (arith, v .inside, z) }
+  -- an effect was copied
+  pub listing-turn : 0 < k → {a′ : List ℕ} {at′ : ℕ} → Copies (effect n m ws c) (copyWords s) 8 a at a′ at′ (c + 8) → length a′ ≡ length a → Listing n m s ws k₀ c₀ a₀ at₀ (k - 1) (c + 8) a′ at′
+  listing-turn z p e = record { loop = loop-turn (effect n m) (copyWords s) (v .loop) z p e; few = omega (arith, v .few, p .few, z); inside = omega (arith, v .inside, z) }
 
-  -- one of a kind below 14: nothing of it is copied
+  -- one of a kind below 14
   pub listing-low : 0 < k → getD ws c 0 < 14 → Listing n m s ws k₀ c₀ a₀ at₀ (k - 1) (c + 8) a at
-  listing-low z h =
-      let p : Copies (effect n m ws c) (copyWords s) 8 a at a at (c + 8) =
-      record {
-        wrote = λ x d g. wrote-as (wrote-none a at) (sym (low-none s x (getD ws c 0) (effect-kind n m ws c x d g) h));
-        after = λ x d g. sym (effect-takes n m ws c x d g .0);
-        few = omega arith;
-      } in
-      listing-turn z p refl
+  listing-low z h = listing-turn z (low-copies n m ws c s a at h) refl
 
   -- the answer by another name
   pub listing-as : {a′ : List ℕ} {at′ : ℕ} → a′ ≡ a → at′ ≡ at → Listing n m s ws k₀ c₀ a₀ at₀ k c a′ at′

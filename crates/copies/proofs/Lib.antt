@@ -2,6 +2,7 @@ pub mod Gathers
 pub mod Lengths
 pub mod Loops
 pub mod Positions
+pub mod Standing
 pub mod Copying
 pub mod Passing
 pub mod Nth

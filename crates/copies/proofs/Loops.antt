@@ -1,10 +1,11 @@
 -- A loop that writes: what is left to write from here makes what was to be written from the start.
-use Prim.Native.Nat.{ℕ, zero, suc, _+_, _≤_, _<_}
+use Prim.Native.Nat.{ℕ, _+_, _≤_, _<_}
 use native.Mathlib.Omega.{arith}
+use native.Mathlib.Numerals.{add-one}
 use mathlib.Core.Path.{_≡_, refl, sym, ap, _∙_}
 use mathlib.Core.List.{List, [], _∷_, _++_}
-use lib.ListN.{length, drop, length-append}
-use lib.Seq.{sets}
+use lib.ListN.{length, getD, take, drop, length-append, length-take, drop-of-length-le}
+use lib.Seq.{sets, slice, slice-cons}
 use Rattle.model.specs.Lists.{gather}
 use Rattle.rows.specs.Graph.{tab}
 use Rattle.rows.proofs.Parts.{sets-append}
@@ -47,3 +48,38 @@ module _ {A : Type 0} (w : A → List ℕ) (n : ℕ) (f : ℕ → A) where
 
   pub table-end : {whole a₀ a : List ℕ} {at₀ at : ℕ} (i : ℕ) → Leaves whole (gather w (drop i (tab n f))) a₀ at₀ a at → n ≤ i → Wrote whole a₀ at₀ a at
   table-end i h k = leaves-none h (ap (gather w) (tab-end n f i k))
+
+-- ---- the words of a slice, one after another
+pub slice-next : (i t : ℕ) (ws : List ℕ) → i < t → t ≤ length ws → slice i t ws ≡ getD ws i 0 ∷ slice (i + 1) t ws
+slice-next i t ws h k = slice-cons i t ws 0 h k ∙ ap (λ (j : ℕ). getD ws i 0 ∷ slice j t ws) (sym (add-one i))
+
+pub slice-none : (i t : ℕ) (ws : List ℕ) → t ≤ i → slice i t ws ≡ []
+slice-none i t ws h = let n : length (take t ws) ≤ i = omega (arith, h, length-take t ws) in drop-of-length-le (take t ws) {i = i} n
+
+-- k words from c on, copied as they stand, with i of them done
+pub record Verbatim (ws : List ℕ) (c k : ℕ) (a₀ : List ℕ) (at₀ i : ℕ) (a : List ℕ) (at : ℕ) : Type 0 where
+  pub leaves : Leaves (slice c (c + k) ws) (slice (c + i) (c + k) ws) a₀ at₀ a at
+  pub next : at ≡ at₀ + i
+  pub same : length a ≡ length a₀
+
+pub verbatim-start : (ws : List ℕ) (c k : ℕ) (a : List ℕ) (at : ℕ) → Verbatim ws c k a at 0 a at
+verbatim-start ws c k a at =
+    let q : c ≡ c + 0 = omega arith in
+    record {
+      leaves = leaves-as (leaves-all (slice c (c + k) ws) a at) (ap (λ (j : ℕ). slice j (c + k) ws) q);
+      next = omega arith;
+      same = refl;
+    }
+
+module _ {ws : List ℕ} {c k : ℕ} {a₀ : List ℕ} {at₀ i : ℕ} {a : List ℕ} {at : ℕ} (v : Verbatim ws c k a₀ at₀ i a at) where
+  pub verbatim-turn : i < k → c + k ≤ length ws → {a′ : List ℕ} {at′ : ℕ} → Wrote (getD ws (c + i) 0 ∷ []) a at a′ at′ → length a′ ≡ length a → Verbatim ws c k a₀ at₀ (i + 1) a′ at′
+  verbatim-turn h b p e =
+      let q : c + i + 1 ≡ c + (i + 1) = omega arith in
+      record {
+        leaves = leaves-then (v .leaves) p (slice-next (c + i) (c + k) ws (omega (arith, h)) b ∙ ap (λ (j : ℕ). getD ws (c + i) 0 ∷ slice j (c + k) ws) q);
+        next = omega (arith, p .next, v .next);
+        same = e ∙ v .same;
+      }
+
+  pub verbatim-end : k ≤ i → Wrote (slice c (c + k) ws) a₀ at₀ a at
+  verbatim-end h = leaves-none (v .leaves) (slice-none (c + i) (c + k) ws (omega (arith, h)))

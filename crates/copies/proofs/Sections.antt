@@ -19,12 +19,6 @@ use Rattle.copies.specs.declared.effect_lists.Section.the-variants.{Diag
 use Rattle.copies.proofs.Gathers.{gather-gather, gather-same, gather-keep, gather-map}
 use Rattle.copies.proofs.Lengths.{gather-length}
 
--- neither section takes an effect that is no diagnosis and no render
-pub copy-none : (s : Section) (e : Effect) → isDiagnosis (rowOf (e .kind) .role) ≡ false → isRender (rowOf (e .kind) .role) ≡ false → copyWords s e ≡ []
-unfolding copyWords
-copy-none Diagnostics e p q = rw p
-copy-none Effects e p q = rw (p, q)
-
 -- block by block, or all effects of instructions at once
 pub blocks-words : (t : Section) (s : Sheet) → gather (blockWords t) (s .blocks) ≡ gather (copyWords t) (instructionEffects s)
 unfolding instructionEffects blockWords instructionWords

@@ -1,25 +1,20 @@
 // The effects of instructions in the answer: those that are copied, and the diagnostics among them.
 ghost use Prim.Native.Nat.{ℕ, _+_, _*_, _≤_};
 ghost use mathlib.Core.List.{List, []};
+ghost use lib.ListN.{length, getD};
+ghost use lib.Seq.{slice};
 ghost use Rattle.model.specs.Lists.{gather};
 ghost use Rattle.model.specs.Limits.{mostCount};
 ghost use Rattle.model.specs.Reading.{counted, numbered};
 ghost use Rattle.model.specs.Sections.{effect, effects, instruction, block};
-ghost use Rattle.hir.specs.Says.{effectIs};
 ghost use Rattle.writing.specs.Wrote.{Wrote, farthest};
 ghost use Rattle.copies.specs.Copies.{Copies};
 ghost use Rattle.copies.specs.Words.{copyWords, instructionWords, blockWords};
 use crate::Copied;
 use crate::past::past_phis;
 use crate::past::past_terminal;
-use crate::put_effect;
-use effects::Role;
-use effects::effect;
-use effects::role_of;
-use hir::AliasingEffect;
 use hir::BlockStep;
 use hir::Cursor;
-use hir::EffectStep;
 use hir::OrderStep;
 use hir::WordStep;
 use writing::put;
@@ -30,47 +25,33 @@ pub enum Section {
     Effects,
 }
 
-// What the section takes of an effect.
-pub fn put_copy(answer: &mut [u32], at: usize, section: Section, e: AliasingEffect) -> usize
-    requires { ⌜ at + 8 ≤ farthest ⌝ }
-    ensures { λ r. ⌜ Wrote (copyWords section (effectIs e)) (now (answer .entry)) at (now (answer .exit)) r ⌝ }
+// Eight words as they stand.
+fn copy_words(sheet: &[u32], next: usize, answer: &mut [u32], at: usize) -> usize
+    requires { ⌜ (next + 8 ≤ length (now sheet)) × (at + 8 ≤ farthest) ⌝ }
+    ensures { λ r. ⌜ Wrote (slice next (next + 8) (now (sheet .entry))) (now (answer .entry)) at (now (answer .exit)) r ⌝ }
 {
-    let kind = e.kind;
-    let role = role_of(kind);
-    match role {
-        Role::Diagnosis => match section {
-            Section::Diagnostics => put(answer, at, e.extra),
-            Section::Effects => put_effect(answer, at, e),
-        },
-        Role::Render => match section {
-            Section::Diagnostics => at,
-            Section::Effects => put_effect(answer, at, e),
-        },
-        Role::Relation => at,
-        Role::Mutation => at,
-        Role::Nothing => at,
+    let mut to = at;
+    let mut i = 0;
+    while i < 8 {
+        to = put(answer, to, sheet[next + i]);
+        i += 1;
     }
+    to
 }
 
-// One effect.
-pub fn copy_effect(
-    sheet: &[u32],
-    c: Cursor,
-    n: u32,
-    m: u32,
-    section: Section,
-    answer: &mut [u32],
-    at: usize,
-) -> Copied
-    requires { ⌜ at + 8 ≤ farthest ⌝ }
-    ensures { λ r. ⌜ Copies (effect n m (now (sheet .entry)) (c .at)) (copyWords section) 8 (now (answer .entry)) at (now (answer .exit)) (r .at) (r .next .at) ⌝ }
+// What the section takes of the effect of kind 14 to 17 that stands here. An effect's words in the answer are those of the sheet, so it is not read.
+fn copy_effect(sheet: &[u32], next: usize, section: Section, answer: &mut [u32], at: usize) -> usize
+    requires { ⌜ (next + 8 ≤ length (now sheet)) × ((14 ≤ getD (now sheet) next 0) × (at + 8 ≤ farthest)) ⌝ }
+    ensures { λ r. ⌜ ((n m : ℕ) → Copies (effect n m (now (sheet .entry)) next) (copyWords section) 8 (now (answer .entry)) at (now (answer .exit)) r (next + 8)) ⌝ }
 {
-    match effect(c, sheet, n, m) {
-        EffectStep::Got(e, next) => {
-            let to = put_copy(answer, at, section, e);
-            Copied { at: to, next }
+    match section {
+        Section::Diagnostics => {
+            if sheet[next] == 17 {
+                return at;
+            }
+            put(answer, at, sheet[next + 7])
         }
-        EffectStep::Refused(_) => Copied { at, next: c },
+        Section::Effects => copy_words(sheet, next, answer, at),
     }
 }
 
@@ -123,8 +104,7 @@ fn copy_list(
     let mut to = at;
     while 0 < left {
         if 14 <= sheet[next] {
-            let r = copy_effect(sheet, Cursor { at: next }, n, m, section, answer, to);
-            to = r.at;
+            to = copy_effect(sheet, next, section, answer, to);
         }
         next += 8;
         left -= 1;

@@ -1,54 +1,90 @@
-use Rattle.copies.proofs.Lengths.{copy-length}
-use Rattle.copies.proofs.Copying.{copies-one, copies-refused}
-use Rattle.hir.proofs.Answers.{says}
-use Rattle.hir.specs.Says.{effectSays}
+use Rattle.copies.proofs.KindWords.{render-copies, diagnostic-copies, effect-copies}
 use borrow.Author.Needs.{needs}
 use Rattle.copies.proofs.effect_lists.copy_effect.Statement.{statement}
 use Rattle.copies.proofs.effect_lists.copy_effect.Tie as tie
 use Rattle.copies.proofs.effect_lists.copy_effect.Reads as reads
 use Rattle.copies.proofs.effect_lists.copy_effect.Lts as lts
-use Rattle.copies.proofs.effect_lists.put_copy.Reads as put-copy-reads
-use Rattle.effects.proofs.effect.Reads as effect-reads
+use Rattle.copies.proofs.effect_lists.copy_words.Reads as copy-words-reads
+use Rattle.writing.proofs.put.Reads as put-reads
 
--- src/effect_lists.rt:71:11
-effect-requires : tie.Need-effect-requires
-effect-requires c κs = search needs
-
--- src/effect_lists.rt:72:25
-enum-known-e : tie.Need-enum-known-e
-enum-known-e c = search needs
-
--- src/effect_lists.rt:73:17
-put-copy-requires : tie.Need-put-copy-requires
-put-copy-requires c κs = search needs
-
--- src/effect_lists.rt:76:35
+-- src/effect_lists.rt:49:16
 enum-told : tie.Need-enum-told
 enum-told c = search needs
 
--- src/effect_lists.rt:59:1
+-- src/effect_lists.rt:49:16
+mul-if1 : tie.Need-mul-if1
+mul-if1 c = search needs
+
+-- src/effect_lists.rt:49:16
+shared-slice-read-if1 : tie.Need-shared-slice-read-if1
+shared-slice-read-if1 c = search needs
+
+-- src/effect_lists.rt:50:17
+returns : tie.Need-returns
+returns c = rw (c .before .before .enum-told .given .1) (λ n m. render-copies n m _ _ _ _ (c .if1 .taken))
+
+-- src/effect_lists.rt:52:35
+add-put : tie.Need-add-put
+add-put c = search needs
+
+-- src/effect_lists.rt:52:29
+mul-put : tie.Need-mul-put
+mul-put c = search needs
+
+-- src/effect_lists.rt:52:29
+shared-slice-read-put : tie.Need-shared-slice-read-put
+shared-slice-read-put c = search needs
+
+-- src/effect_lists.rt:52:13
+put-requires : tie.Need-put-requires
+put-requires c κs = search needs
+
+-- src/effect_lists.rt:54:53
+enum-told-2 : tie.Need-enum-told-2
+enum-told-2 c = search needs
+
+-- src/effect_lists.rt:54:29
+copy-words-requires : tie.Need-copy-words-requires
+copy-words-requires c κs = search needs
+
+-- src/effect_lists.rt:43:1
 same-length : tie.Need-same-length
 same-length c = search needs
 
--- src/effect_lists.rt:59:1
-returns : tie.Need-returns
-returns c =
+-- src/effect_lists.rt:43:1
+returns-2 : tie.Need-returns-2
+returns-2 c =
     let b5 = c .before .before .before .before .before in
     let b7 = b5 .before .before in
-    copies-one _ _ 8 (says effectSays (b5 .e .given .1) (b7 .effect .ensures)) (c .before .before .put-copy .ensures) (copy-length _ _)
+    let b11 = b7 .before .before .before .before in
+    rw (b7 .enum-told .given .1) (λ n m. diagnostic-copies n m _ _ (b11 .pre .1 .0) (b5 .if1 .left) (c .before .before .put .ensures))
 
--- src/effect_lists.rt:59:1
-returns-2 : tie.Need-returns-2
-returns-2 c = copies-refused _ _ 8 _ _ _ (says effectSays (c .enum-told .given .1) (c .before .before .effect .ensures))
+-- src/effect_lists.rt:43:1
+same-length-2 : tie.Need-same-length-2
+same-length-2 c = search needs
+
+-- src/effect_lists.rt:43:1
+returns-3 : tie.Need-returns-3
+returns-3 c =
+    let b4 = c .before .before .before .before in
+    let b8 = b4 .before .before .before .before in
+    rw (b4 .enum-told2 .given .1) (λ n m. effect-copies n m _ _ (b8 .pre .1 .0) (b8 .pre .0) (c .before .before .copy-words .ensures))
 
 pub copy-effect-spec : {M : Type 1} → statement M
 copy-effect-spec =
     tie.close
     (tie.spec
-    effect-requires
-    enum-known-e
-    put-copy-requires
     enum-told
-    same-length
+    mul-if1
+    shared-slice-read-if1
     returns
-    returns-2)
+    add-put
+    mul-put
+    shared-slice-read-put
+    put-requires
+    enum-told-2
+    copy-words-requires
+    same-length
+    returns-2
+    same-length-2
+    returns-3)
