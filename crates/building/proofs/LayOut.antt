@@ -11,8 +11,8 @@ use Rattle.rows.specs.Rows.{rowsOf, fb, bb, rowF, rowB, Good, Indexed, Kept}
 use Rattle.rows.specs.Sort.{keyW, sel, cnt, low, Lay, logOf, Sorted}
 use Rattle.rows.specs.Graph.{nodeOf, tab, graphOfRows}
 use Rattle.rows.proofs.Parts.{slice-at, slice-take, drop-more, take-less, kept-at}
-use Rattle.rows.proofs.Counting.{kept-log, log-length, low-suc, low-le, low-all}
-use Rattle.rows.proofs.Rows.{fb-at, bb-at, rowF-at, rowB-at, keys₀, keys₁}
+use Rattle.rows.proofs.Counting.{kept-log, log-length, low-suc, low-le, low-zero, low-all}
+use Rattle.rows.proofs.Rows.{f-word, b-word, fb-at, bb-at, rowF-at, rowB-at, keys₀, keys₁}
 use Rattle.rows.proofs.Tables.{tab-same}
 use Rattle.rows.proofs.Graph.{node-same}
 use Rattle.building.specs.declared.Held.{Held}
@@ -55,20 +55,34 @@ module _ (ws : List ℕ) (h : Held) (room : Room 0 0 ws h) where
       unfolding N
       N-length = log-length ws ENTRIES (h .entries) (omega (arith, few-n, room .size))
 
-      fb-is : (k : ℕ) → k ≤ 512 → fb (rowsOf ws₂) k ≡ low 0 k E
+      f-bound : (k : ℕ) → k ≤ 512 → getD ws₂ (FBOUND + k) 0 + low 0 k E ≡ h .edges
       unfolding E
-      fb-is k q = fb-at ws₂ long k q ∙ kept-at (s₂ .kept) (FBOUND + k) (omega arith) ∙ s₁ .bounds k q
+      f-bound k q = omega (arith, kept-at (s₂ .kept) (FBOUND + k) (omega arith), s₁ .bounds k q)
+
+      b-bound : (k : ℕ) → k ≤ 2048 → getD ws₂ (BBOUND + k) 0 + low 1 k N ≡ h .entries
+      b-bound k q = omega (arith, s₂ .bounds k q, ap (low 1 k) log₁)
+
+      f-all : getD ws₂ FBOUND 0 ≡ h .edges
+      f-all = omega (arith, f-bound 0 (omega arith), low-zero 0 E)
+
+      b-all : getD ws₂ BBOUND 0 ≡ h .entries
+      b-all = omega (arith, b-bound 0 (omega arith), low-zero 1 N)
+
+      fb-is : (k : ℕ) → k ≤ 512 → fb (rowsOf ws₂) k ≡ low 0 k E
+      fb-is k q = omega (arith, fb-at ws₂ long k q, f-all, f-bound k q)
 
       bb-is : (k : ℕ) → k ≤ 2048 → bb (rowsOf ws₂) k ≡ low 1 k N
-      bb-is k q = bb-at ws₂ long k q ∙ s₂ .bounds k q ∙ ap (low 1 k) log₁
+      bb-is k q = omega (arith, bb-at ws₂ long k q, b-all, b-bound k q)
 
       next : (t k : ℕ) (l : List ℕ) → low t (k + 1) l ≡ low t (suc k) l
       next t k l = ap (λ (j : ℕ). low t j l) (add-one k)
 
       good : Good (rowsOf ws₂)
       good = record {
+        f-in = λ k q. omega (arith, f-word ws₂ long 0 (omega arith), f-all, f-word ws₂ long k q, f-bound k q);
         f-up = λ k q. omega (arith, fb-is k (omega arith), fb-is (k + 1) (omega arith), next 0 k E, low-suc 0 k E);
         f-top = λ k q. omega (arith, fb-is k q, low-le 0 k E, E-length, few-e);
+        b-in = λ k q. omega (arith, b-word ws₂ long 0 (omega arith), b-all, b-word ws₂ long k q, b-bound k q);
         b-up = λ k q. omega (arith, bb-is k (omega arith), bb-is (k + 1) (omega arith), next 1 k N, low-suc 1 k N);
         b-top = λ k q. omega (arith, bb-is k q, low-le 1 k N, N-length, few-n);
       }

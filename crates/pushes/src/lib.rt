@@ -88,7 +88,7 @@ fn push_entries(
     len
 }
 
-// One list of entries: list l of node x is row 4 * x + l.
+// One list of entries: list l of node x is row 4 * x + l. A bound counts the words from its row on, so the first counts all.
 pub fn push_list(
     ws: &mut [u32],
     k: usize,
@@ -101,8 +101,9 @@ pub fn push_list(
     requires { ⌜ (k < 2048) × ((transitive < 2) × (kind < 2)) ⌝ }
     ensures { λ r. ⌜ Pushed (now (ws .entry)) top (entriesW index transitive kind (rowB (rowsOf (now (ws .entry))) k)) (now (ws .exit)) r ⌝ }
 {
-    let lo = wide(ws[BBOUND + k]);
-    let hi = wide(ws[BBOUND + k + 1]);
+    let all = wide(ws[BBOUND]);
+    let lo = all - wide(ws[BBOUND + k]);
+    let hi = all - wide(ws[BBOUND + k + 1]);
     push_entries(ws, BENTRY + lo, BENTRY + hi, index, transitive, kind, top)
 }
 
@@ -112,8 +113,9 @@ fn push_edges(ws: &mut [u32], x: usize, index: u32, transitive: u32, kind: u32, 
     requires { ⌜ (x < 512) × ((transitive < 2) × (kind < 2)) ⌝ }
     ensures { λ r. ⌜ Pushed (now (ws .entry)) top (forwardW index transitive kind (rowF (rowsOf (now (ws .entry))) x)) (now (ws .exit)) r ⌝ }
 {
-    let lo = wide(ws[FBOUND + x]);
-    let hi = wide(ws[FBOUND + x + 1]);
+    let all = wide(ws[FBOUND]);
+    let lo = all - wide(ws[FBOUND + x]);
+    let hi = all - wide(ws[FBOUND + x + 1]);
     push_forward(ws, FEDGE + lo, FEDGE + hi, index, transitive, kind, top)
 }
 

@@ -1,5 +1,4 @@
 pub mod Parts
-pub mod Filling
 pub mod Clearing
 pub mod Counting
 pub mod Placing

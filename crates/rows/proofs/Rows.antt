@@ -17,13 +17,21 @@ module _ (ws : List ℕ) (size : LEAST ≤ length ws) where
   unfolding rowsOf value
   value-at x h = slice-at VALUE QUEUE x ws (omega arith)
 
-  pub fb-at : (k : ℕ) → k ≤ 512 → fb (rowsOf ws) k ≡ getD ws (FBOUND + k) 0
-  unfolding rowsOf fb
-  fb-at k h = slice-at VALUE QUEUE (512 + k) ws (omega arith) ∙ ap (λ (n : ℕ). getD ws n 0) (omega arith)
+  pub f-word : (k : ℕ) → k ≤ 512 → getD (rowsOf ws) (512 + k) 0 ≡ getD ws (FBOUND + k) 0
+  unfolding rowsOf
+  f-word k h = slice-at VALUE QUEUE (512 + k) ws (omega arith) ∙ ap (λ (n : ℕ). getD ws n 0) (omega arith)
 
-  pub bb-at : (k : ℕ) → k ≤ 2048 → bb (rowsOf ws) k ≡ getD ws (BBOUND + k) 0
-  unfolding rowsOf bb
-  bb-at k h = slice-at VALUE QUEUE (2049 + k) ws (omega arith) ∙ ap (λ (n : ℕ). getD ws n 0) (omega arith)
+  pub b-word : (k : ℕ) → k ≤ 2048 → getD (rowsOf ws) (2049 + k) 0 ≡ getD ws (BBOUND + k) 0
+  unfolding rowsOf
+  b-word k h = slice-at VALUE QUEUE (2049 + k) ws (omega arith) ∙ ap (λ (n : ℕ). getD ws n 0) (omega arith)
+
+  pub fb-at : (k : ℕ) → k ≤ 512 → fb (rowsOf ws) k ≡ getD ws FBOUND 0 - getD ws (FBOUND + k) 0
+  unfolding fb
+  fb-at k h = omega (arith, f-word 0 (omega arith), f-word k h)
+
+  pub bb-at : (k : ℕ) → k ≤ 2048 → bb (rowsOf ws) k ≡ getD ws BBOUND 0 - getD ws (BBOUND + k) 0
+  unfolding bb
+  bb-at k h = omega (arith, b-word 0 (omega arith), b-word k h)
 
   pub rowF-at : (x lo hi : ℕ) → lo ≡ fb (rowsOf ws) x → hi ≡ fb (rowsOf ws) (x + 1) → hi ≤ 1024 → slice (FEDGE + lo) (FEDGE + hi) ws ≡ rowF (rowsOf ws) x
   unfolding rowF rowsOf
@@ -43,26 +51,41 @@ module _ (ws : List ℕ) (size : LEAST ≤ length ws) where
       ∙ sym (slice-slice VALUE QUEUE (4098 + lo) (4098 + hi) ws (omega arith) (omega arith))
       ∙ ap (λ (n : ℕ). slice (4098 + n) (4098 + hi) (rowsOf ws)) p ∙ ap (λ (n : ℕ). slice (4098 + bb (rowsOf ws) k) (4098 + n) (rowsOf ws)) q
 
--- ---- the two bounds of a row, as the code reads them
-pub record Bounds (b lo hi b′ : ℕ) : Type 0 where
-  pub is-lo : lo ≡ b
-  pub is-hi : hi ≡ b′
-  pub up : lo ≤ hi
-  pub few : hi ≤ 1024
+-- ---- the two bounds of row k, whose words stand from o on, as the code reads them
+pub record Bounds (ws : List ℕ) (o k b b′ : ℕ) : Type 0 where
+  pub in-lo : getD ws (o + k) 0 ≤ getD ws o 0
+  pub in-hi : getD ws (o + k + 1) 0 ≤ getD ws o 0
+  pub is-lo : getD ws o 0 - getD ws (o + k) 0 ≡ b
+  pub is-hi : getD ws o 0 - getD ws (o + k + 1) 0 ≡ b′
+  pub up : b ≤ b′
+  pub few : b′ ≤ 1024
 
-pub list-bounds : (ws : List ℕ) (k lo hi : ℕ) → LEAST ≤ length ws → Good (rowsOf ws) → k < 2048 → lo ≡ getD ws (BBOUND + k) 0 → hi ≡ getD ws (BBOUND + k + 1) 0
-    → Bounds (bb (rowsOf ws) k) lo hi (bb (rowsOf ws) (k + 1))
-list-bounds ws k lo hi size good h p q =
-    let a : lo ≡ bb (rowsOf ws) k = p ∙ sym (bb-at ws size k (omega arith)) in
-    let b : hi ≡ bb (rowsOf ws) (k + 1) = q ∙ ap (λ (n : ℕ). getD ws n 0) (add-assoc BBOUND k 1) ∙ sym (bb-at ws size (k + 1) (omega arith)) in
-    record { is-lo = a; is-hi = b; up = omega (arith, good .b-up k h); few = omega (arith, good .b-top (k + 1) (omega arith)) }
+module _ (ws : List ℕ) (size : LEAST ≤ length ws) (good : Good (rowsOf ws)) (k : ℕ) where
+  pub list-bounds : k < 2048 → Bounds ws BBOUND k (bb (rowsOf ws) k) (bb (rowsOf ws) (k + 1))
+  list-bounds h =
+      let all = b-word ws size 0 (omega arith) in
+      let n : getD ws (BBOUND + k + 1) 0 ≡ getD ws (BBOUND + (k + 1)) 0 = ap (λ (i : ℕ). getD ws i 0) (add-assoc BBOUND k 1) in
+      record {
+        in-lo = omega (arith, all, b-word ws size k (omega arith), good .b-in k (omega arith));
+        in-hi = omega (arith, all, n, b-word ws size (k + 1) (omega arith), good .b-in (k + 1) (omega arith));
+        is-lo = sym (bb-at ws size k (omega arith));
+        is-hi = omega (arith, n, bb-at ws size (k + 1) (omega arith));
+        up = good .b-up k h;
+        few = good .b-top (k + 1) (omega arith);
+      }
 
-pub edge-bounds : (ws : List ℕ) (k lo hi : ℕ) → LEAST ≤ length ws → Good (rowsOf ws) → k < 512 → lo ≡ getD ws (FBOUND + k) 0 → hi ≡ getD ws (FBOUND + k + 1) 0
-    → Bounds (fb (rowsOf ws) k) lo hi (fb (rowsOf ws) (k + 1))
-edge-bounds ws k lo hi size good h p q =
-    let a : lo ≡ fb (rowsOf ws) k = p ∙ sym (fb-at ws size k (omega arith)) in
-    let b : hi ≡ fb (rowsOf ws) (k + 1) = q ∙ ap (λ (n : ℕ). getD ws n 0) (add-assoc FBOUND k 1) ∙ sym (fb-at ws size (k + 1) (omega arith)) in
-    record { is-lo = a; is-hi = b; up = omega (arith, good .f-up k h); few = omega (arith, good .f-top (k + 1) (omega arith)) }
+  pub edge-bounds : k < 512 → Bounds ws FBOUND k (fb (rowsOf ws) k) (fb (rowsOf ws) (k + 1))
+  edge-bounds h =
+      let all = f-word ws size 0 (omega arith) in
+      let n : getD ws (FBOUND + k + 1) 0 ≡ getD ws (FBOUND + (k + 1)) 0 = ap (λ (i : ℕ). getD ws i 0) (add-assoc FBOUND k 1) in
+      record {
+        in-lo = omega (arith, all, f-word ws size k (omega arith), good .f-in k (omega arith));
+        in-hi = omega (arith, all, n, f-word ws size (k + 1) (omega arith), good .f-in (k + 1) (omega arith));
+        is-lo = sym (fb-at ws size k (omega arith));
+        is-hi = omega (arith, n, fb-at ws size (k + 1) (omega arith));
+        up = good .f-up k h;
+        few = good .f-top (k + 1) (omega arith);
+      }
 
 pub rows-length : (ws : List ℕ) → LEAST ≤ length ws → length (rowsOf ws) ≡ 5122
 unfolding rowsOf
