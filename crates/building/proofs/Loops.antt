@@ -12,7 +12,7 @@ use lib.Dec.{eqb}
 use borrow.Author.Tests.{eq-eqb, ne-eqb}
 use Rattle.model.specs.Lists.{pick}
 use Rattle.rows.specs.Rows.{Kept}
-use Rattle.rows.proofs.Parts.{drop-more, drop-word, slice-push, kept-none, kept-set}
+use Rattle.rows.proofs.Parts.{drop-more, drop-word, slice-slice, slice-push, kept-none, kept-set}
 use Rattle.building.specs.Logs.{ownerW, ownsW, without, anyP}
 use Rattle.building.specs.Held.{Others, Left}
 
@@ -61,7 +61,7 @@ module _ (test : ℕ → Bool) (at : ℕ) (ws : List ℕ) (n : ℕ) (found : Boo
   test-end c h = sym (pick-self found) ∙ ap (pick found true) (sym (none-there (omega (arith, c .mid)))) ∙ c .rest
 
 -- ---- words at the front of which none passes the test
-none-both : (test : ℕ → Bool) (l m : List ℕ) → anyP test l ≡ false → anyP test m ≡ false → anyP test (l ++ m) ≡ false
+pub none-both : (test : ℕ → Bool) (l m : List ℕ) → anyP test l ≡ false → anyP test m ≡ false → anyP test (l ++ m) ≡ false
 unfolding anyP
 none-both test [] m p q = q
 none-both test (v ∷ l) m p q = go (none-both test l m) (test v) p
@@ -84,6 +84,22 @@ pub slice-split : (f m t : ℕ) (l : List ℕ) → f ≤ m → m ≤ t → m ≤
 slice-split f m t l h k r =
     ap (drop f) (sym (take-append-drop m (take t l)) ∙ ap (λ (u : List ℕ). u ++ drop m (take t l)) (take-take m t l k))
     ∙ drop-append-le f (take m l) (drop m (take t l)) (omega (arith, h, length-take-le m l r))
+
+-- equal slices up to less
+pub slice-front : (f t e : ℕ) (l l′ : List ℕ) → f ≤ t → t ≤ e → e ≤ length l → e ≤ length l′ → slice f e l ≡ slice f e l′ → slice f t l ≡ slice f t l′
+slice-front f t e l l′ h k s s′ q =
+    let a : f + 0 ≡ f = omega arith in
+    let b : f + (t - f) ≡ t = omega arith in
+    let front : (m : List ℕ) → e ≤ length m → slice 0 (t - f) (slice f e m) ≡ slice f t m =
+    λ m g. slice-slice f e 0 (t - f) m (omega arith) g ∙ ap (λ (u : ℕ). slice u (f + (t - f)) m) a ∙ ap (λ (u : ℕ). slice f u m) b in
+    sym (front l s) ∙ ap (slice 0 (t - f)) q ∙ front l′ s′
+
+-- a slice with the word after it
+pub slice-last : (at f i : ℕ) (l : List ℕ) → f ≤ i → at + i < length l → slice (at + f) (at + (i + 1)) l ≡ slice (at + f) (at + i) l ++ (getD l (at + i) 0 ∷ [])
+slice-last at f i l h k =
+    let q : at + (i + 1) ≡ suc (at + i) = omega arith in
+    ap (λ (t : ℕ). slice (at + f) t l) q ∙ slice-split (at + f) (at + i) (suc (at + i)) l (omega arith) (omega arith) (omega arith)
+    ∙ ap (λ (m : List ℕ). slice (at + f) (at + i) l ++ m) (slice-cons (at + i) (suc (at + i)) l 0 (omega arith) (omega arith) ∙ ap (λ (m : List ℕ). getD l (at + i) 0 ∷ m) (slice-empty (suc (at + i)) l))
 
 module _ (test : ℕ → Bool) (at n : ℕ) (ws : List ℕ) where
   pub others-start : Others test at n ws 0

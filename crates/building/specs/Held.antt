@@ -5,6 +5,7 @@ use mathlib.Core.List.{List, [], _∷_, _++_}
 use mathlib.Core.Path.{_≡_}
 use lib.ListN.{length, take, drop}
 use lib.Seq.{slice}
+use lib.Dec.{eqb}
 use Rattle.model.specs.Lists.{keep, each}
 use Rattle.model.specs.Graph.{Graph, intoAliases, relate}
 use Rattle.model.specs.Built.{Waiting}
@@ -77,6 +78,19 @@ pub record Waits (w : Waiting) (ws : List ℕ) (h : Held) (ws′ : List ℕ) (r 
   pub count : r .waiting ≡ h .waiting + 1
   pub low : take VALUE ws′ ≡ take VALUE ws
   pub high : drop HANDED ws′ ≡ drop HANDED ws
+  pub same : length ws′ ≡ length ws
+
+-- the operands from `from` to r, of which none waits for the block, follow the first `left` up to k; the words before the operands and those of the operands from r on stay
+pub record Moved (block from left n : ℕ) (ws : List ℕ) (r k : ℕ) (ws′ : List ℕ) : Type 0 where
+  pub none : anyP (eqb block) (slice (PREDS + from) (PREDS + r) ws) ≡ false
+  pub preds : slice PREDS (PREDS + k) ws′ ≡ slice PREDS (PREDS + left) ws ++ slice (PREDS + from) (PREDS + r) ws
+  pub relations : slice RELATIONS (RELATIONS + k) ws′ ≡ slice RELATIONS (RELATIONS + left) ws ++ slice (RELATIONS + from) (RELATIONS + r) ws
+  pub count : k + from ≡ left + r
+  pub some : from ≤ r
+  pub few : r ≤ n
+  pub low : take PREDS ws′ ≡ take PREDS ws
+  pub later : slice (PREDS + r) RELATIONS ws′ ≡ slice (PREDS + r) RELATIONS ws
+  pub high : drop (RELATIONS + r) ws′ ≡ drop (RELATIONS + r) ws
   pub same : length ws′ ≡ length ws
 
 -- the end of a block: what waited for it is stored, in order, and waits no more

@@ -5,13 +5,13 @@ use crate::logs::pack;
 use rows::PREDS;
 use rows::RELATIONS;
 ghost use mathlib.Core.Path.{_≡_};
-ghost use Prim.Native.Nat.{ℕ, _+_, _*_, _≤_, _<_};
+ghost use Prim.Native.Nat.{ℕ, _+_, _-_, _*_, _≤_, _<_};
 ghost use lib.ListN.{length, getD, set};
 ghost use lib.Seq.{slice};
 ghost use lib.Dec.{eqb};
-ghost use Rattle.rows.specs.Layout.{PREDS};
+ghost use Rattle.rows.specs.Layout.{LEAST, PREDS};
 ghost use Rattle.building.specs.Logs.{anyP};
-ghost use Rattle.building.specs.Held.{Room, Others, Waits, Wakes};
+ghost use Rattle.building.specs.Held.{Room, Others, Waits, Moved, Wakes};
 
 // A phi operand waits for the end of the block `predecessor`, with its index.
 pub fn wait(ws: &mut [u32], h: Held, predecessor: u32, index: u32, from: u32, into: u32) -> Held
@@ -64,6 +64,27 @@ fn others(ws: &[u32], n: usize, block: u32) -> usize
     i
 }
 
+// The operands from `from` on move down to `left`, up to the first that waits for the block; where that one stands, or n. By itself, so that the loop that moves is a short one.
+fn stay(ws: &mut [u32], from: usize, left: usize, n: usize, block: u32) -> usize
+    requires { ⌜ (LEAST ≤ length (now ws)) × ((left ≤ from) × ((from ≤ n) × (n ≤ 1024))) ⌝ }
+    ensures { λ r. ⌜ Moved block from left n (now (ws .entry)) r (left + (r - from)) (now (ws .exit)) × (r < n → getD (now (ws .exit)) (PREDS + r) 0 ≡ block) ⌝ }
+{
+    let mut i = from;
+    let mut k = left;
+    while i < n {
+        let predecessor = ws[PREDS + i];
+        if predecessor == block {
+            return i;
+        }
+        let w = ws[RELATIONS + i];
+        ws[PREDS + k] = predecessor;
+        ws[RELATIONS + k] = w;
+        i += 1;
+        k += 1;
+    }
+    i
+}
+
 // The end of a block: stores those that wait for it, in order; the others go on waiting.
 pub fn wake(ws: &mut [u32], h: Held, block: u32) -> Held
     requires { ⌜ Room 0 0 (now ws) h ⌝ }
@@ -76,10 +97,11 @@ pub fn wake(ws: &mut [u32], h: Held, block: u32) -> Held
     let mut i = first;
     let mut left = first;
     while i < n {
-        let predecessor = ws[PREDS + i];
-        let w = ws[RELATIONS + i];
-        i += 1;
-        if predecessor == block {
+        let j = stay(ws, i, left, n, block);
+        left += j - i;
+        i = j;
+        if i < n {
+            let w = ws[RELATIONS + i];
             let g = store(
                 ws,
                 Held {
@@ -94,10 +116,7 @@ pub fn wake(ws: &mut [u32], h: Held, block: u32) -> Held
             );
             edges = g.edges;
             entries = g.entries;
-        } else {
-            ws[PREDS + left] = predecessor;
-            ws[RELATIONS + left] = w;
-            left += 1;
+            i += 1;
         }
     }
     Held {
