@@ -1,6 +1,6 @@
 pub mod Turns
+pub mod InPlace
 pub mod Ends
-pub mod Skipping
 pub mod Within
 pub mod Functions
 pub mod SheetTop

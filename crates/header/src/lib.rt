@@ -2,7 +2,6 @@
 use hir::Cursor;
 use hir::Flags;
 use hir::FlagsStep;
-use hir::IdentifierStep;
 use hir::WordStep;
 use rows::END;
 use rows::FUNCTIONS;
@@ -20,48 +19,48 @@ pub enum Next {
     Refused,
 }
 
-// The ends of n identifiers.
+// The ends of n identifiers, each read where it stands: the sheet was accepted, so the words are in their ranges.
 pub fn read_ends(sheet: &[u32], ws: &mut [u32], c: Cursor, n: usize) -> Next
     requires { ⌜ (n ≤ 512) × (16384 ≤ length (now ws)) ⌝ }
     ensures { λ r. ⌜ Ends n (now (sheet .entry)) (c .at) (now (ws .entry)) (now (ws .exit)) r ⌝ }
 {
-    let mut at = c;
+    if n == 0 {
+        return Next::At(c);
+    }
+    let at = c.at;
+    let len = sheet.len();
+    if len < at {
+        return Next::Refused;
+    }
+    if len - at < 3 * n {
+        return Next::Refused;
+    }
     let mut i = 0;
     while i < n {
-        match at.identifier(sheet) {
-            IdentifierStep::Got(id, next) => {
-                let range = id.mutable_range;
-                let end = range.end;
-                ws[END + i] = end.0;
-                at = next;
-            }
-            IdentifierStep::Refused(_) => {
-                return Next::Refused;
-            }
-        }
+        ws[END + i] = sheet[at + 3 * i + 1];
         i += 1;
     }
-    Next::At(at)
+    Next::At(Cursor { at: at + 3 * n })
 }
 
-// k diagnostics are passed over.
+// k diagnostics are passed over, a word each.
 fn skip_diagnostics(sheet: &[u32], c: Cursor, k: u32) -> Next
     ensures { λ r. ⌜ Skipped (times k diagnostic) (now (sheet .entry)) (c .at) r ⌝ }
 {
-    let mut at = c;
-    let mut i: u32 = 0;
-    while i < k {
-        match at.at_most(sheet, 65535) {
-            WordStep::Got(_, next) => {
-                at = next;
-            }
-            WordStep::Refused(_) => {
-                return Next::Refused;
-            }
-        }
-        i += 1;
+    if k == 0 {
+        return Next::At(c);
     }
-    Next::At(at)
+    let at = c.at;
+    let len = sheet.len();
+    if len < at {
+        return Next::Refused;
+    }
+    if len - at < k as usize {
+        return Next::Refused;
+    }
+    Next::At(Cursor {
+        at: at + k as usize,
+    })
 }
 
 // An inner function is passed over.
