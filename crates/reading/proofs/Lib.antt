@@ -1,4 +1,5 @@
 pub mod SectionLaws
+pub mod FitLaws
 pub mod WholeLaws
 pub mod TotalsLaws
 pub mod VerdictLaws

@@ -1,24 +1,64 @@
 // The sections before the blocks, each after its count.
+ghost use Prim.Native.Nat.{_+_, _*_, _≤_};
 ghost use mathlib.Core.Path.{_≡_};
+ghost use lib.ListN.{length};
 ghost use Rattle.model.specs.Limits.{mostIdentifiers, mostFunctions};
-ghost use Rattle.model.specs.Reading.{counted};
+ghost use Rattle.model.specs.Lists.{each};
+ghost use Rattle.model.specs.Reading.{times, counted};
 ghost use Rattle.model.specs.Sections.{identifier, innerFunction, place};
 ghost use Rattle.hir.specs.Says.{wordSays};
 ghost use Rattle.blocks.specs.Judging.{judge};
 ghost use Rattle.reading.specs.Whole.{lengthOf, skip};
 ghost use Rattle.reading.specs.Says.{cursorSays};
+ghost use Rattle.reading.specs.Fits.{identifiersFit};
 use crate::CursorStep;
 use hir::Cursor;
 use hir::IdentifierStep;
 use hir::PlaceStep;
 use hir::WordStep;
 
-// An identifier count and the identifiers: how many there are.
+// Whether the words of `count` identifiers are in their ranges; no branch waits for a word.
+fn identifiers_fit(s: &[u32], start: usize, count: u32) -> bool
+    requires { ⌜ start + 3 * count ≤ length (now s) ⌝ }
+    ensures { λ r. ⌜ r ≡ identifiersFit count (now (s .entry)) start ⌝ }
+{
+    let mut fit = true;
+    let mut at = start;
+    let mut left = count;
+    while 0 < left {
+        fit = fit & (s[at] <= 1000000) & (s[at + 1] <= 1000000) & (s[at + 2] <= 2);
+        at += 3;
+        left -= 1;
+    }
+    fit
+}
+
+// The identifiers one by one: the first faulty word decides.
+fn each_identifier(start: Cursor, s: &[u32], count: u32) -> CursorStep
+    ensures { λ r. ⌜ cursorSays r ≡ judge (times count identifier) (each skip) tt (now (s .entry)) (start .at) ⌝ }
+{
+    let mut c = start;
+    let mut left = count;
+    while 0 < left {
+        match c.identifier(s) {
+            IdentifierStep::Got(_, d) => {
+                c = d;
+            }
+            IdentifierStep::Refused(k) => {
+                return CursorStep::Refused(k);
+            }
+        }
+        left -= 1;
+    }
+    CursorStep::Got(c)
+}
+
+// An identifier count and the identifiers: how many there are. Most sheets' identifiers are found good by one test.
 pub fn identifiers(start: Cursor, s: &[u32]) -> WordStep
     ensures { λ r. ⌜ wordSays r ≡ lengthOf (counted mostIdentifiers identifier) (now (s .entry)) (start .at) ⌝ }
 {
     let count: u32;
-    let mut c: Cursor;
+    let c: Cursor;
     match start.count(s, 512) {
         WordStep::Got(k, d) => {
             count = k;
@@ -28,19 +68,20 @@ pub fn identifiers(start: Cursor, s: &[u32]) -> WordStep
             return WordStep::Refused(k1);
         }
     }
-    let mut left = count;
-    while 0 < left {
-        match c.identifier(s) {
-            IdentifierStep::Got(_, d2) => {
-                c = d2;
-            }
-            IdentifierStep::Refused(k2) => {
-                return WordStep::Refused(k2);
+    let at = c.at;
+    let len = s.len();
+    let words = 3 * (count as usize);
+    if at <= len {
+        if words <= len - at {
+            if identifiers_fit(s, at, count) {
+                return WordStep::Got(count, Cursor { at: at + words });
             }
         }
-        left -= 1;
     }
-    WordStep::Got(count, c)
+    match each_identifier(c, s, count) {
+        CursorStep::Got(d2) => WordStep::Got(count, d2),
+        CursorStep::Refused(k2) => WordStep::Refused(k2),
+    }
 }
 
 // A count and that many diagnostic numbers.
