@@ -142,11 +142,13 @@ none-above v a (x ∷ l) h e = rw (ne-eqb v x (λ q. absurd (omega (arith, h, e 
 pub below-none : (a i : ℕ) (l : List ℕ) → length l ≡ i → Every (λ (x : ℕ). x < a) (drop i l)
 below-none a i l e = subst (λ (k : List ℕ). Every (λ (x : ℕ). x < a) k) (sym (drop-length l) ∙ ap (λ (j : ℕ). drop j l) e) tt
 
--- one more was stored, and the bound was raised
+-- one more, and the bound was raised
+pub below-more : (l : List ℕ) (x a b : ℕ) → Every (λ (y : ℕ). y < a) l → (a ≤ b) × (x < b) → Every (λ (y : ℕ). y < b) (x ∷ l)
+below-more l x a b e r = (r .1, every-mem (λ (y : ℕ). y < a) (λ (y : ℕ). y < b) l (λ y m q. omega (arith, q, r .0)) e)
+
+-- it was stored
 pub below-stored : (l : List ℕ) (i x a b : ℕ) → 0 < i → i ≤ length l → Every (λ (y : ℕ). y < a) (drop i l) → (a ≤ b) × (x < b) → Every (λ (y : ℕ). y < b) (drop (i - 1) (set l (i - 1) x))
-below-stored l i x a b h g e r =
-    subst (λ (k : List ℕ). Every (λ (y : ℕ). y < b) k) (sym (drop-stored l i x h g))
-    (r .1, every-mem (λ (y : ℕ). y < a) (λ (y : ℕ). y < b) (drop i l) (λ y m q. omega (arith, q, r .0)) e)
+below-stored l i x a b h g e r = subst (λ (k : List ℕ). Every (λ (y : ℕ). y < b) k) (sym (drop-stored l i x h g)) (below-more (drop i l) x a b e r)
 
 module _ {A B : Type 0} (f : BlockId → Read A) (tell : A → B → B) (ws : List ℕ) where
   pub numbered-next : (k : ℕ) (used : List BlockId) (b b1 : B) (c d e : Position) (x : BlockId) → 0 < k → newNumber used ws c ≡ got x d →
@@ -182,6 +184,10 @@ module _ {A B : Type 0} (f : BlockId → Read A) (tell : A → B → B) (ws : Li
   numbered-done zero used b c h = refl
   numbered-done (suc k) used b c h = absurd (not-suc-le-zero h)
 
+  -- the same numbers, as another list
+  pub used-as : (k : ℕ) (used used′ : List BlockId) (b : B) (c : Position) → used ≡ used′ → judge (numbered k used f) (each tell) b ws c ≡ judge (numbered k used′ f) (each tell) b ws c
+  used-as k used used′ b c e = ap (λ (l : List BlockId). judge (numbered k l f) (each tell) b ws c) e
+
   -- before the first number is stored
   pub nothing-used : (k : ℕ) (l : List ℕ) (i : ℕ) (b : B) (c : Position) → length l ≡ i → judge (numbered k [] f) (each tell) b ws c ≡ judge (numbered k (drop i l) f) (each tell) b ws c
   nothing-used k l i b c e = rw (← e, drop-length l)
@@ -189,4 +195,4 @@ module _ {A B : Type 0} (f : BlockId → Read A) (tell : A → B → B) (ws : Li
   -- one more was stored
   pub one-stored : (k : ℕ) (l : List ℕ) (i x : ℕ) (b : B) (c : Position) → 0 < i → i ≤ length l →
       judge (numbered k (x ∷ drop i l) f) (each tell) b ws c ≡ judge (numbered k (drop (i - 1) (set l (i - 1) x)) f) (each tell) b ws c
-  one-stored k l i x b c h g = ap (λ (used : List ℕ). judge (numbered k used f) (each tell) b ws c) (sym (drop-stored l i x h g))
+  one-stored k l i x b c h g = used-as k (x ∷ drop i l) (drop (i - 1) (set l (i - 1) x)) b c (sym (drop-stored l i x h g))

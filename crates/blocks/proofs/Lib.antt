@@ -1,3 +1,4 @@
 pub mod JudgeLaws
 pub mod KindLaws
 pub mod BlockLaws
+pub mod OperandLaws

@@ -1,7 +1,5 @@
 // Judges the blocks of a sheet: each word is held to its range, and what refusal 8 counts is counted on the way.
 ghost use mathlib.Core.Path.{_≡_};
-ghost use Prim.Native.Nat.{_≤_};
-ghost use lib.ListN.{length};
 ghost use Rattle.model.specs.Lists.{each};
 ghost use Rattle.model.specs.Reading.{counted};
 ghost use Rattle.model.specs.Sections.{effects, instruction, terminal, block};
@@ -146,20 +144,11 @@ pub fn terminal(c: Cursor, s: &[u32], n: u32, m: u32, totals: Totals) -> TotalsS
     }
 }
 
-// What follows a block's number. The predecessors' numbers of a phi are put into the lent slice.
-fn block(
-    c: Cursor,
-    s: &[u32],
-    n: u32,
-    m: u32,
-    numbers: &mut [u32],
-    totals: Totals,
-    number: u32,
-) -> TotalsStep
-    requires { ⌜ mostCount ≤ length (now numbers) ⌝ }
+// What follows a block's number.
+fn block(c: Cursor, s: &[u32], n: u32, m: u32, totals: Totals, number: u32) -> TotalsStep
     ensures { λ r. ⌜ totalsSays r ≡ judge (block n m number) tellBlock (totalsAre totals) (now (s .entry)) (c .at) ⌝ }
 {
-    match phis::phis(c, s, n, numbers, totals) {
+    match phis::phis(c, s, n, totals) {
         TotalsStep::Got(t1, c1) => match instructions(c1, s, n, m, t1) {
             TotalsStep::Got(t2, c2) => terminal(c2, s, n, m, t2),
             TotalsStep::Refused(k2) => TotalsStep::Refused(k2),
@@ -191,7 +180,6 @@ pub fn blocks(start: Cursor, s: &[u32], n: u32, m: u32) -> TotalsStep
     let mut used = [0u32; 256];
     let mut free: usize = 256;
     let mut above: u32 = 0;
-    let mut numbers = [0u32; 1024];
     while 0 < left {
         let number: u32;
         let c1: Cursor;
@@ -210,7 +198,7 @@ pub fn blocks(start: Cursor, s: &[u32], n: u32, m: u32) -> TotalsStep
         above = phis::raised(above, number);
         free -= 1;
         used[free] = number;
-        match block(c1, s, n, m, &mut numbers, t, number) {
+        match block(c1, s, n, m, t, number) {
             TotalsStep::Got(u, d2) => {
                 t = u;
                 c = d2;

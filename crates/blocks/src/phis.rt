@@ -8,6 +8,7 @@ ghost use Rattle.model.specs.Lists.{each, among, Every};
 ghost use Rattle.model.specs.Reading.{numbered, counted};
 ghost use Rattle.model.specs.Sections.{operand, phi};
 ghost use Rattle.blocks.specs.Judging.{judge, tellOperand, tellPhi};
+ghost use Rattle.blocks.specs.Operands.{Whole, predecessors};
 ghost use Rattle.blocks.specs.Says.{totalsAre, totalsSays};
 use crate::Totals;
 use crate::TotalsStep;
@@ -51,23 +52,44 @@ pub fn raised(above: u32, number: u32) -> u32
     if number < above { above } else { number + 1 }
 }
 
-// `count` operands: a predecessor's number that none before had, and a place. The numbers are kept in the lent slice, the last one first.
-fn operands(
-    start: Cursor,
-    s: &[u32],
-    n: u32,
-    count: u32,
-    numbers: &mut [u32],
-    totals: Totals,
-) -> TotalsStep
-    requires { ⌜ count ≤ length (now numbers) ⌝ }
+// Whether a number is that of an operand from `from` up to `to`; an operand takes four words, its number first.
+fn among_operands(s: &[u32], from: usize, to: usize, number: u32) -> bool
+    requires { ⌜ Whole from to ⌝ }
+    requires { ⌜ to ≤ length (now s) ⌝ }
+    ensures { λ r. ⌜ r ≡ among number (predecessors (now (s .entry)) from to) ⌝ }
+{
+    let mut found = false;
+    let mut i = from;
+    while i < to {
+        found = (number == s[i]) | found;
+        i += 4;
+    }
+    found
+}
+
+// The same for numbers that are all below `above`.
+fn repeated_operand(s: &[u32], from: usize, to: usize, above: u32, number: u32) -> bool
+    requires { ⌜ Whole from to ⌝ }
+    requires { ⌜ to ≤ length (now s) ⌝ }
+    requires { ⌜ Every (λ (v : ℕ). v < above) (predecessors (now s) from to) ⌝ }
+    ensures { λ r. ⌜ r ≡ among number (predecessors (now (s .entry)) from to) ⌝ }
+{
+    if number < above {
+        among_operands(s, from, to, number)
+    } else {
+        false
+    }
+}
+
+// `count` operands: a predecessor's number that none before had, and a place.
+fn operands(start: Cursor, s: &[u32], n: u32, count: u32, totals: Totals) -> TotalsStep
     ensures { λ r. ⌜ totalsSays r ≡ judge (numbered count [] (operand n)) (each tellOperand) (totalsAre totals) (now (s .entry)) (start .at) ⌝ }
 {
     let mut left = count;
     let mut c = start;
     let mut t = totals;
-    let mut free = numbers.len();
     let mut above: u32 = 0;
+    let from = start.at;
     while 0 < left {
         let number: u32;
         let c1: Cursor;
@@ -80,12 +102,10 @@ fn operands(
                 return TotalsStep::Refused(k1);
             }
         }
-        if repeated(numbers, free, above, number) {
+        if repeated_operand(s, from, c.at, above, number) {
             return TotalsStep::Refused(6);
         }
         above = raised(above, number);
-        free -= 1;
-        numbers[free] = number;
         match c1.place(s, n) {
             PlaceStep::Got(_, d2) => {
                 t = t.relation();
@@ -101,13 +121,12 @@ fn operands(
 }
 
 // A place, an operand count and the operands.
-pub fn phi(c: Cursor, s: &[u32], n: u32, numbers: &mut [u32], totals: Totals) -> TotalsStep
-    requires { ⌜ mostCount ≤ length (now numbers) ⌝ }
+pub fn phi(c: Cursor, s: &[u32], n: u32, totals: Totals) -> TotalsStep
     ensures { λ r. ⌜ totalsSays r ≡ judge (phi n) tellPhi (totalsAre totals) (now (s .entry)) (c .at) ⌝ }
 {
     match c.place(s, n) {
         PlaceStep::Got(_, c1) => match c1.count(s, 1024) {
-            WordStep::Got(count, c2) => operands(c2, s, n, count, numbers, totals),
+            WordStep::Got(count, c2) => operands(c2, s, n, count, totals),
             WordStep::Refused(k2) => TotalsStep::Refused(k2),
         },
         PlaceStep::Refused(k1) => TotalsStep::Refused(k1),
@@ -115,8 +134,7 @@ pub fn phi(c: Cursor, s: &[u32], n: u32, numbers: &mut [u32], totals: Totals) ->
 }
 
 // A phi count and the phis.
-pub fn phis(start: Cursor, s: &[u32], n: u32, numbers: &mut [u32], totals: Totals) -> TotalsStep
-    requires { ⌜ mostCount ≤ length (now numbers) ⌝ }
+pub fn phis(start: Cursor, s: &[u32], n: u32, totals: Totals) -> TotalsStep
     ensures { λ r. ⌜ totalsSays r ≡ judge (counted mostCount (phi n)) (each tellPhi) (totalsAre totals) (now (s .entry)) (start .at) ⌝ }
 {
     let mut left: u32;
@@ -132,7 +150,7 @@ pub fn phis(start: Cursor, s: &[u32], n: u32, numbers: &mut [u32], totals: Total
     }
     let mut t = totals;
     while 0 < left {
-        match phi(c, s, n, numbers, t) {
+        match phi(c, s, n, t) {
             TotalsStep::Got(u, d2) => {
                 t = u;
                 c = d2;

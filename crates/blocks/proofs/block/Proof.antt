@@ -27,34 +27,23 @@ enum-known-k2 c = search needs
 enum-known-k1 : tie.Need-enum-known-k1
 enum-known-k1 c = search needs
 
-same-length : tie.Need-same-length
-same-length c = search needs
-
 returns : tie.Need-returns
 returns c =
     let b4 = c .before .before .before .before in
     let b6 = b4 .before .before in
-    let b10 = b6 .before .before .before .before in
     c .terminal .ensures
-    ∙ sym (block-got _ _ _ _ _ _ _ _ _ _ (says totalsSays (b6 .t1 .given .1) (b10 .phis .ensures)) (says totalsSays (c .before .before .t2 .given .1) (b4 .instructions .ensures)))
-
-same-length-2 : tie.Need-same-length-2
-same-length-2 c = search needs
+    ∙ sym (block-got _ _ _ _ _ _ _ _ _ _ (says totalsSays (b6 .t1 .given .1) (b6 .before .before .phis .ensures)) (says totalsSays (c .before .before .t2 .given .1) (b4 .instructions .ensures)))
 
 returns-2 : tie.Need-returns-2
 returns-2 c =
     let b3 = c .before .before .before in
     let b5 = b3 .before .before in
-    let b9 = b5 .before .before .before .before in
-    sym (block-instructions-refused _ _ _ _ _ _ _ _ _ (says totalsSays (b5 .t1 .given .1) (b9 .phis .ensures)) (says totalsSays (c .before .k2 .given .1) (b3 .instructions .ensures)))
-
-same-length-3 : tie.Need-same-length-3
-same-length-3 c = search needs
+    sym (block-instructions-refused _ _ _ _ _ _ _ _ _ (says totalsSays (b5 .t1 .given .1) (b5 .before .before .phis .ensures)) (says totalsSays (c .before .k2 .given .1) (b3 .instructions .ensures)))
 
 returns-3 : tie.Need-returns-3
 returns-3 c =
-    let b5 = c .before .before .before .before .before in
-    sym (block-phis-refused _ _ _ _ _ _ _ (says totalsSays (c .before .k1 .given .1) (b5 .phis .ensures)))
+    let b3 = c .before .before .before in
+    sym (block-phis-refused _ _ _ _ _ _ _ (says totalsSays (c .before .k1 .given .1) (b3 .phis .ensures)))
 
 pub block-spec : {M : Type 1} → statement M
 block-spec =
@@ -67,9 +56,6 @@ block-spec =
     terminal-requires
     enum-known-k2
     enum-known-k1
-    same-length
     returns
-    same-length-2
     returns-2
-    same-length-3
     returns-3)

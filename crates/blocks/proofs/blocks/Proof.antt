@@ -20,11 +20,11 @@ use Rattle.blocks.proofs.blocks.Statement.{statement}
 use Rattle.blocks.proofs.blocks.Tie as tie
 
 abbrev Inv-loop : tie.InvT-loop
-Inv-loop s n m left₀ c₀ t₀ used₀ free₀ above₀ numbers₀ left c t used free above numbers = (judge (numbered left₀ [] (block n m)) (each tellBlock) (totalsAre t₀) s (c₀ .at)
-    ≡ judge (numbered left (drop free used) (block n m)) (each tellBlock) (totalsAre t) s (c .at)) × (left ≤ free) × (free ≤ 256) × (length used ≡ 256) × (length numbers ≡ 1024) × Every (λ (v : ℕ). v < above) (drop free used)
+Inv-loop s n m left₀ c₀ t₀ used₀ free₀ above₀ left c t used free above = (judge (numbered left₀ [] (block n m)) (each tellBlock) (totalsAre t₀) s (c₀ .at)
+    ≡ judge (numbered left (drop free used) (block n m)) (each tellBlock) (totalsAre t) s (c .at)) × (left ≤ free) × (free ≤ 256) × (length used ≡ 256) × Every (λ (v : ℕ). v < above) (drop free used)
 
 abbrev μ-loop : tie.MeasureT-loop
-μ-loop s n m left₀ c₀ t₀ used₀ free₀ above₀ numbers₀ left c t used free above numbers = left
+μ-loop s n m left₀ c₀ t₀ used₀ free₀ above₀ left c t used free above = left
 
 count-requires : tie.Need-count-requires Inv-loop μ-loop
 count-requires c κs = tt
@@ -43,7 +43,7 @@ returns c =
 loop-holds : tie.Need-loop-holds Inv-loop μ-loop
 loop-holds c =
     let b3 = c .before .before .before in
-    (nothing-used _ _ _ _ (replicate 256 0) 256 _ _ refl, count-reads 256 _ _ _ _ (says wordSays (c .before .count2 .given .1) (b3 .count .ensures)), omega arith, refl, refl, below-none 0 256 (replicate 256 0) refl)
+    (nothing-used _ _ _ _ (replicate 256 0) 256 _ _ refl, count-reads 256 _ _ _ _ (says wordSays (c .before .count2 .given .1) (b3 .count .ensures)), omega arith, refl, below-none 0 256 (replicate 256 0) refl)
 
 block-number-requires : tie.Need-block-number-requires Inv-loop μ-loop
 block-number-requires c κs = tt
@@ -73,7 +73,7 @@ slice-aggregate-repeated c =
 repeated-requires : tie.Need-repeated-requires Inv-loop μ-loop
 repeated-requires c κs =
     let b6 = c .before .before .before .before .before .before in
-    (omega (arith, b6 .loop .inv .3), b6 .loop .inv .5)
+    (omega (arith, b6 .loop .inv .3), b6 .loop .inv .4)
 
 returns-3 : tie.Need-returns-3 Inv-loop μ-loop
 returns-3 c =
@@ -102,15 +102,8 @@ mul-used c = omega arith
 array-write-used : tie.Need-array-write-used Inv-loop μ-loop
 array-write-used c = omega arith
 
-slice-aggregate-block : tie.Need-slice-aggregate-block Inv-loop μ-loop
-slice-aggregate-block c =
-    let b10 = c .before .before .before .before .before .before .before .before .before .before in
-    sym (b10 .loop .inv .4)
-
 block-requires : tie.Need-block-requires Inv-loop μ-loop
-block-requires c κs =
-    let b10 = c .before .before .before .before .before .before .before .before .before .before in
-    omega (arith, b10 .loop .inv .4)
+block-requires c κs = tt
 
 enum-known-u : tie.Need-enum-known-u Inv-loop μ-loop
 enum-known-u c = search needs
@@ -120,19 +113,19 @@ enum-known-k3 c = search needs
 
 returns-4 : tie.Need-returns-4 Inv-loop μ-loop
 returns-4 c =
-    let b4 = c .before .before .before .before in
-    let b7 = b4 .before .before .before in
-    let b8 = b7 .before in
-    let b11 = b8 .before .before .before in
-    let b13 = b11 .before .before in
-    let b14 = b13 .before in
-    let b15 = b14 .before in
+    let b3 = c .before .before .before in
+    let b5 = b3 .before .before in
+    let b6 = b5 .before in
+    let b9 = b6 .before .before .before in
+    let b11 = b9 .before .before in
+    let b12 = b11 .before in
+    let b13 = b12 .before in
+    let b15 = b13 .before .before in
     let b17 = b15 .before .before in
-    let b19 = b17 .before .before in
-    sym (blocks-got _ _ _ _ _ _ _ (says wordSays (b17 .count2 .given .1) (b19 .count .ensures))
-    ∙ b15 .loop .inv .0
-    ∙ numbered-stop _ _ _ _ _ _ _ _ _ _ (b14 .loop-test .taken) (new-got _ _ _ _ _ (says blockSays (b11 .b .given .1) (b13 .block-number .ensures)) (sym (b8 .repeated .ensures)
-    ∙ b7 .if1 .left)) (says totalsSays (c .before .k3 .given .1) (b4 .block .ensures)))
+    sym (blocks-got _ _ _ _ _ _ _ (says wordSays (b15 .count2 .given .1) (b17 .count .ensures))
+    ∙ b13 .loop .inv .0
+    ∙ numbered-stop _ _ _ _ _ _ _ _ _ _ (b12 .loop-test .taken) (new-got _ _ _ _ _ (says blockSays (b9 .b .given .1) (b11 .block-number .ensures)) (sym (b6 .repeated .ensures)
+    ∙ b5 .if1 .left)) (says totalsSays (c .before .k3 .given .1) (b3 .block .ensures)))
 
 sub-left : tie.Need-sub-left Inv-loop μ-loop
 sub-left c = omega arith
@@ -144,16 +137,14 @@ loop-again : tie.Need-loop-again Inv-loop μ-loop
 loop-again c =
     let b3 = c .before .before .before in
     let b4 = b3 .before in
-    let b6 = b4 .before .before in
-    let b7 = b6 .before in
-    let b8 = b7 .before in
-    let b11 = b8 .before .before .before in
-    let b13 = b11 .before .before in
-    let b14 = b13 .before in
-    let b15 = b14 .before in
-    let l = b15 .loop in
+    let b5 = b4 .before in
+    let b6 = b5 .before in
+    let b9 = b6 .before .before .before in
+    let b11 = b9 .before .before in
+    let b12 = b11 .before in
+    let l = b12 .before .loop in
     let e : length (l .used) ≡ 256 = l .inv .3 in
-    (l .inv .0 ∙ numbered-next _ _ _ _ _ _ _ _ _ _ _ (b14 .loop-test .taken) (new-got _ _ _ _ _ (says blockSays (b11 .b .given .1) (b13 .block-number .ensures)) (sym (b8 .repeated .ensures) ∙ b7 .if1 .left)) (says totalsSays (c .before .u .given .1) (b4 .block .ensures)) ∙ one-stored _ _ _ _ (l .used) (l .free) _ _ _ (omega arith) (omega arith), omega arith, omega arith, simp length-set e, b3 .numbers2 .given, below-stored (l .used) (l .free) _ _ _ (omega arith) (omega arith) (l .inv .5) (b6 .raised .ensures))
+    (l .inv .0 ∙ numbered-next _ _ _ _ _ _ _ _ _ _ _ (b12 .loop-test .taken) (new-got _ _ _ _ _ (says blockSays (b9 .b .given .1) (b11 .block-number .ensures)) (sym (b6 .repeated .ensures) ∙ b5 .if1 .left)) (says totalsSays (c .before .u .given .1) (b3 .block .ensures)) ∙ one-stored _ _ _ _ (l .used) (l .free) _ _ _ (omega arith) (omega arith), omega arith, omega arith, simp length-set e, below-stored (l .used) (l .free) _ _ _ (omega arith) (omega arith) (l .inv .4) (b4 .raised .ensures))
 
 returns-5 : tie.Need-returns-5 Inv-loop μ-loop
 returns-5 c =
@@ -185,7 +176,6 @@ blocks-spec =
     sub-free
     mul-used
     array-write-used
-    slice-aggregate-block
     block-requires
     enum-known-u
     enum-known-k3

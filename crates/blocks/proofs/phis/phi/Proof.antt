@@ -1,6 +1,4 @@
 use Rattle.blocks.proofs.BlockLaws.{phi-got, phi-place-refused, phi-count-refused}
-use native.Mathlib.Omega.{arith}
-use Rattle.model.proofs.ReadLaws.{count-reads}
 use Rattle.hir.specs.Says.{wordSays, placeSays}
 use mathlib.Core.Path.{_≡_, _∙_, sym, refl}
 use Rattle.hir.proofs.Answers.{says}
@@ -21,10 +19,7 @@ enum-known-count : tie.Need-enum-known-count
 enum-known-count c = search needs
 
 operands-requires : tie.Need-operands-requires
-operands-requires c κs =
-    let b4 = c .before .before .before .before in
-    let b11 = b4 .before .before .before .before .before .before .before in
-    omega (arith, count-reads 1024 _ _ _ _ (says wordSays (c .before .before .count2 .given .1) (b4 .count .ensures)), b11 .pre)
+operands-requires c κs = search needs
 
 enum-known-k2 : tie.Need-enum-known-k2
 enum-known-k2 c = search needs
@@ -32,17 +27,12 @@ enum-known-k2 c = search needs
 enum-known-k1 : tie.Need-enum-known-k1
 enum-known-k1 c = search needs
 
-same-length : tie.Need-same-length
-same-length c = search needs
-
 returns : tie.Need-returns
 returns c =
-    let b5 = c .before .before .before .before .before in
-    let b7 = b5 .before .before in
-    let b9 = b7 .before .before in
-    let b11 = b9 .before .before in
-    c .before .before .operands .ensures
-    ∙ sym (phi-got _ _ _ _ _ _ _ _ (says placeSays (b9 .c1 .given .1) (b11 .place .ensures)) (says wordSays (b5 .count2 .given .1) (b7 .count .ensures)))
+    let b4 = c .before .before .before .before in
+    let b6 = b4 .before .before in
+    c .operands .ensures
+    ∙ sym (phi-got _ _ _ _ _ _ _ _ (says placeSays (b6 .c1 .given .1) (b6 .before .before .place .ensures)) (says wordSays (c .before .before .count2 .given .1) (b4 .count .ensures)))
 
 returns-2 : tie.Need-returns-2
 returns-2 c =
@@ -67,7 +57,6 @@ phi-spec =
     operands-requires
     enum-known-k2
     enum-known-k1
-    same-length
     returns
     returns-2
     returns-3)

@@ -9,16 +9,15 @@ use native.Mathlib.Omega.{arith}
 use mathlib.Core.Path.{_≡_, _∙_, sym, refl}
 use borrow.Author.Needs.{needs}
 use Rattle.hir.proofs.Answers.{says}
-use lib.ListN.{length}
 use Rattle.blocks.proofs.phis.phis.Statement.{statement}
 use Rattle.blocks.proofs.phis.phis.Tie as tie
 
 abbrev Inv-loop : tie.InvT-loop
-Inv-loop s n numbers₀ left₀ c₀ t₀ numbers left c t = (judge (times left₀ (phi n)) (each tellPhi) (totalsAre t₀) s (c₀ .at)
-    ≡ judge (times left (phi n)) (each tellPhi) (totalsAre t) s (c .at)) × (length numbers ≡ length numbers₀)
+Inv-loop s n left₀ c₀ t₀ left c t = judge (times left₀ (phi n)) (each tellPhi) (totalsAre t₀) s (c₀ .at)
+    ≡ judge (times left (phi n)) (each tellPhi) (totalsAre t) s (c .at)
 
 abbrev μ-loop : tie.MeasureT-loop
-μ-loop s n numbers₀ left₀ c₀ t₀ numbers left c t = left
+μ-loop s n left₀ c₀ t₀ left c t = left
 
 count-requires : tie.Need-count-requires Inv-loop μ-loop
 count-requires c κs = tt
@@ -35,10 +34,10 @@ returns c =
     sym (section-refused _ _ _ _ _ _ _ (says wordSays (c .before .k1 .given .1) (b3 .count .ensures)))
 
 loop-holds : tie.Need-loop-holds Inv-loop μ-loop
-loop-holds c = (refl, refl)
+loop-holds c = refl
 
 phi-requires : tie.Need-phi-requires Inv-loop μ-loop
-phi-requires c κs = omega (arith, c .before .before .loop .inv .1)
+phi-requires c κs = tt
 
 enum-known-u : tie.Need-enum-known-u Inv-loop μ-loop
 enum-known-u c = search needs
@@ -46,19 +45,15 @@ enum-known-u c = search needs
 enum-known-k2 : tie.Need-enum-known-k2 Inv-loop μ-loop
 enum-known-k2 c = search needs
 
-same-length : tie.Need-same-length Inv-loop μ-loop
-same-length c = search needs
-
 returns-2 : tie.Need-returns-2 Inv-loop μ-loop
 returns-2 c =
-    let b5 = c .before .before .before .before .before in
+    let b3 = c .before .before .before in
+    let b4 = b3 .before in
+    let b5 = b4 .before in
     let b7 = b5 .before .before in
-    let b8 = b7 .before in
-    let b10 = b8 .before .before in
-    let b12 = b10 .before .before in
-    sym (section-got _ _ _ _ _ _ _ _ (says wordSays (b10 .count2 .given .1) (b12 .count .ensures))
-    ∙ b8 .loop .inv .0
-    ∙ times-stop _ _ _ _ _ _ _ (b7 .loop-test .taken) (says totalsSays (c .before .k2 .given .1) (b5 .phi .ensures)))
+    sym (section-got _ _ _ _ _ _ _ _ (says wordSays (b7 .count2 .given .1) (b7 .before .before .count .ensures))
+    ∙ b5 .loop .inv
+    ∙ times-stop _ _ _ _ _ _ _ (b4 .loop-test .taken) (says totalsSays (c .before .k2 .given .1) (b3 .phi .ensures)))
 
 sub-left : tie.Need-sub-left Inv-loop μ-loop
 sub-left c = omega arith
@@ -68,23 +63,16 @@ loop-less c = omega arith
 
 loop-again : tie.Need-loop-again Inv-loop μ-loop
 loop-again c =
-    let b5 = c .before .before .before .before .before in
-    let b7 = b5 .before .before in
-    let b8 = b7 .before in (
-      b8 .loop .inv .0
-          ∙ times-next _ _ _ _ _ _ _ _ (b7 .loop-test .taken) (says totalsSays (c .before .u .given .1) (b5 .phi .ensures)),
-      search needs,
-    )
-
-same-length-2 : tie.Need-same-length-2 Inv-loop μ-loop
-same-length-2 c = search needs
+    let b3 = c .before .before .before in
+    let b4 = b3 .before in
+    b4 .before .loop .inv ∙ times-next _ _ _ _ _ _ _ _ (b4 .loop-test .taken) (says totalsSays (c .before .u .given .1) (b3 .phi .ensures))
 
 returns-3 : tie.Need-returns-3 Inv-loop μ-loop
 returns-3 c =
     let b3 = c .before .before .before in
     let b5 = b3 .before .before in
     sym (section-got _ _ _ _ _ _ _ _ (says wordSays (b3 .count2 .given .1) (b5 .count .ensures))
-    ∙ c .before .loop .inv .0
+    ∙ c .before .loop .inv
     ∙ times-done _ _ _ _ _ _ (c .loop-test .left))
 
 pub phis-spec : {M : Type 1} → statement M
@@ -101,10 +89,8 @@ phis-spec =
     phi-requires
     enum-known-u
     enum-known-k2
-    same-length
     returns-2
     sub-left
     loop-less
     loop-again
-    same-length-2
     returns-3)
