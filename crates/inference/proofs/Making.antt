@@ -16,9 +16,8 @@ use Rattle.model.specs.Building.{block as blockStep}
 use Rattle.model.specs.Call.{IsSheet}
 use Rattle.model.proofs.WhenRead.{read-got}
 use Rattle.hir.specs.Says.{placeIs}
-use Rattle.rows.specs.Layout.{LEAST, END, SEEN}
+use Rattle.rows.specs.Layout.{LEAST, LKIND, TKIND, LAST, END, SEEN}
 use Rattle.rows.specs.Sort.{clearW}
-use Rattle.rows.proofs.Clearing.{kept-clear}
 use Rattle.building.specs.declared.Building.{Building}
 use Rattle.building.specs.Built.{LaysOut, Sound}
 use Rattle.instructions.specs.declared.BuildStep.{BuildStep}
@@ -36,7 +35,7 @@ use Rattle.parameters.specs.declared.FunctionStep.the-variants.{Got, Refused}
 use Rattle.parameters.specs.Function.{FunctionRead, functionIs, ReadsFunction}
 use Rattle.inference.specs.declared.Outcome.{Outcome}
 use Rattle.inference.specs.Whole.{Prepared, preparedIs, Prepares, Answers}
-use Rattle.inference.proofs.Preparing.{prepared}
+use Rattle.inference.proofs.Preparing.{clearedW, cleared-same, prepared}
 
 -- the loop over the blocks of f, as its contract says it
 abbrev Looped : List ℕ → HirFunction → List ℕ → Building → List ℕ → BuildStep → Type 0
@@ -48,8 +47,12 @@ is-read sheet {s} is = read-got sheet s (is .0) (is .1) .0
 is-within : (sheet : List ℕ) {s : Sheet} → IsSheet sheet s → over (totals s) ≡ false
 is-within sheet {s} is = read-got sheet s (is .0) (is .1) .1
 
-pub cleared-size : (ws₀ : List ℕ) {ws : List ℕ} → LEAST ≤ length ws₀ → ws ≡ clearW ws₀ 0 SEEN → LEAST ≤ length ws
-cleared-size ws₀ h e = omega (arith, h, kept-clear ws₀ 0 SEEN .same, ap (λ (z : List ℕ). length z) e)
+-- the three clearings
+pub cleared : (ws₀ : List ℕ) {ws₁ ws₂ ws : List ℕ} → ws₁ ≡ clearW ws₀ LKIND 512 → ws₂ ≡ clearW ws₁ TKIND 512 → ws ≡ clearW ws₂ LAST 1536 → ws ≡ clearedW ws₀
+cleared ws₀ p q r = r ∙ ap (λ (z : List ℕ). clearW z 2048 1536) (q ∙ ap (λ (z : List ℕ). clearW z 1024 512) p)
+
+pub cleared-size : (ws₀ : List ℕ) {ws : List ℕ} → LEAST ≤ length ws₀ → ws ≡ clearedW ws₀ → LEAST ≤ length ws
+cleared-size ws₀ h e = omega (arith, h, cleared-same ws₀, ap (λ (z : List ℕ). length z) e)
 
 module _ {sheet ws ws₁ : List ℕ} {x : FunctionStep} (h : ReadsFunction sheet ws ws₁ x) where
   never : x ≡ Refused → (s : Sheet) → IsSheet sheet s → ⊥
@@ -91,12 +94,12 @@ module _ {sheet ws ws₁ : List ℕ} {x : FunctionStep} (h : ReadsFunction sheet
         pub whole-got : (s : Sheet) → IsSheet sheet s → Whole s ws₁ ws₂ b′
         whole-got s is = let k = whole s is in let v : WholeAt s (k .0) ws₁ ws₂ (GotBlocks b′ c) = subst (WholeAt s (k .0) ws₁ ws₂) e (k .1) in v .0
 
-        pub prepares : ((s : Sheet) × IsSheet sheet s) → {ws₀ ws₃ : List ℕ} → LEAST ≤ length ws₀ → ws ≡ clearW ws₀ 0 SEEN → LaysOut ws₂ b′ ws₃ → Prepares sheet ws₀ ws₃ (Got f b′)
-        prepares p {ws₀} {ws₃} size cleared l = record {
+        pub prepares : ((s : Sheet) × IsSheet sheet s) → {ws₀ ws₃ : List ℕ} → LEAST ≤ length ws₀ → ws ≡ clearedW ws₀ → LaysOut ws₂ b′ ws₃ → Prepares sheet ws₀ ws₃ (Got f b′)
+        prepares p {ws₀} {ws₃} size e₀ l = record {
           built = λ s is.
               let g = function-got s is in
-              prepared s sheet (is .0) (is-read sheet is) f b′ ws₀ ws₁ ws₂ ws₃ (g .describes) (g .limited) (g .stands) size (g .ends ∙ ap (λ (z : List ℕ). take SEEN (sets z END (map (λ (i : Identifier). i .end) (s .identifiers)))) cleared) (whole-got s is) l;
-          same = l .same ∙ whole-got (p .0) (p .1) .same ∙ function-got (p .0) (p .1) .same ∙ ap (λ (z : List ℕ). length z) cleared ∙ kept-clear ws₀ 0 SEEN .same;
+              prepared s sheet (is .0) (is-read sheet is) f b′ ws₀ ws₁ ws₂ ws₃ (g .describes) (g .limited) (g .stands) size (g .ends ∙ ap (λ (z : List ℕ). take SEEN (sets z END (map (λ (i : Identifier). i .end) (s .identifiers)))) e₀) (whole-got s is) l;
+          same = l .same ∙ whole-got (p .0) (p .1) .same ∙ function-got (p .0) (p .1) .same ∙ ap (λ (z : List ℕ). length z) e₀ ∙ cleared-same ws₀;
         }
 
 -- what was built

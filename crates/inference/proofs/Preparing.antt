@@ -3,7 +3,7 @@ use Prim.Native.Nat.{ℕ, zero, suc, _+_, _-_, _≤_, _<_}
 use native.Mathlib.Omega.{arith}
 use mathlib.Core.Path.{_≡_, refl, sym, subst, ap, _∙_}
 use mathlib.Core.List.{List, [], _∷_, _++_, map, append-assoc}
-use lib.ListN.{length, getD, take, drop, replicate, length-replicate, length-map, length-take, replicate-append-replicate}
+use lib.ListN.{length, getD, take, drop, replicate, length-replicate, length-append, length-map, length-take, replicate-append-replicate}
 use lib.Seq.{sets, sets-eq, slice, take-at, drop-at, take-append-add, drop-append-seam, length-take-le, length-sets}
 use Rattle.model.specs.Limits.{mostIdentifiers, mostMutations, mostOrder}
 use Rattle.model.specs.Lists.{Every}
@@ -14,7 +14,7 @@ use Rattle.model.specs.Mutation.{Mutation, RenderOf}
 use Rattle.model.specs.Built.{Built}
 use Rattle.model.specs.Building.{build}
 use Rattle.model.specs.Summary.{sheetEnds, built}
-use Rattle.rows.specs.Layout.{LEAST, END, SEEN, FBOUND, QUEUE, HANDED, FUNCTIONS}
+use Rattle.rows.specs.Layout.{LEAST, LKIND, TKIND, LAST, END, SEEN, FBOUND, QUEUE, HANDED, FUNCTIONS}
 use Rattle.rows.specs.Rows.{Kept, rowsOf}
 use Rattle.rows.specs.Sort.{clearW}
 use Rattle.rows.specs.Graph.{graphOfRows}
@@ -24,7 +24,7 @@ use Rattle.rows.proofs.Clearing.{kept-clear, clear-at}
 use Rattle.building.specs.declared.Building.{Building}
 use Rattle.building.specs.Built.{indexOf, builtOf, LaysOut}
 use Rattle.aliasing.specs.State.{stateOf}
-use Rattle.aliasing.proofs.New.{state-new}
+use Rattle.aliasing.proofs.New.{Bare, state-new}
 use Rattle.dataflow.specs.Whole.{Whole}
 use Rattle.function.specs.declared.HirFunction.{HirFunction}
 use Rattle.function.specs.Function.{Limited, Describes, Stands}
@@ -32,47 +32,86 @@ use Rattle.function.proofs.Standing.{stands-kept}
 use Rattle.inference.specs.Whole.{Prepared}
 use Rattle.inference.proofs.Orders.{orders}
 
--- ---- words that were cleared up to b
+-- ---- n words that were cleared from a on
 abbrev zeros : ℕ → List ℕ
 zeros n = replicate n 0
 
-module _ (ws : List ℕ) (b : ℕ) (h : b ≤ length ws) where
-  cleared-all : clearW ws 0 b ≡ zeros b ++ drop b ws
+module _ (ws : List ℕ) (a n : ℕ) (h : a + n ≤ length ws) where
+  cleared-all : clearW ws a n ≡ take a ws ++ (zeros n ++ drop (a + n) ws)
   unfolding clearW
   cleared-all =
-      let n : length (zeros b) ≡ b = length-replicate {A = ℕ} b 0 in
-      let k : 0 + length (zeros b) ≡ b = omega (arith, n) in
-      sets-eq (zeros b) ws 0 (omega (arith, n, h)) ∙ ap (λ (i : ℕ). zeros b ++ drop i ws) k
+      let k : a + length (zeros n) ≡ a + n = ap (λ (i : ℕ). a + i) (length-replicate n 0) in
+      sets-eq (zeros n) ws a (omega (arith, k, h))
+      ∙ append-assoc (take a ws) (zeros n) (drop (a + length (zeros n)) ws)
+      ∙ ap (λ (i : ℕ). take a ws ++ (zeros n ++ drop i ws)) k
 
-  -- m of them after k
-  cleared-part : (k m : ℕ) → k + m ≡ b → take m (drop k (clearW ws 0 b)) ≡ zeros m
+  -- the last m of them, after k
+  cleared-part : (k m : ℕ) → k + m ≡ n → take m (drop (a + k) (clearW ws a n)) ≡ zeros m
   cleared-part k m e =
-      let z : zeros b ≡ zeros k ++ zeros m = ap (λ (i : ℕ). zeros i) (sym e) ∙ sym (replicate-append-replicate k m 0) in
-      let w : clearW ws 0 b ≡ zeros k ++ (zeros m ++ drop b ws) =
-      cleared-all ∙ ap (λ (l : List ℕ). l ++ drop b ws) z ∙ append-assoc (zeros k) (zeros m) (drop b ws) in
-      ap (λ (l : List ℕ). take m (drop k l)) w
-      ∙ ap (take m) (drop-at (zeros k) (zeros m ++ drop b ws) k (length-replicate k 0)) ∙ take-at (zeros m) (drop b ws) m (length-replicate m 0)
+      let before : List ℕ = take a ws ++ zeros k in
+      let after : List ℕ = drop (a + n) ws in
+      let count : length before ≡ a + k = length-append (take a ws) (zeros k) ∙ (λ j. length-take-le a ws (omega (arith, h)) j + length-replicate {A = ℕ} k 0 j) in
+      let z : zeros n ≡ zeros k ++ zeros m = ap (λ (i : ℕ). zeros i) (sym e) ∙ sym (replicate-append-replicate k m 0) in
+      let w : clearW ws a n ≡ before ++ (zeros m ++ after) =
+      cleared-all
+      ∙ ap (λ (l : List ℕ). take a ws ++ (l ++ after)) z
+      ∙ ap (λ (l : List ℕ). take a ws ++ l) (append-assoc (zeros k) (zeros m) after)
+      ∙ sym (append-assoc (take a ws) (zeros k) (zeros m ++ after)) in
+      ap (λ (l : List ℕ). take m (drop (a + k) l)) w ∙ ap (take m) (drop-at before (zeros m ++ after) (a + k) count) ∙ take-at (zeros m) after m (length-replicate m 0)
 
-  -- words written over some of them, up to b
-  written : (a : ℕ) (vs : List ℕ) (m : ℕ) → a + length vs + m ≡ b → slice a b (sets (clearW ws 0 b) a vs) ≡ vs ++ zeros m
-  written a vs m e =
-      let l : List ℕ = clearW ws 0 b in
-      let same : length l ≡ length ws = kept-clear ws 0 b .same in
-      let p : List ℕ = take a l in
-      let q : List ℕ = drop (a + length vs) l in
-      let n : length p ≡ a = length-take-le a l (omega (arith, same, h, e)) in
-      let s : sets l a vs ≡ p ++ (vs ++ q) = sets-eq vs l a (omega (arith, same, h, e)) ∙ append-assoc p vs q in
-      let t : b ≡ length p + (length vs + m) = omega (arith, n, e) in
-      ap (λ (z : List ℕ). drop a (take b z)) s
-      ∙ ap (λ (i : ℕ). drop a (take i (p ++ (vs ++ q)))) t
-      ∙ ap (drop a) (take-append-add p (vs ++ q) (length vs + m))
-      ∙ drop-at p (take (length vs + m) (vs ++ q)) a n
+  -- words written over some of them, after k, up to the last
+  written : (k : ℕ) (vs : List ℕ) (m : ℕ) → k + length vs + m ≡ n → slice (a + k) (a + n) (sets (clearW ws a n) (a + k) vs) ≡ vs ++ zeros m
+  written k vs m e =
+      let l : List ℕ = clearW ws a n in
+      let same : length l ≡ length ws = kept-clear ws a n .same in
+      let p : List ℕ = take (a + k) l in
+      let q : List ℕ = drop (a + k + length vs) l in
+      let c : length p ≡ a + k = length-take-le (a + k) l (omega (arith, same, h, e)) in
+      let s : sets l (a + k) vs ≡ p ++ (vs ++ q) = sets-eq vs l (a + k) (omega (arith, same, h, e)) ∙ append-assoc p vs q in
+      let t : a + n ≡ length p + (length vs + m) = omega (arith, c, e) in
+      let u : a + k + length vs ≡ a + (k + length vs) = omega arith in
+      ap (λ (z : List ℕ). drop (a + k) (take (a + n) z)) s
+      ∙ ap (λ (i : ℕ). drop (a + k) (take i (p ++ (vs ++ q)))) t
+      ∙ ap (drop (a + k)) (take-append-add p (vs ++ q) (length vs + m))
+      ∙ drop-at p (take (length vs + m) (vs ++ q)) (a + k) c
       ∙ take-append-add vs q m
-      ∙ ap (λ (z : List ℕ). vs ++ z) (cleared-part (a + length vs) m e)
+      ∙ ap (λ (i : ℕ). vs ++ take m (drop i l)) u
+      ∙ ap (λ (z : List ℕ). vs ++ z) (cleared-part (k + length vs) m e)
+
+-- ---- the fields of the nodes but the spans cleared
+abbrev kindsW : List ℕ → List ℕ
+kindsW ws = clearW (clearW ws LKIND 512) TKIND 512
+
+abbrev pub clearedW : List ℕ → List ℕ
+clearedW ws = clearW (kindsW ws) LAST 1536
+
+pub cleared-same : (ws : List ℕ) → length (clearedW ws) ≡ length ws
+cleared-same ws = kept-clear (kindsW ws) 2048 1536 .same ∙ kept-clear (clearW ws 0 512) 1024 512 .same ∙ kept-clear ws 0 512 .same
+
+module _ (ws : List ℕ) (size : LEAST ≤ length ws) where
+  local-size : LEAST ≤ length (clearW ws LKIND 512)
+  local-size = omega (arith, size, kept-clear ws 0 512 .same)
+
+  kinds-size : LEAST ≤ length (kindsW ws)
+  kinds-size = omega (arith, local-size, kept-clear (clearW ws 0 512) 1024 512 .same)
+
+  kinds-kept : (i : ℕ) → i < LAST → getD (clearedW ws) i 0 ≡ getD (kindsW ws) i 0
+  kinds-kept i h = take-word 2048 i (kindsW ws) (clearedW ws) h (kept-clear (kindsW ws) 2048 1536 .low)
+
+  cleared-bare : Bare (clearedW ws)
+  cleared-bare = record {
+    reason = λ x h. let e : 2560 + x ≡ 2048 + (512 + x) = omega arith in
+        ap (λ (i : ℕ). getD (clearedW ws) i 0) e ∙ clear-at (kindsW ws) 2048 1536 (512 + x) (omega (arith, kinds-size)) (omega (arith, h));
+    last = λ x h. clear-at (kindsW ws) 2048 1536 x (omega (arith, kinds-size)) (omega (arith, h));
+    transitive = λ x h. kinds-kept (1024 + x) (omega (arith, h)) ∙ clear-at (clearW ws 0 512) 1024 512 x (omega (arith, local-size)) h;
+    local = λ x h. kinds-kept (0 + x) (omega (arith, h))
+        ∙ take-word 1024 (0 + x) (clearW ws 0 512) (kindsW ws) (omega (arith, h)) (kept-clear (clearW ws 0 512) 1024 512 .low)
+        ∙ clear-at ws 0 512 x (omega (arith, size)) h;
+  }
 
 -- ---- the sheet's ends in the words
 module _ (ws₀ : List ℕ) (ids : List Identifier) (few : length ids ≤ 512) (size : LEAST ≤ length ws₀) (ws : List ℕ)
-    (low : take SEEN ws ≡ take SEEN (sets (clearW ws₀ 0 SEEN) END (map (λ (i : Identifier). i .end) ids))) where
+    (low : take SEEN ws ≡ take SEEN (sets (clearedW ws₀) END (map (λ (i : Identifier). i .end) ids))) where
   abbrev ends : List ℕ
   ends = map (λ (i : Identifier). i .end) ids
 
@@ -82,21 +121,27 @@ module _ (ws₀ : List ℕ) (ids : List Identifier) (few : length ids ≤ 512) (
   ends-stand : slice END SEEN ws ≡ sheetEnds ids
   unfolding sheetEnds
   ends-stand =
-      slice-take 3584 3072 3584 ws (sets (clearW ws₀ 0 3584) 3072 ends) (omega arith) low
-      ∙ written ws₀ 3584 (omega (arith, size)) 3072 ends (512 - length ids) (omega (arith, count, few))
+      slice-take 3584 3072 3584 ws (sets (clearedW ws₀) 3072 ends) (omega arith) low
+      ∙ written (kindsW ws₀) 2048 1536 (omega (arith, kinds-size ws₀ size)) 1024 ends (512 - length ids) (omega (arith, count, few))
 
-  no-record : (i : ℕ) → i < END → getD ws i 0 ≡ 0
-  no-record i h =
-      let z : i ≡ 0 + i = omega arith in
-      take-word 3584 i (sets (clearW ws₀ 0 3584) 3072 ends) ws (omega (arith, h)) low
-      ∙ take-word 3072 i (clearW ws₀ 0 3584) (sets (clearW ws₀ 0 3584) 3072 ends) h (take-sets 3072 ends (clearW ws₀ 0 3584) 3072 (omega arith))
-      ∙ ap (λ (k : ℕ). getD (clearW ws₀ 0 3584) k 0) z ∙ clear-at ws₀ 0 3584 i (omega (arith, size)) (omega (arith, h))
+  before-ends : (i : ℕ) → i < END → getD ws i 0 ≡ getD (clearedW ws₀) i 0
+  before-ends i h =
+      take-word 3584 i (sets (clearedW ws₀) 3072 ends) ws (omega (arith, h)) low
+      ∙ take-word 3072 i (clearedW ws₀) (sets (clearedW ws₀) 3072 ends) h (take-sets 3072 ends (clearedW ws₀) 3072 (omega arith))
+
+  bare : Bare ws
+  bare = let z = cleared-bare ws₀ size in record {
+    reason = λ x h. before-ends (2560 + x) (omega (arith, h)) ∙ z .reason x h;
+    last = λ x h. before-ends (2048 + x) (omega (arith, h)) ∙ z .last x h;
+    transitive = λ x h. before-ends (1024 + x) (omega (arith, h)) ∙ z .transitive x h;
+    local = λ x h. before-ends (0 + x) (omega (arith, h)) ∙ z .local x h;
+  }
 
 module _ (s : Sheet) (sheet : List ℕ) (d : Position) (is : sheetReader sheet 0 ≡ got s d) (f : HirFunction) (b : Building) (ws₀ ws₁ ws₂ ws₃ : List ℕ) where
   module _ (describes : Describes s sheet f) (limited : Limited f) (stands : Stands s sheet ws₁) (size : LEAST ≤ length ws₀)
-      (ends : take SEEN ws₁ ≡ take SEEN (sets (clearW ws₀ 0 SEEN) END (map (λ (i : Identifier). i .end) (s .identifiers)))) where
+      (ends : take SEEN ws₁ ≡ take SEEN (sets (clearedW ws₀) END (map (λ (i : Identifier). i .end) (s .identifiers)))) where
     module _ (w : Whole s ws₁ ws₂ b) (l : LaysOut ws₂ b ws₃) where
-      low-kept : take SEEN ws₃ ≡ take SEEN (sets (clearW ws₀ 0 SEEN) END (map (λ (i : Identifier). i .end) (s .identifiers)))
+      low-kept : take SEEN ws₃ ≡ take SEEN (sets (clearedW ws₀) END (map (λ (i : Identifier). i .end) (s .identifiers)))
       low-kept = take-less SEEN FBOUND ws₃ ws₂ (omega arith) (l .low) ∙ w .low ∙ ends
 
       few-ids : length (s .identifiers) ≤ 512
@@ -117,7 +162,7 @@ module _ (s : Sheet) (sheet : List ℕ) (d : Position) (is : sheetReader sheet 0
         stands = stands-kept s sheet (drop-more QUEUE FUNCTIONS ws₃ ws₂ (omega arith) (l .high) ∙ w .high) (l .same ∙ w .same) stands;
         indexed = l .indexed;
         state = state-new ws₃ (build s .graph) (sheetEnds (s .identifiers)) (l .graph ∙ ap (λ (x : Built). x .graph) (w .built))
-            (no-record ws₀ (s .identifiers) few-ids size ws₃ low-kept) (ends-stand ws₀ (s .identifiers) few-ids size ws₃ low-kept);
+            (bare ws₀ (s .identifiers) few-ids size ws₃ low-kept) (ends-stand ws₀ (s .identifiers) few-ids size ws₃ low-kept);
         mutations = mutations-are;
         renders = l .renders ∙ ap (λ (x : Built). x .renders) (w .built);
         index = index-is;
