@@ -5,7 +5,7 @@ pub mod Positions
 pub mod Standing
 pub mod Copying
 pub mod Passing
-pub mod Nth
+pub mod Identifiers
 pub mod Blocks
 pub mod Sections
 pub mod KindWords

@@ -68,7 +68,7 @@ module _ {A B : Type 0} where
 abbrev one : ℕ → List ℕ
 one w = w ∷ []
 
-word-is : (ws : List ℕ) (c : Position) (w : ℕ) (d : Position) → word ws c ≡ got w d → getD ws c 0 ≡ w
+pub word-is : (ws : List ℕ) (c : Position) (w : ℕ) (d : Position) → word ws c ≡ got w d → getD ws c 0 ≡ w
 unfolding word
 word-is ws c w d e = go (ltb c (length ws)) e
   where

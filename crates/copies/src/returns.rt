@@ -12,33 +12,26 @@ use hir::AliasingEffect;
 use hir::Cursor;
 use hir::EffectKind;
 use hir::IdentifierId;
-use hir::IdentifierStep;
 use hir::IdentifierType;
 use hir::Place;
 use hir::ValueKind;
 use hir::ValueReason;
+use hir::parts::type_of;
 
-// The type of an identifier, `c` being where the first one stands.
+// The type of an identifier, `c` being where the first one stands: the last of its three words.
 pub fn type_at(sheet: &[u32], c: Cursor, identifier: IdentifierId) -> IdentifierType
     ensures { λ r. ⌜ TypeAt (now (sheet .entry)) (c .at) (identifier .0) (typeSays r) ⌝ }
 {
-    let mut left = identifier.0;
-    let mut next = c;
-    while 0 < left {
-        match next.identifier(sheet) {
-            IdentifierStep::Got(_, d) => {
-                next = d;
-            }
-            IdentifierStep::Refused(_) => {
-                return IdentifierType::Other;
-            }
-        }
-        left -= 1;
+    let at = c.at;
+    let word = 3 * (identifier.0 as usize) + 2;
+    let words = sheet.len();
+    if words <= at {
+        return IdentifierType::Other;
     }
-    match next.identifier(sheet) {
-        IdentifierStep::Got(i, _) => i.kind,
-        IdentifierStep::Refused(_) => IdentifierType::Other,
+    if words - at <= word {
+        return IdentifierType::Other;
     }
+    type_of(sheet[at + word])
 }
 
 // The kind of value that a type is returned as.

@@ -1,8 +1,8 @@
 -- The section of ranges.
-use Prim.Native.Nat.{ℕ, zero, suc, _+_, _-_, _*_, _≤_, _<_}
+use Prim.Native.Nat.{ℕ, zero, suc, _+_, _*_, _≤_, _<_}
 use native.Mathlib.Omega.{arith}
-use mathlib.Core.Path.{_≡_, refl, sym, ap, subst, _∙_}
-use mathlib.Core.List.{List, [], _∷_, _++_}
+use mathlib.Core.Path.{_≡_, refl, sym, ap, _∙_}
+use mathlib.Core.List.{List, [], _∷_}
 use lib.ListN.{length, getD, drop, take}
 use lib.Seq.{slice, drop-cons, length-slice, length-take-le, getD-take}
 use Rattle.model.specs.Lists.{gather}
@@ -12,14 +12,15 @@ use Rattle.model.specs.Sections.{identifier}
 use Rattle.model.specs.Answer.{Range, rangesOf, rangeWords, section}
 use Rattle.model.proofs.Got.{times-step, times-done}
 use Rattle.rows.specs.Layout.{END, SEEN}
+use Rattle.rows.specs.Graph.{tab}
 use Rattle.rows.proofs.Parts.{slice-at}
+use Rattle.rows.proofs.Tables.{tab-drop, tab-end}
 use Rattle.aliasing.specs.State.{nodesOf, endsOf}
 use Rattle.writing.specs.Wrote.{Wrote}
-use Rattle.copies.specs.Copies.{Copies}
 use Rattle.writing.proofs.Writing.{wrote-then, wrote-as}
-use Rattle.copies.proofs.Loops.{Leaves, leaves-all, leaves-as}
-use Rattle.copies.proofs.Copying.{Copying, copying-turn, copying-end}
-use Rattle.summary.specs.Ranges.{rangeTo, Ranges}
+use Rattle.copies.proofs.Loops.{Leaves, leaves-all, table-turn, table-end}
+use Rattle.copies.proofs.Identifiers.{identifier-is, identifiers-are}
+use Rattle.summary.specs.Ranges.{Ranges}
 
 -- ---- the ends in the words
 pub ends-length : (ws : List ℕ) → 16384 ≤ length ws → length (endsOf (nodesOf ws)) ≡ 512
@@ -47,49 +48,67 @@ ranges-length n sheet ws b h c ids d g =
     let k : length ids ≡ n = times-count n sheet c ids d g in
     ranges-count ids (endsOf (nodesOf ws)) (omega (arith, k, b, ends-length ws h)) ∙ k
 
--- ---- the loop: `left` of n identifiers are left
-module _ (n : ℕ) (sheet ws : List ℕ) where
-  -- the words of the last `left` ranges
-  abbrev pub leftWords : ℕ → List Identifier → List ℕ
-  leftWords left l = gather rangeWords (rangesOf l (drop (n - left) (endsOf (nodesOf ws))))
+-- ---- the ranges as they stand
+module _ (sheet : List ℕ) (c : Position) (n : ℕ) (ws : List ℕ) where
+  abbrev pub rangeAt : ℕ → Range
+  rangeAt i = record { start = getD sheet (c + 3 * i) 0; end = getD ws (END + i) 0 }
 
-  pub record Starting (c₀ : Position) (a₀ : List ℕ) (at₀ left : ℕ) (c : Position) (a : List ℕ) (at : ℕ) : Type 0 where
-    pub copies : (ids : List Identifier) (d : Position) → times n identifier sheet c₀ ≡ got ids d
-        → Copying identifier leftWords sheet (gather rangeWords (rangesOf ids (endsOf (nodesOf ws)))) d left c a₀ at₀ a at
-    pub within : left ≤ n
+  abbrev pub rangesAt : List Range
+  rangesAt = tab n rangeAt
+
+  module _ (b : n ≤ 512) (h : 16384 ≤ length ws) where
+    -- of n identifiers the last k, after i
+    ranges-from : (k i : ℕ) → i + k ≡ n → (p : Position) → p ≡ c + 3 * i → (l : List Identifier) (d : Position) → times k identifier sheet p ≡ got l d
+        → rangesOf l (drop i (endsOf (nodesOf ws))) ≡ drop i rangesAt
+    ranges-from zero i e p q l d g =
+        ap (λ (r : List Identifier). rangesOf r (drop i (endsOf (nodesOf ws)))) (times-done identifier sheet p l d g .0) ∙ sym (tab-end n rangeAt i (omega (arith, e)))
+    ranges-from (suc k) i e p q l d g =
+        let ends : List ℕ = endsOf (nodesOf ws) in
+        let s = times-step k identifier sheet p l d g in
+        let x = identifier-is sheet p (s .head) (s .next) (s .first) in
+        let start : s .head .start ≡ getD sheet (c + 3 * i) 0 = ap (λ (a : Identifier). a .start) (x .is) ∙ ap (λ (j : ℕ). getD sheet j 0) q in
+        let one : i + 1 ≡ suc i = omega arith in
+        let rest : rangesOf (s .tail) (drop (suc i) ends) ≡ drop (i + 1) rangesAt =
+        ap (λ (j : ℕ). rangesOf (s .tail) (drop j ends)) (sym one)
+        ∙ ranges-from k (i + 1) (omega (arith, e)) (s .next) (omega (arith, x .next, q)) (s .tail) d (s .rest) in
+        ap (λ (r : List Identifier). rangesOf r (drop i ends)) (s .whole)
+        ∙ ap (λ (r : List ℕ). rangesOf (s .head ∷ s .tail) r) (drop-cons ends i 0 (omega (arith, e, b, ends-length ws h)))
+        ∙ (λ j. record { start = start j; end = end-word ws i (omega (arith, e, b)) j } ∷ rest j)
+        ∙ sym (tab-drop n rangeAt i (omega (arith, e)))
+
+    ranges-are : (ids : List Identifier) (d : Position) → times n identifier sheet c ≡ got ids d → rangesOf ids (endsOf (nodesOf ws)) ≡ rangesAt
+    ranges-are ids d g = ranges-from n 0 (omega arith) c (omega arith) ids d g
+
+    -- all were written, after their number
+    pub ranges-stand : {a a₁ a₂ : List ℕ} {at at₁ at₂ : ℕ} → Wrote (n ∷ []) a at a₁ at₁ → Wrote (gather rangeWords rangesAt) a₁ at₁ a₂ at₂ → Ranges sheet c n ws a at a₂ at₂
+    ranges-stand v w ids d g =
+        let e = sym (ranges-are ids d g) in
+        let m : n ≡ length (rangesOf ids (endsOf (nodesOf ws))) = sym (ranges-length n sheet ws b h c ids d g) in
+        wrote-as (wrote-then v w) (λ j. m j ∷ gather rangeWords (e j))
+
+  -- the loop: i of them are written
+  pub record Starting (a₀ : List ℕ) (at₀ i : ℕ) (a : List ℕ) (at : ℕ) : Type 0 where
+    pub leaves : Leaves (gather rangeWords rangesAt) (gather rangeWords (drop i rangesAt)) a₀ at₀ a at
+    pub next : at ≡ at₀ + 2 * i
     pub same : length a ≡ length a₀
 
-  pub starting-start : (c : Position) (a : List ℕ) (at : ℕ) → Starting c a at n c a at
-  starting-start c a at = record {
-    copies = λ ids d g.
-        let z : n - n ≡ 0 = omega arith in
-        let ends : List ℕ = endsOf (nodesOf ws) in
-        let w : gather rangeWords (rangesOf ids ends) ≡ leftWords n ids = ap (λ (x : ℕ). gather rangeWords (rangesOf ids (drop x ends))) (sym z) in
-        record { rest = ids; reads = g; leaves = leaves-as (leaves-all (gather rangeWords (rangesOf ids ends)) a at) w };
-    within = omega arith;
-    same = refl;
-  }
+  pub starting-start : (a : List ℕ) (at : ℕ) → Starting a at 0 a at
+  starting-start a at = record { leaves = leaves-all (gather rangeWords rangesAt) a at; next = omega arith; same = refl }
 
-  module _ (b : n ≤ 512) (h : 16384 ≤ length ws) {c₀ : Position} {a₀ : List ℕ} {at₀ left : ℕ} {c : Position} {a : List ℕ} {at : ℕ} (v : Starting c₀ a₀ at₀ left c a at) where
-    pub starting-turn : 0 < left → {a′ : List ℕ} {at′ c′ : ℕ} → Copies (identifier sheet c) (rangeTo (getD ws (END + (n - left)) 0)) 2 a at a′ at′ c′ → length a′ ≡ length a → Starting c₀ a₀ at₀ (left - 1) c′ a′ at′
-    starting-turn z p e = record {
-      copies = λ ids d g. copying-turn identifier leftWords (v .copies ids d g) z (rangeTo (getD ws (END + (n - left)) 0)) step p;
-      within = omega (arith, v .within);
-      same = e ∙ v .same;
+  module _ {a₀ : List ℕ} {at₀ i : ℕ} {a : List ℕ} {at : ℕ} (v : Starting a₀ at₀ i a at) where
+    pub starting-turn : i < n → {a₁ a₂ : List ℕ} {at₁ at₂ : ℕ} → Wrote (getD sheet (c + 3 * i) 0 ∷ []) a at a₁ at₁ → Wrote (getD ws (END + i) 0 ∷ []) a₁ at₁ a₂ at₂
+        → length a₁ ≡ length a → length a₂ ≡ length a₁ → Starting a₀ at₀ (i + 1) a₂ at₂
+    starting-turn h p q e f = record {
+      leaves = table-turn rangeWords n rangeAt i (v .leaves) h (wrote-then p q);
+      next = omega (arith, v .next, p .next, q .next);
+      same = f ∙ e ∙ v .same;
     }
-      where
-        step : (x : Identifier) (l : List Identifier) → leftWords left (x ∷ l) ≡ rangeTo (getD ws (END + (n - left)) 0) x ++ leftWords (left - 1) l
-        step x l =
-            let ends : List ℕ = endsOf (nodesOf ws) in
-            let i : n - left < length ends = omega (arith, z, v .within, b, ends-length ws h) in
-            let q : suc (n - left) ≡ n - (left - 1) = omega (arith, z, v .within) in
-            ap (λ (r : List ℕ). gather rangeWords (rangesOf (x ∷ l) r)) (drop-cons ends (n - left) 0 i)
-            ∙ ap (λ (y : ℕ). rangeTo y x ++ gather rangeWords (rangesOf l (drop (suc (n - left)) ends))) (end-word ws (n - left) (omega (arith, i, ends-length ws h)))
-            ∙ ap (λ (y : ℕ). rangeTo (getD ws (END + (n - left)) 0) x ++ gather rangeWords (rangesOf l (drop y ends))) q
 
-    -- their number was written before
-    pub starting-end : left ≤ 0 → {a₁ : List ℕ} {at₁ : ℕ} → Wrote (n ∷ []) a₁ at₁ a₀ at₀ → Ranges sheet c₀ n ws a₁ at₁ a at
-    starting-end z w ids d g =
-        let ends : List ℕ = endsOf (nodesOf ws) in
-        let m : n ≡ length (rangesOf ids ends) = sym (ranges-length n sheet ws b h c₀ ids d g) in
-        wrote-as (wrote-then w (copying-end identifier leftWords (v .copies ids d g) z refl .0)) (ap (λ (x : ℕ). x ∷ gather rangeWords (rangesOf ids ends)) m)
+    pub starting-end : n ≤ 512 → 16384 ≤ length ws → n ≤ i → {a₁ : List ℕ} {at₁ : ℕ} → Wrote (n ∷ []) a₁ at₁ a₀ at₀ → Ranges sheet c n ws a₁ at₁ a at
+    starting-end b h z w = ranges-stand b h w (table-end rangeWords n rangeAt i (v .leaves) z)
+
+-- the sheet ends before the last of them: then there is none, or nothing is claimed
+pub no-ranges : (sheet : List ℕ) (c : Position) (n : ℕ) (ws : List ℕ) → length sheet < c + 3 * n → {a a′ : List ℕ} {at at′ : ℕ} → Wrote (n ∷ []) a at a′ at′ → Ranges sheet c n ws a at a′ at′
+no-ranges sheet c zero ws e v ids d g =
+    wrote-as v (ap (λ (r : List Identifier). section rangeWords (rangesOf r (endsOf (nodesOf ws)))) (sym (times-done identifier sheet c ids d g .0)))
+no-ranges sheet c (suc k) ws e v ids d g = absurd (omega (arith, e, identifiers-are (suc k) sheet c ids d g k (omega arith) .1))

@@ -2,16 +2,12 @@
 use Prim.Native.Nat.{ℕ}
 use mathlib.Core.List.{List}
 use mathlib.Core.Path.{_≡_}
-use Rattle.model.specs.Sheet.{Identifier, EvaluationOrder}
+use Rattle.model.specs.Sheet.{Identifier}
 use Rattle.model.specs.Reading.{Position, Result, got, times}
 use Rattle.model.specs.Sections.{identifier}
 use Rattle.model.specs.Answer.{rangesOf, rangeWords, section}
 use Rattle.aliasing.specs.State.{nodesOf, endsOf}
 use Rattle.writing.specs.Wrote.{Wrote}
-
--- the range of an identifier with this end, in words
-abbrev pub rangeTo : EvaluationOrder → Identifier → List ℕ
-rangeTo end i = rangeWords (record { start = i .start; end = end })
 
 -- the ranges of n identifiers that stand from c on
 abbrev pub Ranges : List ℕ → Position → ℕ → List ℕ → List ℕ → ℕ → List ℕ → ℕ → Type 0

@@ -2,34 +2,11 @@
 ghost use mathlib.Core.Path.{_≡_};
 ghost use Prim.Native.Nat.{ℕ, _+_, _*_, _≤_, _<_};
 ghost use lib.ListN.{length};
-ghost use Rattle.model.specs.Sections.{identifier};
-ghost use Rattle.copies.specs.Copies.{Copies};
 ghost use Rattle.writing.specs.Wrote.{farthest};
-ghost use Rattle.summary.specs.Ranges.{rangeTo, Ranges};
-use copies::Copied;
+ghost use Rattle.summary.specs.Ranges.{Ranges};
 use hir::Cursor;
-use hir::IdentifierStep;
 use rows::END;
 use writing::put;
-
-// The range of the identifier here, with another end.
-fn put_range(sheet: &[u32], c: Cursor, end: u32, answer: &mut [u32], at: usize) -> Copied
-    requires { ⌜ at + 2 ≤ farthest ⌝ }
-    ensures { λ r. ⌜ Copies (identifier (now (sheet .entry)) (c .at)) (rangeTo end) 2 (now (answer .entry)) at (now (answer .exit)) (r .at) (r .next .at) ⌝ }
-{
-    match c.identifier(sheet) {
-        IdentifierStep::Got(i, next) => {
-            let range = i.mutable_range;
-            let start = range.start;
-            let to = put(answer, at, start.0);
-            Copied {
-                at: put(answer, to, end),
-                next,
-            }
-        }
-        IdentifierStep::Refused(_) => Copied { at, next: c },
-    }
-}
 
 // The ranges of n identifiers, which stand from c on, with the ends in the workspace.
 pub fn put_ranges(
@@ -44,15 +21,22 @@ pub fn put_ranges(
     requires { ⌜ at + 1025 ≤ farthest ⌝ }
     ensures { λ r. ⌜ Ranges (now (sheet .entry)) (c .at) n (now (ws .entry)) (now (answer .entry)) at (now (answer .exit)) r ⌝ }
 {
-    let mut to = put(answer, at, n);
-    let mut next = c;
-    let mut left = n;
-    while 0 < left {
-        let i = (n - left) as usize;
-        let r = put_range(sheet, next, ws[END + i], answer, to);
-        to = r.at;
-        next = r.next;
-        left -= 1;
+    let first = put(answer, at, n);
+    let from = c.at;
+    let words = sheet.len();
+    if words < from {
+        return first;
+    }
+    if words - from < (3 * n) as usize {
+        return first;
+    }
+    let count = n as usize;
+    let mut to = first;
+    let mut i = 0;
+    while i < count {
+        let next = put(answer, to, sheet[from + 3 * i]);
+        to = put(answer, next, ws[END + i]);
+        i += 1;
     }
     to
 }

@@ -1,81 +1,106 @@
-use Rattle.summary.proofs.Starts.{Starting, starting-start, starting-turn, starting-end}
+use Rattle.summary.proofs.Starts.{Starting, starting-start, starting-turn, starting-end, no-ranges}
 use native.Mathlib.Omega.{arith}
 use mathlib.Core.Path.{_∙_}
-use Prim.Native.Nat.{_+_, _*_, _≤_}
+use Prim.Native.Nat.{_-_}
 use Rattle.summary.proofs.ranges.put_ranges.Statement.{statement}
 use Rattle.summary.proofs.ranges.put_ranges.Tie as tie
 use Rattle.summary.proofs.ranges.put_ranges.Reads as reads
 use Rattle.summary.proofs.ranges.put_ranges.Lts as lts
-use Rattle.summary.proofs.ranges.put_range.Reads as put-range-reads
 use Rattle.writing.proofs.put.Reads as put-reads
 
 abbrev Inv-loop : tie.InvT-loop
-Inv-loop sheet n ws answer₀ at to₀ next₀ left₀ answer to next left = Starting n sheet ws (next₀ .at) answer₀ to₀ left (next .at) answer to × (to + 2 * left ≤ at + 1025)
+Inv-loop sheet n ws answer₀ at first from words count to₀ i₀ answer to i = Starting sheet from n ws answer₀ to₀ i answer to
 
 abbrev μ-loop : tie.MeasureT-loop
-μ-loop sheet n ws answer₀ at to₀ next₀ left₀ answer to next left = left
+μ-loop sheet n ws answer₀ at first from words count to₀ i₀ answer to i = n - i
 
--- src/ranges.rt:47:9
+-- src/ranges.rt:24:9
 put-requires : tie.Need-put-requires Inv-loop μ-loop
 put-requires c κs = omega arith
 
--- src/ranges.rt:50:5
+-- src/ranges.rt:28:9
+same-length : tie.Need-same-length Inv-loop μ-loop
+same-length c = c .before .before .before .put .kept .0
+
+-- src/ranges.rt:28:9
+returns : tie.Need-returns Inv-loop μ-loop
+returns c = let a = c .before .before .before .before .before .before .before .before .args in no-ranges (a .sheet .now) (a .c .at) (a .n) (a .ws .now) (omega arith) (c .before .before .before .put .ensures)
+
+-- src/ranges.rt:30:24
+mul-if2 : tie.Need-mul-if2 Inv-loop μ-loop
+mul-if2 c = omega arith
+
+-- src/ranges.rt:30:23
+cast-if2 : tie.Need-cast-if2 Inv-loop μ-loop
+cast-if2 c = omega arith
+
+-- src/ranges.rt:31:9
+same-length-2 : tie.Need-same-length-2 Inv-loop μ-loop
+same-length-2 c = c .before .before .before .before .put .kept .0
+
+-- src/ranges.rt:31:9
+returns-2 : tie.Need-returns-2 Inv-loop μ-loop
+returns-2 c = let a = c .before .before .before .before .before .before .before .before .before .args in no-ranges (a .sheet .now) (a .c .at) (a .n) (a .ws .now) (omega arith) (c .before .before .before .before .put .ensures)
+
+-- src/ranges.rt:36:5
 loop-holds : tie.Need-loop-holds Inv-loop μ-loop
-loop-holds c = (starting-start _ _ _ _ _ _, omega (arith, c .before .before .put .ensures .next))
+loop-holds c = starting-start _ _ _ _ _ _
 
--- src/ranges.rt:51:18
-sub-i : tie.Need-sub-i Inv-loop μ-loop
-sub-i c = omega arith
+-- src/ranges.rt:37:49
+mul-put : tie.Need-mul-put Inv-loop μ-loop
+mul-put c = omega arith
 
--- src/ranges.rt:51:17
-cast-i : tie.Need-cast-i Inv-loop μ-loop
-cast-i c = omega arith
+-- src/ranges.rt:37:42
+add-put : tie.Need-add-put Inv-loop μ-loop
+add-put c = omega arith
 
--- src/ranges.rt:52:43
-add-put-range : tie.Need-add-put-range Inv-loop μ-loop
-add-put-range c = omega arith
+-- src/ranges.rt:37:36
+mul-put-2 : tie.Need-mul-put-2 Inv-loop μ-loop
+mul-put-2 c = omega arith
 
--- src/ranges.rt:52:40
-mul-put-range : tie.Need-mul-put-range Inv-loop μ-loop
-mul-put-range c = omega arith
+-- src/ranges.rt:37:36
+shared-slice-read-put : tie.Need-shared-slice-read-put Inv-loop μ-loop
+shared-slice-read-put c = omega arith
 
--- src/ranges.rt:52:40
-shared-slice-read-put-range : tie.Need-shared-slice-read-put-range Inv-loop μ-loop
-shared-slice-read-put-range c = omega arith
+-- src/ranges.rt:37:13
+put-requires-2 : tie.Need-put-requires-2 Inv-loop μ-loop
+put-requires-2 c κs = omega arith
 
--- src/ranges.rt:52:13
-put-range-requires : tie.Need-put-range-requires Inv-loop μ-loop
-put-range-requires c κs = omega arith
+-- src/ranges.rt:38:35
+add-put-2 : tie.Need-add-put-2 Inv-loop μ-loop
+add-put-2 c = omega arith
 
--- src/ranges.rt:55:9
-sub-left : tie.Need-sub-left Inv-loop μ-loop
-sub-left c = omega arith
+-- src/ranges.rt:38:32
+mul-put-3 : tie.Need-mul-put-3 Inv-loop μ-loop
+mul-put-3 c = omega arith
 
--- src/ranges.rt:50:5
+-- src/ranges.rt:38:32
+shared-slice-read-put-2 : tie.Need-shared-slice-read-put-2 Inv-loop μ-loop
+shared-slice-read-put-2 c = omega arith
+
+-- src/ranges.rt:38:9
+put-requires-3 : tie.Need-put-requires-3 Inv-loop μ-loop
+put-requires-3 c κs = omega arith
+
+-- src/ranges.rt:39:9
+add-i : tie.Need-add-i Inv-loop μ-loop
+add-i c = omega arith
+
+-- src/ranges.rt:36:5
 loop-less : tie.Need-loop-less Inv-loop μ-loop
 loop-less c = omega arith
 
--- src/ranges.rt:50:5
+-- src/ranges.rt:36:5
 loop-again : tie.Need-loop-again Inv-loop μ-loop
-loop-again c =
-    let b3 = c .before .before .before in
-    let b6 = b3 .before .before .before in
-    let b7 = b6 .before in
-    let b15 = b7 .before .before .before .before .before .before .before .before in
-    (starting-turn _ _ _ (b15 .pre .0 .0) (b15 .pre .0 .1) (b7 .loop .inv .0) (b6 .loop-test .taken) (b3 .put-range .ensures) (b3 .put-range .kept .1 .1 .1 .0), omega (arith, b3 .put-range .ensures .few))
+loop-again c = starting-turn _ _ _ _ (c .before .before .before .before .before .before .before .before .before .before .before .loop .inv) (c .before .before .before .before .before .before .before .before .before .before .loop-test .taken) (c .before .before .before .before .before .before .before .put2 .ensures) (c .before .before .put3 .ensures) (c .before .before .before .before .before .before .before .put2 .kept .0) (c .before .before .put3 .kept .0)
 
--- src/ranges.rt:35:1
-same-length : tie.Need-same-length Inv-loop μ-loop
-same-length c =
-    let b4 = c .before .before .before .before in
-    c .before .loop .inv .0 .same ∙ b4 .put .kept .0
+-- src/ranges.rt:12:1
+same-length-3 : tie.Need-same-length-3 Inv-loop μ-loop
+same-length-3 c = c .before .loop .inv .same ∙ c .before .before .before .before .before .before .put .kept .0
 
--- src/ranges.rt:35:1
-returns : tie.Need-returns Inv-loop μ-loop
-returns c =
-    let b4 = c .before .before .before .before in
-    let b9 = b4 .before .before .before .before .before in
-    starting-end _ _ _ (b9 .pre .0 .0) (b9 .pre .0 .1) (c .before .loop .inv .0) (c .loop-test .left) (b4 .put .ensures)
+-- src/ranges.rt:12:1
+returns-3 : tie.Need-returns-3 Inv-loop μ-loop
+returns-3 c = starting-end _ _ _ _ (c .before .loop .inv) (c .before .before .before .before .before .before .before .before .before .before .before .pre .0 .0) (c .before .before .before .before .before .before .before .before .before .before .before .pre .0 .1) (c .loop-test .left) (c .before .before .before .before .before .before .put .ensures)
 
 pub put-ranges-spec : {M : Type 1} → statement M
 put-ranges-spec =
@@ -84,15 +109,24 @@ put-ranges-spec =
     Inv-loop
     μ-loop
     put-requires
+    same-length
+    returns
+    mul-if2
+    cast-if2
+    same-length-2
+    returns-2
     loop-holds
-    sub-i
-    cast-i
-    add-put-range
-    mul-put-range
-    shared-slice-read-put-range
-    put-range-requires
-    sub-left
+    mul-put
+    add-put
+    mul-put-2
+    shared-slice-read-put
+    put-requires-2
+    add-put-2
+    mul-put-3
+    shared-slice-read-put-2
+    put-requires-3
+    add-i
     loop-less
     loop-again
-    same-length
-    returns)
+    same-length-3
+    returns-3)
