@@ -98,6 +98,13 @@ pub fn phi(operands: usize) -> Sheet {
     sheet(identifiers, blocks)
 }
 
+/// The same with the operands' predecessors in falling order, so that each is searched among all before.
+pub fn falling_phi(operands: usize) -> Sheet {
+    let mut sheet = phi(operands);
+    sheet.blocks[1].phis[0].operands.reverse();
+    sheet
+}
+
 /// So many phi operands in phis of eight, all of which wait for the last of 250 blocks.
 pub fn waiting(operands: usize) -> Sheet {
     let phis = (0..operands / 8).map(|p| Phi {
@@ -172,8 +179,9 @@ pub fn worst() -> Vec<(String, Sheet)> {
         .into_iter()
         .map(|(name, sheet)| (format!("{name}, 512 mutations"), sheet))
         .collect();
-    let more: [(&str, Sheet); 10] = [
+    let more: [(&str, Sheet); 11] = [
         ("one phi with 1,024 operands", phi(1_024)),
+        ("one phi with 1,024 operands, predecessors falling", falling_phi(1_024)),
         ("1,024 operands that wait, 248 blocks", waiting(1_024)),
         ("512 values created again, 512 relations held", recreated(512)),
         ("128 values created again, 896 relations held", recreated(128)),
