@@ -1,4 +1,4 @@
-//! Calls of one kind of sheet only, for a profiler: `profile [small|generated|effects|instructions] [CALLS]`.
+//! Calls of one kind of sheet only, for a profiler: `profile [small|generated] [CALLS]`.
 
 use bench::shapes;
 use bench::sides::Ours;
