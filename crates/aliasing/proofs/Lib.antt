@@ -2,6 +2,7 @@ pub mod Writes
 pub mod Records
 pub mod Hands
 pub mod Parts
+pub mod Levels
 pub mod Potential
 pub mod Cases
 pub mod Steps

@@ -14,20 +14,23 @@ use Rattle.model.specs.State.{State, Mode, real}
 use Rattle.model.specs.Walks.{Walk, mutate}
 use Rattle.model.specs.Runs.{walksOf, after}
 use Rattle.rows.specs.Rows.{rowsOf, Good, Indexed, Kept}
+use Rattle.rows.specs.Sort.{clearW}
 use Rattle.rows.specs.Graph.{tab}
 use Rattle.rows.specs.Pending.{kindOf, mutationOf, mutationAt, mutationsOf}
 use Rattle.rows.proofs.Parts.{kept-none, kept-set, drop-more, drop-word}
 use Rattle.rows.proofs.Tables.{tab-same}
-use Rattle.rows.proofs.Pending.{mutations-next, mutations-end}
+use Rattle.rows.proofs.Pending.{mutations-next, mutations-end, mutations-kept}
 use Rattle.aliasing.specs.declared.MutationKind.{MutationKind}
 use Rattle.aliasing.specs.declared.Mutation.{Mutation as CodeMutation}
 use Rattle.aliasing.specs.Says.{kindSays, modeOf, modeSays, mutationSays}
-use Rattle.aliasing.specs.State.{nodesOf, recordsOf, stateOf, bare, Handing}
+use Rattle.aliasing.specs.State.{nodesOf, recordsOf, NoneAbove, stateOf, bare, Handing}
 use Rattle.aliasing.specs.Walks.{Mutated}
 use Rattle.aliasing.specs.Pending.{Pending, Made, takenOf, Processed}
-use Rattle.aliasing.proofs.Parts.{slice-below, nodes-below, rows-below}
+use Rattle.aliasing.proofs.Parts.{slice-below, nodes-below, seen-below, rows-below}
 use Rattle.aliasing.proofs.Hands.{bare-top, records-length}
 use Rattle.aliasing.proofs.Steps.{state-same}
+use Rattle.aliasing.proofs.Levels.{above-as, above-more}
+use Rattle.aliasing.proofs.Begin.{Unmarked, unmarked, unmarked-marks}
 
 -- ---- one mutation by its words
 pub kind-definite : (b : ℕ) → (b ≡ 0 → ⊥) → definite ≡ kindOf b
@@ -120,6 +123,7 @@ pub record Processing (errors : Bool) (ws₀ : List ℕ) (count : ℕ) (ws : Lis
   pub mid : i ≤ count
   pub indexed : Indexed ws
   pub handing : Handing ws hand
+  pub marked : NoneAbove (2 * i) ws
   pub rest : drop (13827 + 3 * i) ws ≡ drop (13827 + 3 * i) ws₀
   pub state : after (real errors) (drop i (mutationsOf ws₀ count)) (stateOf ws hand) ≡ after (real errors) (mutationsOf ws₀ count) (stateOf ws₀ 13315)
   pub counts : takenOf ws i ++ takens (walksOf (real errors) (drop i (mutationsOf ws₀ count)) (stateOf ws hand)) ≡ takens (walksOf (real errors) (mutationsOf ws₀ count) (stateOf ws₀ 13315))
@@ -130,12 +134,13 @@ pub record Processing (errors : Bool) (ws₀ : List ℕ) (count : ℕ) (ws : Lis
 pub handing-start : (ws : List ℕ) → Handing ws 13315
 handing-start ws = record { low = omega arith; room = omega (arith, bare-top (recordsOf (nodesOf ws)), records-length (nodesOf ws)) }
 
-pub process-start : (errors : Bool) (ws : List ℕ) (count : ℕ) → Indexed ws → Pending ws count → Processing errors ws count ws 0 13315
-process-start errors ws count indexed pending = record {
+pub process-start : (errors : Bool) (ws : List ℕ) (count : ℕ) → Indexed ws → Pending ws count → NoneAbove 0 ws → Processing errors ws count ws 0 13315
+process-start errors ws count indexed pending marked = record {
   pending = pending;
   mid = omega arith;
   indexed = indexed;
   handing = handing-start ws;
+  marked = above-more (omega arith) marked;
   rest = refl;
   state = refl;
   counts = ap (λ (l : List ℕ). l ++ takens (walksOf (real errors) (mutationsOf ws count) (stateOf ws 13315))) (taken-none ws);
@@ -158,7 +163,7 @@ module _ (errors : Bool) (ws₀ : List ℕ) (count : ℕ) (ws : List ℕ) (i han
       rw (a, word-is 1, word-is 2)
 
   module _ (m : CodeMutation) (is : Made (getD ws (13827 + 3 * i) 0) (getD ws (13827 + 3 * i + 1) 0) (getD ws (13827 + 3 * i + 2) 0) errors m)
-      (ws₁ : List ℕ) (c h : ℕ) (w : Mutated m ws hand ws₁ c h) where
+      (ws₁ : List ℕ) (c h : ℕ) (w : Mutated m ws hand ws₁ c h) (marks : NoneAbove (2 * i + 2) ws₁) where
     walk-is : mutate (modeSays m) (mutationSays m) (stateOf ws hand) ≡ mutate (real errors) (mutationAt ws₀ i) (stateOf ws hand)
     walk-is = ap (λ (k : Mode). mutate k (mutationSays m) (stateOf ws hand)) (is .how) ∙ ap (λ (n : Mutation). mutate (real errors) n (stateOf ws hand)) (is .is ∙ mutation-is)
 
@@ -186,6 +191,7 @@ module _ (errors : Bool) (ws₀ : List ℕ) (count : ℕ) (ws : List ℕ) (i han
         good = subst Good (sym rows-next) (p .indexed .good);
       };
       handing = handing-word ws₁ (13827 + 3 * i + 2) c (omega arith) h (w .handing);
+      marked = above-more (omega arith) (above-as (seen-below (kept-word ws₁ (13827 + 3 * i + 2) c (omega arith)) (omega arith)) marks);
       rest = drop-set-lt (13827 + 3 * (i + 1)) ws₁ (13827 + 3 * i + 2) c (omega arith)
           ∙ drop-more 13827 (13827 + 3 * (i + 1)) ws₁ ws (omega arith) (w .aside .behind) ∙ drop-more (13827 + 3 * i) (13827 + 3 * (i + 1)) ws ws₀ (omega arith) (p .rest);
       state = ap (after (real errors) (drop (i + 1) (mutationsOf ws₀ count))) state-next
@@ -219,3 +225,30 @@ process-end errors ws₀ count ws i hand p done =
       same = p .same;
       handing = p .handing;
     }
+
+-- ---- the same from the words before the marks were cleared
+module _ (ws : List ℕ) (indexed : Indexed ws) (l : List ℕ) (is : l ≡ clearW ws 3584 512) (count : ℕ) (pending : Pending ws count) where
+  u : Unmarked ws l
+  u = unmarked ws indexed l is
+
+  mutations-are : mutationsOf l count ≡ mutationsOf ws count
+  mutations-are = mutations-kept ws l count (u .aside .behind)
+
+  pub cleared-start : (errors : Bool) → Processing errors l count l 0 13315
+  cleared-start errors =
+      process-start errors l count (u .indexed)
+      (record { few = pending .few; orders = subst (Every (λ (m : Mutation). m .order ≤ 999999)) (sym mutations-are) (pending .orders) }) (unmarked-marks u)
+
+  pub cleared-end : (errors : Bool) (ws′ : List ℕ) (hand : ℕ) → Processed errors l count ws′ hand → Processed errors ws count ws′ hand
+  cleared-end errors ws′ hand p = record {
+    state = p .state ∙ ap (λ (ms : List Mutation). after (real errors) ms (stateOf l 13315)) mutations-are ∙ ap (after (real errors) (mutationsOf ws count)) start-is;
+    counts = p .counts ∙ ap (λ (ms : List Mutation). takens (walksOf (real errors) ms (stateOf l 13315))) mutations-are
+        ∙ ap (λ (s : State). takens (walksOf (real errors) (mutationsOf ws count) s)) start-is;
+    graph = p .graph ∙ u .aside .graph;
+    behind = p .behind ∙ drop-more 13827 15363 l ws (omega arith) (u .aside .behind);
+    same = p .same ∙ u .aside .same;
+    handing = p .handing;
+  }
+    where
+      start-is : stateOf l 13315 ≡ stateOf ws 13315
+      start-is = u .state 13315 (omega arith)

@@ -1,5 +1,5 @@
 -- The first entry of a mutation, and the whole walk as the definition's.
-use Prim.Native.Nat.{ℕ, _+_, _-_, _<_}
+use Prim.Native.Nat.{ℕ, _+_, _-_, _≤_, _<_}
 use native.Mathlib.Omega.{arith}
 use native.Mathlib.Nat.{add-comm}
 use mathlib.Core.Bool.{Bool, true, false}
@@ -14,8 +14,7 @@ use Rattle.model.specs.State.{State, Mode}
 use Rattle.model.specs.Walks.{Item, Walk, run, startItem, start, walkOf, mutate}
 use Rattle.model.proofs.Fuel.{run-add, run-rest}
 use Rattle.model.proofs.Potential.{walk-ends, walk-enough}
-use Rattle.rows.specs.Rows.{Indexed}
-use Rattle.rows.specs.Sort.{clearW}
+use Rattle.rows.specs.Rows.{rowsOf, Indexed}
 use Rattle.rows.specs.Pending.{kindOf}
 use Rattle.pushes.specs.Pushes.{entryW}
 use Rattle.pushes.specs.Items.{itemOf, queueOf}
@@ -24,10 +23,13 @@ use Rattle.aliasing.specs.declared.MutationKind.{MutationKind}
 use Rattle.aliasing.specs.declared.MutationKind.the-variants.{Conditional, Definite}
 use Rattle.aliasing.specs.declared.Mutation.{Mutation as CodeMutation}
 use Rattle.aliasing.specs.Says.{bit, kindBit, kindSays, modeSays, mutationSays}
-use Rattle.aliasing.specs.State.{recordsOf, stateOf, bare, Handing}
+use Rattle.aliasing.specs.State.{seenOf, levels, NoneAbove, recordsOf, stateOf, bare, Handing}
+use Rattle.aliasing.specs.Potential.{phi}
 use Rattle.aliasing.specs.Walks.{Shows, Ready, Callable, Walked, Mutated}
 use Rattle.aliasing.proofs.Walks.{aside-then}
-use Rattle.aliasing.proofs.Begin.{Begun, begun}
+use Rattle.aliasing.proofs.Levels.{levels-none, above-as, above-more}
+use Rattle.aliasing.proofs.Potential.{phi-bound}
+use Rattle.aliasing.proofs.Begin.{levels-long, Entered, entered}
 
 -- ---- however many steps, a walk at rest is the whole walk
 pub at-rest : (how : Mode) (m : Mutation) (s : State) (n : ℕ) → run how m n (start m s) .queue ≡ [] → run how m n (start m s) ≡ mutate how m s
@@ -66,31 +68,39 @@ start-item m e h is =
     ap itemOf is ∙ item-entry (m .start .0) (bit (m .transitive)) 0 (kindBit (m .kind)) h (bit-below (m .transitive)) (omega arith) (kind-below (m .kind))
     ∙ rw (bit-is (m .transitive), kind-is (m .kind))
 
-module _ (ws : List ℕ) (hand : ℕ) (m : CodeMutation) (indexed : Indexed ws) (handing : Handing ws hand) (callable : Callable m)
-    (l : List ℕ) (is : l ≡ clearW ws 3584 512) (e : ℕ) (ent : e ≡ entryW (m .start .0) (bit (m .transitive)) 0 (kindBit (m .kind))) where
+module _ (ws : List ℕ) (hand : ℕ) (m : CodeMutation) (base : ℕ) (indexed : Indexed ws) (handing : Handing ws hand) (callable : Callable m)
+    (new : (base ≤ 4096) × NoneAbove base ws) (e : ℕ) (ent : e ≡ entryW (m .start .0) (bit (m .transitive)) 0 (kindBit (m .kind))) where
   abbrev first-words : List ℕ
-  first-words = set l 9218 e
+  first-words = set ws 9218 e
 
-  b : Begun ws e first-words
-  b = begun ws indexed l is e
+  b : Entered ws e first-words
+  b = entered ws indexed e
+
+  start-marked : NoneAbove base first-words
+  start-marked = above-as (b .marks) (new .1)
+
+  first-fits : 9219 + phi (levels base (seenOf first-words)) (rowsOf first-words) 512 ≤ 13315
+  first-fits = omega (arith, phi-bound (levels base (seenOf first-words)) (rowsOf first-words) (b .good))
 
   queue-is : queueOf (slice 9218 9219 first-words) ≡ startItem (mutationSays m) ∷ []
   unfolding queueOf
   queue-is = ap queueOf (b .entry) ∙ ap (λ (i : Item). i ∷ []) (start-item m e (callable .start) ent)
 
-  shows-start : Shows first-words 9219 hand (start (mutationSays m) (stateOf ws hand))
-  shows-start = record { queue = queue-is; seen = b .levels hand; state = b .state hand (handing .low) }
+  shows-start : Shows base first-words 9219 hand (start (mutationSays m) (stateOf ws hand))
+  shows-start = record { queue = queue-is; seen = levels-none base first-words start-marked ∙ levels-long ws hand; state = b .state hand (handing .low) }
 
-  pub start-ready : Ready first-words 9219 hand
+  pub start-ready : Ready base first-words 9219 hand
   start-ready = record {
     size = b .size;
     low = omega arith;
     good = b .good;
-    fits = b .fits;
+    fits = first-fits;
+    few = new .0;
+    marked = above-more (omega arith) start-marked;
     handing = record { low = handing .low; room = omega (arith, handing .room, ap (λ (ns : List ℕ). bare (recordsOf ns)) (b .nodes)) };
   }
 
-  pub walked-is : (ws′ : List ℕ) (count hand′ : ℕ) → Walked m first-words 9219 hand ws′ count hand′ → Mutated m ws hand ws′ count hand′
+  pub walked-is : (ws′ : List ℕ) (count hand′ : ℕ) → Walked m base first-words 9219 hand ws′ count hand′ → Mutated m ws hand ws′ count hand′
   unfolding queueOf enough walkOf
   walked-is ws′ count hand′ w =
       let first : Walk = start (mutationSays m) (stateOf ws hand) in
@@ -102,7 +112,7 @@ module _ (ws : List ℕ) (hand : ℕ) (m : CodeMutation) (indexed : Indexed ws) 
         state = done .state ∙ ap (λ (v : Walk). v .state) same;
         counts = omega (arith, counted, ap (λ (v : Walk). v .taken) same);
         few = omega (arith, counted, walk-enough (modeSays m) count (stateOf ws hand) (mutationSays m));
-        most = omega (arith, w .few, b .fits);
+        most = omega (arith, w .few, first-fits);
         handing = w .ready .handing;
         aside = aside-then (b .aside) (w .aside);
       }

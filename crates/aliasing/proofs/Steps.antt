@@ -24,11 +24,12 @@ use Rattle.pushes.proofs.Pushes.{pushed-part, pushed-kept}
 use Rattle.pushes.proofs.Items.{pushed-items, queue-push}
 use Rattle.aliasing.specs.declared.Mutation.{Mutation}
 use Rattle.aliasing.specs.Says.{modeSays, mutationSays}
-use Rattle.aliasing.specs.State.{nodesOf, seenOf, recordsOf, endsOf, stateOf, bare}
+use Rattle.aliasing.specs.State.{nodesOf, seenOf, levels, NoneAbove, recordsOf, endsOf, stateOf, bare}
 use Rattle.aliasing.specs.Accepts.{acceptW, handW}
 use Rattle.aliasing.specs.Potential.{phi}
 use Rattle.aliasing.specs.Walks.{Shows, Ready, Callable, Stepped}
 use Rattle.aliasing.proofs.Parts.{slice-below, slice-above, nodes-below, seen-below, seen-above, rows-below, rows-above, mark-kept, mark-seen, seen-at, seen-length, accept-kept, accept-nodes, nodes-length}
+use Rattle.aliasing.proofs.Levels.{levels-length, levels-at, levels-set, above-as, above-set}
 use Rattle.aliasing.proofs.Records.{level-is, accept-records, accept-ends}
 use Rattle.aliasing.proofs.Hands.{handed-is, hand-same, room-kept, records-length}
 use Rattle.aliasing.proofs.Potential.{phi-falls}
@@ -82,10 +83,10 @@ graph-missing ws hand x h e = ap (λ (g : Graph). nodeAt g x) (graph-is ws hand)
 pub graph-there : (ws : List ℕ) (hand x : ℕ) → x < 512 → (value (rowsOf ws) x ≡ 0 → ⊥) → nodeAt (stateOf ws hand .graph) x ≡ some (ownNode (value (rowsOf ws) x) (rowF (rowsOf ws)) (rowB (rowsOf ws)) x)
 graph-there ws hand x h e = ap (λ (g : Graph). nodeAt g x) (graph-is ws hand) ∙ row-there (rowsOf ws) x h e
 
-shows-to : {ws : List ℕ} {top hand : ℕ} (w v : Walk) → Shows ws top hand v → w ≡ v → Shows ws top hand w
-shows-to {ws} {top} {hand} w v s p = subst (Shows ws top hand) (sym p) s
+shows-to : {base : ℕ} {ws : List ℕ} {top hand : ℕ} (w v : Walk) → Shows base ws top hand v → w ≡ v → Shows base ws top hand w
+shows-to {base} {ws} {top} {hand} w v s p = subst (Shows base ws top hand) (sym p) s
 
-module _ (m : Mutation) (ws : List ℕ) (top hand : ℕ) (ready : Ready ws top hand) (callable : Callable m) (more : 9218 < top) where
+module _ (m : Mutation) (base : ℕ) (ws : List ℕ) (top hand : ℕ) (ready : Ready base ws top hand) (callable : Callable m) (more : 9218 < top) where
   fit : top ≤ length ws
   fit = omega (arith, ready .fits, ready .size)
 
@@ -95,54 +96,61 @@ module _ (m : Mutation) (ws : List ℕ) (top hand : ℕ) (ready : Ready ws top h
   k-below : kindAt ws top < 2
   k-below = omega arith
 
-  module _ (w : Walk) (s : Shows ws top hand w) where
+  module _ (w : Walk) (s : Shows base ws top hand w) where
     head : w .queue ≡ itemOf (last ws top) ∷ queueOf (slice 9218 (top - 1) ws)
     head = sym (s .queue) ∙ queue-head ws top more fit
 
-    at-seen : getD (w .seen) (itemOf (last ws top) .identifier) 0 ≡ getD ws (3584 + placeAt ws top) 0
+    at-seen : getD (w .seen) (itemOf (last ws top) .identifier) 0 ≡ getD ws (3584 + placeAt ws top) 0 - base
     unfolding itemOf
-    at-seen = ap (λ (l : List ℕ). getD l (placeAt ws top) 0) (sym (s .seen)) ∙ seen-at ws (placeAt ws top) x-below
+    at-seen =
+        ap (λ (l : List ℕ). getD l (placeAt ws top) 0) (sym (s .seen)) ∙ levels-at base (seenOf ws) (placeAt ws top) x-below
+        ∙ ap (λ (v : ℕ). v - base) (seen-at ws (placeAt ws top) x-below)
 
   -- ---- seen at this kind or a higher one
-  module _ (seen : kindAt ws top < getD ws (3584 + placeAt ws top) 0) where
-    skips : (w : Walk) → Shows ws top hand w → Shows ws (top - 1) hand (step (modeSays m) (mutationSays m) (w .queue) w)
+  module _ (seen : base + kindAt ws top < getD ws (3584 + placeAt ws top) 0) where
+    skips : (w : Walk) → Shows base ws top hand w → Shows base ws (top - 1) hand (step (modeSays m) (mutationSays m) (w .queue) w)
     skips w s =
         shows-to (step (modeSays m) (mutationSays m) (w .queue) w) (skipped (queueOf (slice 9218 (top - 1) ws)) w) (record { queue = refl; seen = s .seen; state = s .state })
         (step-skips (modeSays m) (mutationSays m) w (itemOf (last ws top)) (queueOf (slice 9218 (top - 1) ws)) (head w s)
         (omega (arith, at-seen w s, item-level (last ws top))))
 
-    pub step-seen : Stepped m ws top hand ws (top - 1) hand
+    pub step-seen : Stepped m base ws top hand ws (top - 1) hand
     step-seen = record {
       follows = skips;
-      ready = record { size = ready .size; low = omega arith; good = ready .good; fits = omega (arith, ready .fits); handing = ready .handing };
+      ready = record { size = ready .size; low = omega arith; good = ready .good; fits = omega (arith, ready .fits); few = ready .few; marked = ready .marked; handing = ready .handing };
       falls = omega arith;
       aside = record { graph = refl; behind = refl; same = refl };
     }
 
   -- ---- not seen
-  module _ (unseen : getD ws (3584 + placeAt ws top) 0 ≤ kindAt ws top) where
+  module _ (unseen : getD ws (3584 + placeAt ws top) 0 ≤ base + kindAt ws top) where
     abbrev marked : List ℕ
-    marked = set ws (3584 + placeAt ws top) (kindAt ws top + 1)
+    marked = set ws (3584 + placeAt ws top) (base + kindAt ws top + 1)
 
     mark : Kept 3584 4096 ws marked
-    mark = mark-kept ws (placeAt ws top) (kindAt ws top + 1) x-below
+    mark = mark-kept ws (placeAt ws top) (base + kindAt ws top + 1) x-below
 
-    mark-levels : seenOf marked ≡ set (seenOf ws) (placeAt ws top) (kindAt ws top + 1)
-    mark-levels = mark-seen ws (placeAt ws top) (kindAt ws top + 1) x-below
+    mark-levels : levels base (seenOf marked) ≡ set (levels base (seenOf ws)) (placeAt ws top) (kindAt ws top + 1)
+    mark-levels =
+        ap (levels base) (mark-seen ws (placeAt ws top) (base + kindAt ws top + 1) x-below)
+        ∙ levels-set base (seenOf ws) (placeAt ws top) (base + kindAt ws top + 1) (kindAt ws top + 1) (omega (arith, seen-length ws (ready .size))) (omega arith)
 
-    falls-by : phi (set (seenOf ws) (placeAt ws top) (kindAt ws top + 1)) (rowsOf ws) 512 + deg (rowsOf ws) (placeAt ws top) ≤ phi (seenOf ws) (rowsOf ws) 512
+    mark-most : NoneAbove (base + 2) marked
+    mark-most = above-set ws (placeAt ws top) (base + kindAt ws top + 1) (ready .size) x-below (omega arith) (ready .marked)
+
+    falls-by : phi (set (levels base (seenOf ws)) (placeAt ws top) (kindAt ws top + 1)) (rowsOf ws) 512 + deg (rowsOf ws) (placeAt ws top) ≤ phi (levels base (seenOf ws)) (rowsOf ws) 512
     falls-by =
-        phi-falls (seenOf ws) (rowsOf ws) (placeAt ws top) (kindAt ws top + 1) 512 x-below (omega (arith, seen-length ws (ready .size)))
-        (omega (arith, seen-at ws (placeAt ws top) x-below)) (omega arith)
+        phi-falls (levels base (seenOf ws)) (rowsOf ws) (placeAt ws top) (kindAt ws top + 1) 512 x-below (omega (arith, levels-length base (seenOf ws)))
+        (omega (arith, levels-at base (seenOf ws) (placeAt ws top) x-below, seen-at ws (placeAt ws top) x-below)) (omega arith)
 
     value-kept : getD marked (4096 + placeAt ws top) 0 ≡ value (rowsOf ws) (placeAt ws top)
-    value-kept = getD-set-other ws (3584 + placeAt ws top) (4096 + placeAt ws top) (kindAt ws top + 1) 0 (omega arith) ∙ sym (value-at ws (ready .size) (placeAt ws top) x-below)
+    value-kept = getD-set-other ws (3584 + placeAt ws top) (4096 + placeAt ws top) (base + kindAt ws top + 1) 0 (omega arith) ∙ sym (value-at ws (ready .size) (placeAt ws top) x-below)
 
-    module _ (w : Walk) (s : Shows ws top hand w) where
+    module _ (w : Walk) (s : Shows base ws top hand w) where
       higher : getD (w .seen) (itemOf (last ws top) .identifier) 0 < level (itemOf (last ws top) .kind)
       higher = omega (arith, at-seen w s, item-level (last ws top))
 
-      remembered : set (seenOf ws) (placeAt ws top) (kindAt ws top + 1) ≡ remember (itemOf (last ws top)) (w .seen)
+      remembered : set (levels base (seenOf ws)) (placeAt ws top) (kindAt ws top + 1) ≡ remember (itemOf (last ws top)) (w .seen)
       unfolding itemOf
       remembered =
           ap (λ (l : List ℕ). set l (placeAt ws top) (kindAt ws top + 1)) (s .seen)
@@ -150,7 +158,7 @@ module _ (m : Mutation) (ws : List ℕ) (top hand : ℕ) (ready : Ready ws top h
 
     -- ---- missing
     module _ (none-there : getD marked (4096 + placeAt ws top) 0 ≡ 0) where
-      misses : (w : Walk) → Shows ws top hand w → Shows marked (top - 1) hand (step (modeSays m) (mutationSays m) (w .queue) w)
+      misses : (w : Walk) → Shows base ws top hand w → Shows base marked (top - 1) hand (step (modeSays m) (mutationSays m) (w .queue) w)
       unfolding itemOf
       misses w s =
           shows-to (step (modeSays m) (mutationSays m) (w .queue) w) (missed (itemOf (last ws top)) (queueOf (slice 9218 (top - 1) ws)) w)
@@ -165,7 +173,7 @@ module _ (m : Mutation) (ws : List ℕ) (top hand : ℕ) (ready : Ready ws top h
           gone : nodeAt (stateOf ws hand .graph) (placeAt ws top) ≡ none
           gone = graph-missing ws hand (placeAt ws top) x-below (sym value-kept ∙ none-there)
 
-      pub step-missing : Stepped m ws top hand marked (top - 1) hand
+      pub step-missing : Stepped m base ws top hand marked (top - 1) hand
       step-missing = record {
         follows = misses;
         ready = record {
@@ -173,16 +181,18 @@ module _ (m : Mutation) (ws : List ℕ) (top hand : ℕ) (ready : Ready ws top h
           low = omega arith;
           good = subst Good (sym (rows-above mark (omega arith))) (ready .good);
           fits = omega (arith, ready .fits, falls-by, phi-marked);
+          few = ready .few;
+          marked = mark-most;
           handing = record { low = ready .handing .low; room = omega (arith, ready .handing .room, ap (λ (l : List ℕ). bare (recordsOf l)) (nodes-below mark (omega arith))) };
         };
         falls = omega (arith, falls-by, phi-marked);
         aside = record { graph = rows-above mark (omega arith); behind = drop-more 4096 13827 marked ws (omega arith) (mark .high); same = mark .same };
       }
         where
-          phi-marked : phi (seenOf marked) (rowsOf marked) 512 ≡ phi (set (seenOf ws) (placeAt ws top) (kindAt ws top + 1)) (rowsOf ws) 512
+          phi-marked : phi (levels base (seenOf marked)) (rowsOf marked) 512 ≡ phi (set (levels base (seenOf ws)) (placeAt ws top) (kindAt ws top + 1)) (rowsOf ws) 512
           phi-marked =
               ap (λ (l : List ℕ). phi l (rowsOf marked) 512) mark-levels
-              ∙ ap (λ (g : List ℕ). phi (set (seenOf ws) (placeAt ws top) (kindAt ws top + 1)) g 512) (rows-above mark (omega arith))
+              ∙ ap (λ (g : List ℕ). phi (set (levels base (seenOf ws)) (placeAt ws top) (kindAt ws top + 1)) g 512) (rows-above mark (omega arith))
 
     -- ---- accepted: the function handed over, the fields written, the entries pushed
     module _ (wsH : List ℕ) (h : ℕ) (ph : Pushed marked hand (handW marked (getD marked (4096 + placeAt ws top) 0) (placeAt ws top) (m .«should_record_errors»)) wsH h) where
@@ -259,8 +269,11 @@ module _ (m : Mutation) (ws : List ℕ) (top hand : ℕ) (ready : Ready ws top h
               nodes-below kept-queue (omega arith) ∙ ap nodesOf is₂ ∙ accept-nodes wsH (placeAt ws top) (transitiveAt ws top) (kindAt ws top + 1) m x-below
               ∙ ap (λ (l : List ℕ). acceptW l (placeAt ws top) (transitiveAt ws top) (kindAt ws top + 1) m) (nodes-below kept-hand (omega arith) ∙ nodes-below mark (omega arith))
 
-          seen₃ : seenOf ws₃ ≡ set (seenOf ws) (placeAt ws top) (kindAt ws top + 1)
-          seen₃ = seen-below kept-queue (omega arith) ∙ seen-above kept-fields (omega arith) ∙ seen-below kept-hand (omega arith) ∙ mark-levels
+          marks₃ : seenOf ws₃ ≡ seenOf marked
+          marks₃ = seen-below kept-queue (omega arith) ∙ seen-above kept-fields (omega arith) ∙ seen-below kept-hand (omega arith)
+
+          seen₃ : levels base (seenOf ws₃) ≡ set (levels base (seenOf ws)) (placeAt ws top) (kindAt ws top + 1)
+          seen₃ = ap (levels base) marks₃ ∙ mark-levels
 
           rows₃ : rowsOf ws₃ ≡ rowsOf ws
           rows₃ = rows-below kept-queue (omega arith) ∙ rows₂
@@ -304,7 +317,7 @@ module _ (m : Mutation) (ws : List ℕ) (top hand : ℕ) (ready : Ready ws top h
               ∙ ap (λ (l : List Item). reverseAux l (queueOf (slice 9218 (top - 1) ws)))
               (pushed-items (rowsOf ws) (placeAt ws top) (m .index) (transitiveAt ws top) (directionAt ws top) (kindAt ws top) (omega arith) (omega arith) (omega arith) (itemOf (last ws top)) refl refl refl)
 
-          accepts-it : (w : Walk) → Shows ws top hand w → Shows ws₃ r h (step (modeSays m) (mutationSays m) (w .queue) w)
+          accepts-it : (w : Walk) → Shows base ws top hand w → Shows base ws₃ r h (step (modeSays m) (mutationSays m) (w .queue) w)
           unfolding itemOf
           accepts-it w s =
               shows-to (step (modeSays m) (mutationSays m) (w .queue) w) (accept (modeSays m) (mutationSays m) own (itemOf (last ws top)) (queueOf (slice 9218 (top - 1) ws)) w)
@@ -316,10 +329,10 @@ module _ (m : Mutation) (ws : List ℕ) (top hand : ℕ) (ready : Ready ws top h
               (step-accepts (modeSays m) (mutationSays m) w (itemOf (last ws top)) (queueOf (slice 9218 (top - 1) ws)) (head w s) own (higher w s)
               (ap (λ (t : State). nodeAt (t .graph) (placeAt ws top)) (sym (s .state)) ∙ graph-there ws hand (placeAt ws top) x-below own-there))
 
-          phi₃ : phi (seenOf ws₃) (rowsOf ws₃) 512 ≡ phi (set (seenOf ws) (placeAt ws top) (kindAt ws top + 1)) (rowsOf ws) 512
-          phi₃ = ap (λ (l : List ℕ). phi l (rowsOf ws₃) 512) seen₃ ∙ ap (λ (g : List ℕ). phi (set (seenOf ws) (placeAt ws top) (kindAt ws top + 1)) g 512) rows₃
+          phi₃ : phi (levels base (seenOf ws₃)) (rowsOf ws₃) 512 ≡ phi (set (levels base (seenOf ws)) (placeAt ws top) (kindAt ws top + 1)) (rowsOf ws) 512
+          phi₃ = ap (λ (l : List ℕ). phi l (rowsOf ws₃) 512) seen₃ ∙ ap (λ (g : List ℕ). phi (set (levels base (seenOf ws)) (placeAt ws top) (kindAt ws top + 1)) g 512) rows₃
 
-          pub step-accepted : Stepped m ws top hand ws₃ r h
+          pub step-accepted : Stepped m base ws top hand ws₃ r h
           step-accepted = record {
             follows = accepts-it;
             ready = record {
@@ -327,6 +340,8 @@ module _ (m : Mutation) (ws : List ℕ) (top hand : ℕ) (ready : Ready ws top h
               low = omega (arith, p′ .next);
               good = subst Good (sym rows₃) (ready .good);
               fits = omega (arith, p′ .next, few, falls-by, phi₃, ready .fits);
+              few = ready .few;
+              marked = above-as marks₃ mark-most;
               handing = record { low = omega (arith, ph′ .next, ready .handing .low); room = omega (arith, hand-room, ap bare records₃) };
             };
             falls = omega (arith, p′ .next, few, falls-by, phi₃);

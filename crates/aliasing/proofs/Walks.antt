@@ -13,7 +13,7 @@ use Rattle.rows.specs.Rows.{rowsOf, Good, Indexed}
 use Rattle.pushes.specs.Items.{itemOf, queueOf}
 use Rattle.aliasing.specs.declared.Mutation.{Mutation as CodeMutation}
 use Rattle.aliasing.specs.Says.{modeSays, mutationSays}
-use Rattle.aliasing.specs.State.{seenOf}
+use Rattle.aliasing.specs.State.{seenOf, levels}
 use Rattle.aliasing.specs.Potential.{phi}
 use Rattle.aliasing.specs.Walks.{Shows, Ready, Aside, Stepped, Walked}
 use Rattle.aliasing.proofs.Cases.{step-taken}
@@ -34,25 +34,25 @@ run-next : (how : Mode) (m : Mutation) (n : ℕ) (w : Walk) → run how m (n + 1
 unfolding run
 run-next how m n w = run-add how m n 1 w
 
-pub record WalkInv (m : CodeMutation) (ws₀ : List ℕ) (top hand : ℕ) (ws : List ℕ) (t h taken : ℕ) : Type 0 where
-  pub ready : Ready ws t h
-  pub fits : top + phi (seenOf ws₀) (rowsOf ws₀) 512 ≤ 13315
-  pub spent : taken + (t + phi (seenOf ws) (rowsOf ws) 512) ≤ top + phi (seenOf ws₀) (rowsOf ws₀) 512
-  pub follows : (w : Walk) → Shows ws₀ top hand w → Shows ws t h (run (modeSays m) (mutationSays m) taken w)
-  pub counts : (w : Walk) → Shows ws₀ top hand w → run (modeSays m) (mutationSays m) taken w .taken ≡ w .taken + taken
+pub record WalkInv (m : CodeMutation) (base : ℕ) (ws₀ : List ℕ) (top hand : ℕ) (ws : List ℕ) (t h taken : ℕ) : Type 0 where
+  pub ready : Ready base ws t h
+  pub fits : top + phi (levels base (seenOf ws₀)) (rowsOf ws₀) 512 ≤ 13315
+  pub spent : taken + (t + phi (levels base (seenOf ws)) (rowsOf ws) 512) ≤ top + phi (levels base (seenOf ws₀)) (rowsOf ws₀) 512
+  pub follows : (w : Walk) → Shows base ws₀ top hand w → Shows base ws t h (run (modeSays m) (mutationSays m) taken w)
+  pub counts : (w : Walk) → Shows base ws₀ top hand w → run (modeSays m) (mutationSays m) taken w .taken ≡ w .taken + taken
   pub aside : Aside ws₀ ws
 
-pub walk-start : (m : CodeMutation) (ws : List ℕ) (top hand : ℕ) → Ready ws top hand → WalkInv m ws top hand ws top hand 0
+pub walk-start : (m : CodeMutation) (base : ℕ) (ws : List ℕ) (top hand : ℕ) → Ready base ws top hand → WalkInv m base ws top hand ws top hand 0
 unfolding run
-walk-start m ws top hand r = record { ready = r; fits = r .fits; spent = omega arith; follows = λ w s. s; counts = λ w s. omega arith; aside = aside-none ws }
+walk-start m base ws top hand r = record { ready = r; fits = r .fits; spent = omega arith; follows = λ w s. s; counts = λ w s. omega arith; aside = aside-none ws }
 
-module _ (m : CodeMutation) (ws₀ : List ℕ) (top hand : ℕ) (ws : List ℕ) (t h taken : ℕ) (i : WalkInv m ws₀ top hand ws t h taken) where
-  pub walk-turn : (ws′ : List ℕ) (t′ h′ : ℕ) → 9218 < t → Stepped m ws t h ws′ t′ h′ → WalkInv m ws₀ top hand ws′ t′ h′ (taken + 1)
+module _ (m : CodeMutation) (base : ℕ) (ws₀ : List ℕ) (top hand : ℕ) (ws : List ℕ) (t h taken : ℕ) (i : WalkInv m base ws₀ top hand ws t h taken) where
+  pub walk-turn : (ws′ : List ℕ) (t′ h′ : ℕ) → 9218 < t → Stepped m base ws t h ws′ t′ h′ → WalkInv m base ws₀ top hand ws′ t′ h′ (taken + 1)
   walk-turn ws′ t′ h′ more s = record {
     ready = s .ready;
     fits = i .fits;
     spent = omega (arith, i .spent, s .falls);
-    follows = λ w q. subst (Shows ws′ t′ h′) (sym (run-next (modeSays m) (mutationSays m) taken w)) (s .follows (run (modeSays m) (mutationSays m) taken w) (i .follows w q));
+    follows = λ w q. subst (Shows base ws′ t′ h′) (sym (run-next (modeSays m) (mutationSays m) taken w)) (s .follows (run (modeSays m) (mutationSays m) taken w) (i .follows w q));
     counts = λ w q. ap (λ (v : Walk). v .taken) (run-next (modeSays m) (mutationSays m) taken w)
         ∙ step-taken (modeSays m) (mutationSays m) (run (modeSays m) (mutationSays m) taken w) (itemOf (last ws t)) (queueOf (slice 9218 (t - 1) ws))
         (sym (i .follows w q .queue) ∙ queue-head ws t more (omega (arith, i .ready .fits, i .ready .size)))
@@ -60,13 +60,13 @@ module _ (m : CodeMutation) (ws₀ : List ℕ) (top hand : ℕ) (ws : List ℕ) 
     aside = aside-then (i .aside) (s .aside);
   }
 
-  pub walk-end : t ≤ 9218 → Walked m ws₀ top hand ws taken h
+  pub walk-end : t ≤ 9218 → Walked m base ws₀ top hand ws taken h
   walk-end q =
       let e : t ≡ 9218 = omega (arith, i .ready .low) in
       record {
-        follows = λ w s. subst (λ (u : ℕ). Shows ws u h (run (modeSays m) (mutationSays m) taken w)) e (i .follows w s);
+        follows = λ w s. subst (λ (u : ℕ). Shows base ws u h (run (modeSays m) (mutationSays m) taken w)) e (i .follows w s);
         counts = i .counts;
         few = omega (arith, i .spent, i .ready .low);
-        ready = subst (λ (u : ℕ). Ready ws u h) e (i .ready);
+        ready = subst (λ (u : ℕ). Ready base ws u h) e (i .ready);
         aside = i .aside;
       }

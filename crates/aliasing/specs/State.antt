@@ -1,5 +1,5 @@
 -- What the workspace stands for: the state that mutations run on (document 01, "Walks").
-use Prim.Native.Nat.{ℕ, zero, suc, _+_, _≤_}
+use Prim.Native.Nat.{ℕ, zero, suc, _+_, _-_, _≤_, _<_}
 use mathlib.Core.Bool.{not}
 use mathlib.Core.List.{List}
 use mathlib.Core.Option.{Option, none, some}
@@ -17,9 +17,17 @@ use Rattle.rows.specs.Pending.{kindOf}
 unfoldable pub nodesOf : List ℕ → List ℕ
 nodesOf ws = take SEEN ws
 
--- the levels at which the walk under way has accepted each identifier, or found it missing
+-- the marks of the walks: at which level each identifier was accepted, or found missing
 unfoldable pub seenOf : List ℕ → List ℕ
 seenOf ws = slice SEEN VALUE ws
+
+-- the levels of the walk whose marks count from `base` on: a mark that is no higher is an earlier walk's, and none
+unfoldable pub levels : ℕ → List ℕ → List ℕ
+levels base seen = tab 512 (λ (x : ℕ). getD seen x 0 - base)
+
+-- no mark is above `most`
+pub record NoneAbove (most : ℕ) (ws : List ℕ) : Type 0 where
+  pub marks : (x : ℕ) → x < 512 → getD (seenOf ws) x 0 ≤ most
 
 -- a record by the words of its kind (0 is none, else the level) and its span
 abbrev pub infoOf : ℕ → ℕ → Option Info

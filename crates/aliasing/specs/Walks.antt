@@ -11,22 +11,24 @@ use Rattle.rows.specs.Layout.{LEAST, QUEUE, HANDED, MUTATIONS}
 use Rattle.rows.specs.Rows.{rowsOf, Good}
 use Rattle.pushes.specs.Items.{queueOf}
 use Rattle.aliasing.specs.Says.{modeSays, mutationSays}
-use Rattle.aliasing.specs.State.{seenOf, stateOf, Handing}
+use Rattle.aliasing.specs.State.{seenOf, levels, NoneAbove, stateOf, Handing}
 use Rattle.aliasing.specs.Potential.{phi}
 use Rattle.aliasing.specs.declared.Mutation.{Mutation}
 
--- the words hold the walk w, its accepted entries and its count aside: the queue up to `top`, the levels, the state
-pub record Shows (ws : List ℕ) (top hand : ℕ) (w : Walk) : Type 0 where
+-- the words hold the walk w, its accepted entries and its count aside: the queue up to `top`, the levels from `base` on, the state
+pub record Shows (base : ℕ) (ws : List ℕ) (top hand : ℕ) (w : Walk) : Type 0 where
   pub queue : queueOf (slice QUEUE top ws) ≡ w .queue
-  pub seen : seenOf ws ≡ w .seen
+  pub seen : levels base (seenOf ws) ≡ w .seen
   pub state : stateOf ws hand ≡ w .state
 
 -- what a walk needs at each entry
-pub record Ready (ws : List ℕ) (top hand : ℕ) : Type 0 where
+pub record Ready (base : ℕ) (ws : List ℕ) (top hand : ℕ) : Type 0 where
   pub size : LEAST ≤ length ws
   pub low : QUEUE ≤ top
   pub good : Good (rowsOf ws)
-  pub fits : top + phi (seenOf ws) (rowsOf ws) 512 ≤ HANDED
+  pub fits : top + phi (levels base (seenOf ws)) (rowsOf ws) 512 ≤ HANDED
+  pub few : base ≤ 4096
+  pub marked : NoneAbove (base + 2) ws
   pub handing : Handing ws hand
 
 -- what no part of a walk changes: the graph, and what lies behind the functions handed over
@@ -41,18 +43,18 @@ pub record Callable (m : Mutation) : Type 0 where
   pub quiet : m .end .0 ≡ 0 → m .«should_record_errors» ≡ false
 
 -- one entry was taken
-pub record Stepped (m : Mutation) (ws : List ℕ) (top hand : ℕ) (ws′ : List ℕ) (top′ hand′ : ℕ) : Type 0 where
-  pub follows : (w : Walk) → Shows ws top hand w → Shows ws′ top′ hand′ (step (modeSays m) (mutationSays m) (w .queue) w)
-  pub ready : Ready ws′ top′ hand′
-  pub falls : top′ + phi (seenOf ws′) (rowsOf ws′) 512 < top + phi (seenOf ws) (rowsOf ws) 512
+pub record Stepped (m : Mutation) (base : ℕ) (ws : List ℕ) (top hand : ℕ) (ws′ : List ℕ) (top′ hand′ : ℕ) : Type 0 where
+  pub follows : (w : Walk) → Shows base ws top hand w → Shows base ws′ top′ hand′ (step (modeSays m) (mutationSays m) (w .queue) w)
+  pub ready : Ready base ws′ top′ hand′
+  pub falls : top′ + phi (levels base (seenOf ws′)) (rowsOf ws′) 512 < top + phi (levels base (seenOf ws)) (rowsOf ws) 512
   pub aside : Aside ws ws′
 
 -- all entries were taken, `count` of them
-pub record Walked (m : Mutation) (ws : List ℕ) (top hand : ℕ) (ws′ : List ℕ) (count hand′ : ℕ) : Type 0 where
-  pub follows : (w : Walk) → Shows ws top hand w → Shows ws′ QUEUE hand′ (run (modeSays m) (mutationSays m) count w)
-  pub counts : (w : Walk) → Shows ws top hand w → run (modeSays m) (mutationSays m) count w .taken ≡ w .taken + count
-  pub few : QUEUE + count ≤ top + phi (seenOf ws) (rowsOf ws) 512
-  pub ready : Ready ws′ QUEUE hand′
+pub record Walked (m : Mutation) (base : ℕ) (ws : List ℕ) (top hand : ℕ) (ws′ : List ℕ) (count hand′ : ℕ) : Type 0 where
+  pub follows : (w : Walk) → Shows base ws top hand w → Shows base ws′ QUEUE hand′ (run (modeSays m) (mutationSays m) count w)
+  pub counts : (w : Walk) → Shows base ws top hand w → run (modeSays m) (mutationSays m) count w .taken ≡ w .taken + count
+  pub few : QUEUE + count ≤ top + phi (levels base (seenOf ws)) (rowsOf ws) 512
+  pub ready : Ready base ws′ QUEUE hand′
   pub aside : Aside ws ws′
 
 -- the walk of one mutation, the definition's in state and count

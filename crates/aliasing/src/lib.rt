@@ -8,7 +8,7 @@ ghost use Rattle.rows.specs.Rows.{Indexed};
 ghost use Rattle.pushes.specs.Pushes.{Pushed};
 ghost use Rattle.rows.specs.Pending.{kindOf};
 ghost use Rattle.aliasing.specs.Says.{bit, kindBit, kindSays};
-ghost use Rattle.aliasing.specs.State.{Handing};
+ghost use Rattle.aliasing.specs.State.{Handing, NoneAbove};
 ghost use Rattle.aliasing.specs.Accepts.{raiseW, firstW, recordW, acceptW, functionW, handW};
 ghost use Rattle.aliasing.specs.Walks.{Ready, Callable, Stepped, Walked, Mutated};
 ghost use Rattle.aliasing.specs.Pending.{Pending, Made, Processed};
@@ -144,21 +144,21 @@ fn record_errors(ws: &mut [u32], x: usize, errors: bool, hand: usize) -> usize
     hand
 }
 
-// Takes the last entry pushed.
-fn step(ws: &mut [u32], top: usize, hand: usize, m: Mutation) -> Next
-    requires { ⌜ Ready (now ws) top hand ⌝ }
+// Takes the last entry pushed. The walk's levels count from `base` on.
+fn step(ws: &mut [u32], top: usize, hand: usize, m: Mutation, base: u32) -> Next
+    requires { ⌜ Ready base (now ws) top hand ⌝ }
     requires { ⌜ Callable m ⌝ }
     requires { ⌜ QUEUE < top ⌝ }
-    ensures { λ r. ⌜ Stepped m (now (ws .entry)) top hand (now (ws .exit)) (r .top) (r .hand) ⌝ }
+    ensures { λ r. ⌜ Stepped m base (now (ws .entry)) top hand (now (ws .exit)) (r .top) (r .hand) ⌝ }
 {
     let t = top - 1;
     let e = ws[t];
     let x = (e % 512) as usize;
     let kind = e / 2048 % 2;
-    if kind < ws[SEEN + x] {
+    if base + kind < ws[SEEN + x] {
         return Next { top: t, hand: hand };
     }
-    ws[SEEN + x] = kind + 1;
+    ws[SEEN + x] = base + kind + 1;
     if ws[VALUE + x] == 0 {
         return Next { top: t, hand: hand };
     }
@@ -171,16 +171,16 @@ fn step(ws: &mut [u32], top: usize, hand: usize, m: Mutation) -> Next
 }
 
 // Takes entries until none is left.
-fn walk(ws: &mut [u32], top: usize, hand: usize, m: Mutation) -> Taken
-    requires { ⌜ Ready (now ws) top hand ⌝ }
+fn walk(ws: &mut [u32], top: usize, hand: usize, m: Mutation, base: u32) -> Taken
+    requires { ⌜ Ready base (now ws) top hand ⌝ }
     requires { ⌜ Callable m ⌝ }
-    ensures { λ r. ⌜ Walked m (now (ws .entry)) top hand (now (ws .exit)) (r .count) (r .hand) ⌝ }
+    ensures { λ r. ⌜ Walked m base (now (ws .entry)) top hand (now (ws .exit)) (r .count) (r .hand) ⌝ }
 {
     let mut t = top;
     let mut h = hand;
     let mut taken: u32 = 0;
     while QUEUE < t {
-        let r = step(ws, t, h, m);
+        let r = step(ws, t, h, m, base);
         t = r.top;
         h = r.hand;
         taken += 1;
@@ -206,17 +206,17 @@ fn kind_bit(k: MutationKind) -> u32
     }
 }
 
-// The walk of one mutation: the entries taken, and the functions handed over from `hand` on.
-pub fn mutate(ws: &mut [u32], hand: usize, m: Mutation) -> Taken
+// The walk of one mutation: the entries taken, and the functions handed over from `hand` on. Its levels count from `base` on, where no earlier walk has left a mark; its own are at most 2 higher.
+pub fn mutate(ws: &mut [u32], hand: usize, m: Mutation, base: u32) -> Taken
     requires { ⌜ Indexed (now ws) ⌝ }
     requires { ⌜ Handing (now ws) hand ⌝ }
     requires { ⌜ Callable m ⌝ }
-    ensures { λ r. ⌜ Mutated m (now (ws .entry)) hand (now (ws .exit)) (r .count) (r .hand) ⌝ }
+    requires { ⌜ (base ≤ 4096) × NoneAbove base (now ws) ⌝ }
+    ensures { λ r. ⌜ Mutated m (now (ws .entry)) hand (now (ws .exit)) (r .count) (r .hand) × NoneAbove (base + 2) (now (ws .exit)) ⌝ }
 {
-    clear(ws, SEEN, 512);
     let kind = m.kind;
     ws[QUEUE] = entry(m.start.0, bit_of(m.transitive), 0, kind_bit(kind));
-    walk(ws, QUEUE + 1, hand, m)
+    walk(ws, QUEUE + 1, hand, m, base)
 }
 
 fn kind_of(b: u32) -> MutationKind
@@ -253,12 +253,13 @@ pub fn process_mutations(ws: &mut [u32], count: usize, should_record_errors: boo
     requires { ⌜ Pending (now ws) count ⌝ }
     ensures { λ r. ⌜ Processed «should_record_errors» (now (ws .entry)) count (now (ws .exit)) r ⌝ }
 {
+    clear(ws, SEEN, 512);
     let mut i = 0;
     let mut hand = HANDED;
     while i < count {
         let at = MUTATIONS + 3 * i;
         let m = pending_mutation(ws[at], ws[at + 1], ws[at + 2], should_record_errors);
-        let r = mutate(ws, hand, m);
+        let r = mutate(ws, hand, m, (2 * i) as u32);
         ws[at + 2] = r.count;
         hand = r.hand;
         i += 1;

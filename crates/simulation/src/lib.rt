@@ -22,7 +22,9 @@ use hir::EvaluationOrder;
 use hir::IdentifierId;
 use hir::Place;
 use rows::HANDED;
+use rows::SEEN;
 use rows::SIMULATED;
+use rows::clear;
 use summary::flows::put_flows;
 use summary::records::collect_effects;
 use summary::tracked::mark_tracked;
@@ -62,12 +64,13 @@ pub fn simulate(
     requires { ⌜ (count ≤ 129) × ((index ≤ 4096) × (at + 133128 ≤ farthest)) ⌝ }
     ensures { λ r. ⌜ Simulates (now (ws .entry)) count index (returns .0) (now (answer .entry)) at (now (ws .exit)) (now (answer .exit)) r ⌝ }
 {
+    clear(ws, SEEN, 512);
     let mut to = at;
     let mut i = 0;
     let mut next = index;
     while i < count {
         let into = tracked(ws, i);
-        let r = mutate(ws, HANDED, simulated(next, into));
+        let r = mutate(ws, HANDED, simulated(next, into), (2 * i) as u32);
         ws[SIMULATED + i] = r.count;
         to = put_flows(ws, count, into, next, returns, answer, to);
         next += 1;

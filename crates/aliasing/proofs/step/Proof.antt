@@ -24,7 +24,10 @@ cast-x : tie.Need-cast-x
 cast-x c = omega arith
 
 add-if1 : tie.Need-add-if1
-add-if1 c = omega arith
+add-if1 c = omega (arith, c .before .before .pre .0 .few)
+
+add-if1-2 : tie.Need-add-if1-2
+add-if1-2 c = omega arith
 
 mul-if1 : tie.Need-mul-if1
 mul-if1 c = omega arith
@@ -34,14 +37,21 @@ slice-read-if1 c = omega arith
 
 returns : tie.Need-returns
 returns c =
-    let b4 = c .before .before .before .before in
-    step-seen (b4 .args .m) (b4 .args .ws .now) (b4 .args .top) (b4 .args .hand) (b4 .pre .0) (b4 .pre .1 .0) (b4 .pre .1 .1) (c .if1 .taken)
+    let b3 = c .before .before .before in
+    let b4 = b3 .before in step-seen (b4 .args .m) (b4 .args .base) (b4 .args .ws .now) (b4 .args .top) (b4 .args .hand) (b4 .pre .0) (b4 .pre .1 .0) (b4 .pre .1 .1) (c .if1 .taken)
 
 add-ws : tie.Need-add-ws
-add-ws c = omega arith
+add-ws c =
+    let b4 = c .before .before .before .before in
+    omega (arith, b4 .pre .0 .few)
 
 add-ws-2 : tie.Need-add-ws-2
-add-ws-2 c = omega arith
+add-ws-2 c =
+    let b4 = c .before .before .before .before in
+    omega (arith, b4 .pre .0 .few)
+
+add-ws-3 : tie.Need-add-ws-3
+add-ws-3 c = omega arith
 
 mul-ws : tie.Need-mul-ws
 mul-ws c = omega arith
@@ -63,12 +73,13 @@ same-length c = search needs
 
 returns-2 : tie.Need-returns-2
 returns-2 c =
-    let b6 = c .before .before .before .before .before .before in
-    step-missing (b6 .args .m) (b6 .args .ws .now) (b6 .args .top) (b6 .args .hand) (b6 .pre .0) (b6 .pre .1 .0) (b6 .pre .1 .1) (c .before .before .if1 .left) (c .if2 .taken)
+    let b5 = c .before .before .before .before .before in
+    let b6 = b5 .before in step-missing (b6 .args .m) (b6 .args .base) (b6 .args .ws .now) (b6 .args .top) (b6 .args .hand) (b6 .pre .0) (b6 .pre .1 .0) (b6 .pre .1 .1) (c .before .before .if1 .left) (c .if2 .taken)
 
 record-errors-requires : tie.Need-record-errors-requires
 record-errors-requires c κs =
-    let b7 = c .before .before .before .before .before .before .before in
+    let b6 = c .before .before .before .before .before .before in
+    let b7 = b6 .before in
     (omega arith, (simp length-set (omega arith), omega (arith, b7 .pre .0 .handing .room)))
 
 add-accept : tie.Need-add-accept
@@ -85,22 +96,22 @@ push-all-requires c κs =
     let b7 = b3 .before .before .before .before in
     let b11 = b7 .before .before .before .before in
     let b15 = b11 .before .before .before .before in
-    (step-room (b15 .args .m) (b15 .args .ws .now) (b15 .args .top) (b15 .args .hand) (b15 .pre .0) (b15 .pre .1 .0) (b15 .pre .1 .1) (b11 .if1 .left) (b7 .record-errors .last .0) (b7 .record-errors .result) (b7 .record-errors .ensures) (b3 .accept .last .0) (b3 .accept .ensures), (omega arith, (omega arith, omega arith)))
+    (step-room (b15 .args .m) (b15 .args .base) (b15 .args .ws .now) (b15 .args .top) (b15 .args .hand) (b15 .pre .0) (b15 .pre .1 .0) (b15 .pre .1 .1) (b11 .if1 .left) (b7 .record-errors .last .0) (b7 .record-errors .result) (b7 .record-errors .ensures) (b3 .accept .last .0) (b3 .accept .ensures), (omega arith, (omega arith, omega arith)))
 
 same-length-2 : tie.Need-same-length-2
 same-length-2 c =
-    let b6 = c .before .before .before .before .before .before in
-    let b10 = b6 .before .before .before .before in
-    c .before .before .push-all .kept .0 ∙ b6 .accept .kept .0 ∙ b10 .record-errors .kept .0 ∙ simp length-set
+    let b5 = c .before .before .before .before .before in
+    let b6 = b5 .before in
+    let b10 = b6 .before .before .before .before in c .before .before .push-all .kept .0 ∙ b6 .accept .kept .0 ∙ b10 .record-errors .kept .0 ∙ simp length-set
 
 returns-3 : tie.Need-returns-3
 returns-3 c =
-    let b6 = c .before .before .before .before .before .before in
+    let b5 = c .before .before .before .before .before in
+    let b6 = b5 .before in
     let b10 = b6 .before .before .before .before in
     let b12 = b10 .before .before in
     let b14 = b12 .before .before in
-    let b18 = b14 .before .before .before .before in
-    step-accepted (b18 .args .m) (b18 .args .ws .now) (b18 .args .top) (b18 .args .hand) (b18 .pre .0) (b18 .pre .1 .0) (b18 .pre .1 .1) (b14 .if1 .left) (b10 .record-errors .last .0) (b10 .record-errors .result) (b10 .record-errors .ensures) (b6 .accept .last .0) (b6 .accept .ensures) (b12 .if2 .left) (c .before .before .push-all .last .0) (c .before .before .push-all .result) (c .before .before .push-all .ensures)
+    let b18 = b14 .before .before .before .before in step-accepted (b18 .args .m) (b18 .args .base) (b18 .args .ws .now) (b18 .args .top) (b18 .args .hand) (b18 .pre .0) (b18 .pre .1 .0) (b18 .pre .1 .1) (b14 .if1 .left) (b10 .record-errors .last .0) (b10 .record-errors .result) (b10 .record-errors .ensures) (b6 .accept .last .0) (b6 .accept .ensures) (b12 .if2 .left) (c .before .before .push-all .last .0) (c .before .before .push-all .result) (c .before .before .push-all .ensures)
 
 pub step-spec : {M : Type 1} → statement M
 step-spec =
@@ -111,11 +122,13 @@ step-spec =
     slice-read-e
     cast-x
     add-if1
+    add-if1-2
     mul-if1
     slice-read-if1
     returns
     add-ws
     add-ws-2
+    add-ws-3
     mul-ws
     slice-write-ws
     add-if2

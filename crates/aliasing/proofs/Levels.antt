@@ -1,0 +1,46 @@
+-- The levels of a walk by the marks: those of earlier walks are none.
+use Prim.Native.Nat.{ℕ, _+_, _-_, _≤_, _<_}
+use native.Mathlib.Omega.{arith}
+use native.Mathlib.Decide.{ℕ-discrete}
+use mathlib.Core.List.{List}
+use mathlib.Core.Path.{_≡_, sym, ap, _∙_}
+use lib.ListN.{length, getD, set, replicate, length-replicate, getD-replicate}
+use lib.Seq.{getD-set-same, getD-set-other, ext-getD}
+use Rattle.rows.proofs.Tables.{tab-length, tab-at, tab-set}
+use Rattle.aliasing.specs.State.{seenOf, levels, NoneAbove}
+use Rattle.aliasing.proofs.Parts.{mark-seen, seen-length}
+
+pub levels-length : (base : ℕ) (seen : List ℕ) → length (levels base seen) ≡ 512
+unfolding levels
+levels-length base seen = tab-length 512 (λ (x : ℕ). getD seen x 0 - base)
+
+pub levels-at : (base : ℕ) (seen : List ℕ) (x : ℕ) → x < 512 → getD (levels base seen) x 0 ≡ getD seen x 0 - base
+unfolding levels
+levels-at base seen x h = tab-at 512 (λ (y : ℕ). getD seen y 0 - base) x 0 h
+
+-- a mark k above the base is level k
+pub levels-set : (base : ℕ) (seen : List ℕ) (x v k : ℕ) → x < length seen → v ≡ base + k → levels base (set seen x v) ≡ set (levels base seen) x k
+unfolding levels
+levels-set base seen x v k h is =
+    tab-set 512 x (λ (y : ℕ). getD seen y 0 - base) (λ (y : ℕ). getD (set seen x v) y 0 - base) k (omega (arith, getD-set-same seen x v 0 h, is))
+    (λ y q other. ap (λ (w : ℕ). w - base) (getD-set-other seen x y v 0 other))
+
+-- marks no higher than the base are none
+pub levels-none : (base : ℕ) (ws : List ℕ) → NoneAbove base ws → levels base (seenOf ws) ≡ replicate 512 0
+levels-none base ws m =
+    ext-getD 0 (levels base (seenOf ws)) (replicate {A = ℕ} 512 0) (levels-length base (seenOf ws) ∙ sym (length-replicate {A = ℕ} 512 0))
+    (λ i h. let k : i < 512 = omega (arith, h, levels-length base (seenOf ws)) in
+    levels-at base (seenOf ws) i k ∙ omega (arith, m .marks i k) ∙ sym (getD-replicate {A = ℕ} 512 i 0 0 k))
+
+pub above-as : {most : ℕ} {ws ws′ : List ℕ} → seenOf ws′ ≡ seenOf ws → NoneAbove most ws → NoneAbove most ws′
+above-as e m = record { marks = λ x h. omega (arith, m .marks x h, ap (λ (l : List ℕ). getD l x 0) e) }
+
+pub above-more : {most more : ℕ} {ws : List ℕ} → most ≤ more → NoneAbove most ws → NoneAbove more ws
+above-more q m = record { marks = λ x h. omega (arith, m .marks x h) }
+
+pub above-set : {most : ℕ} (ws : List ℕ) (x v : ℕ) → 16384 ≤ length ws → x < 512 → v ≤ most → NoneAbove most ws → NoneAbove most (set ws (3584 + x) v)
+above-set {most} ws x v size h q m = record { marks = λ y l. omega (arith, ap (λ (s : List ℕ). getD s y 0) (mark-seen ws x v h), here y l (ℕ-discrete y x)) }
+  where
+    here : (y : ℕ) → y < 512 → Dec (y ≡ x) → getD (set (seenOf ws) x v) y 0 ≤ most
+    here y l (yes e) = omega (arith, ap (λ (k : ℕ). getD (set (seenOf ws) x v) k 0) e, getD-set-same (seenOf ws) x v 0 (omega (arith, seen-length ws size)))
+    here y l (no e) = omega (arith, getD-set-other (seenOf ws) x y v 0 e, m .marks y l)
