@@ -34,15 +34,15 @@ pub enum MutationKind {
     Definite,
 }
 
-// What `mutate` is called with. A simulated mutation has its end unset and records no errors; reason 0 is none, 1 AssignCurrentProperty.
+// What `mutate` is called with. A simulated mutation has its end unset and records no errors; reason 0 is none, 1 AssignCurrentProperty. The fields stand so that no two that are written one by one are read as one word.
 pub struct Mutation {
-    pub index: u32,
-    pub start: IdentifierId,
     pub end: EvaluationOrder,
     pub transitive: bool,
     pub kind: MutationKind,
-    pub span: u32,
+    pub start: IdentifierId,
+    pub index: u32,
     pub reason: u32,
+    pub span: u32,
     pub should_record_errors: bool,
 }
 
