@@ -6,6 +6,7 @@ pub mod Writes
 pub mod Steps
 pub mod LayOut
 pub mod Operands
+pub mod Runs
 pub mod Counts
 pub mod Pushes
 pub mod Stages

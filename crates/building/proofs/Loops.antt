@@ -7,12 +7,12 @@ use mathlib.Core.Bool.{Bool, true, false, true≢false}
 use mathlib.Core.List.{List, [], _∷_, _++_, append-assoc, append-nil}
 use mathlib.Core.Path.{_≡_, refl, sym, ap, subst, _∙_}
 use lib.ListN.{length, getD, set, take, drop, length-set, take-append-drop}
-use lib.Seq.{slice, slice-cons, slice-empty, take-set-le, drop-set-lt, getD-drop, append-snoc, take-take, drop-append-le, length-take-le}
+use lib.Seq.{slice, slice-cons, slice-empty, length-slice, take-set-le, drop-set-lt, getD-drop, append-snoc, take-take, drop-append-le, length-take-le}
 use lib.Dec.{eqb}
 use borrow.Author.Tests.{eq-eqb, ne-eqb}
 use Rattle.model.specs.Lists.{pick}
 use Rattle.rows.specs.Rows.{Kept}
-use Rattle.rows.proofs.Parts.{drop-more, drop-word, slice-slice, slice-push, kept-none, kept-set}
+use Rattle.rows.proofs.Parts.{drop-more, drop-word, slice-at, slice-slice, slice-push, kept-none, kept-set}
 use Rattle.building.specs.Logs.{ownerW, ownsW, without, anyP}
 use Rattle.building.specs.Held.{Others, Left}
 
@@ -69,6 +69,20 @@ none-both test (v ∷ l) m p q = go (none-both test l m) (test v) p
     go : (anyP test l ≡ false → anyP test m ≡ false → anyP test (l ++ m) ≡ false) → (b : Bool) → pick b true (anyP test l) ≡ false → pick b true (anyP test (l ++ m)) ≡ false
     go ih true e = e
     go ih false e = ih e q
+
+none-in : (test : ℕ → Bool) (l : List ℕ) → anyP test l ≡ false → (j : ℕ) → j < length l → test (getD l j 0) ≡ true → ⊥
+unfolding anyP
+none-in test [] p j h e = absurd (omega arith)
+none-in test (v ∷ l) p zero h e = true≢false (sym (ap (λ (b : Bool). pick b true (anyP test l)) e) ∙ p)
+none-in test (v ∷ l) p (suc j) h e = none-in test l (rest (test v) p) j (omega arith) e
+  where
+    rest : (b : Bool) → pick b true (anyP test l) ≡ false → anyP test l ≡ false
+    rest true q = absurd (true≢false q)
+    rest false q = q
+
+-- none of n words passes it
+pub none-at : (test : ℕ → Bool) (at n : ℕ) (ws : List ℕ) → at + n ≤ length ws → anyP test (slice at (at + n) ws) ≡ false → (j : ℕ) → j < n → test (getD ws (at + j) 0) ≡ true → ⊥
+none-at test at n ws fit p j h e = none-in test (slice at (at + n) ws) p j (omega (arith, length-slice at (at + n) ws fit)) (ap test (slice-at at (at + n) j ws (omega arith)) ∙ e)
 
 without-others : (t x : ℕ) (l m : List ℕ) → anyP (ownsW t x) l ≡ false → without t x (l ++ m) ≡ l ++ without t x m
 unfolding anyP without

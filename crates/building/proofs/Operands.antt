@@ -206,7 +206,7 @@ one-none : (block p : ℕ) → (p ≡ block → ⊥) → anyP (eqb block) (p ∷
 unfolding anyP
 one-none block p e = rw (test-miss block p e)
 
-pred-kept : (ws₀ ws : List ℕ) (i : ℕ) → i < 1024 → slice (PREDS + i) RELATIONS ws ≡ slice (PREDS + i) RELATIONS ws₀ → getD ws (PREDS + i) 0 ≡ getD ws₀ (PREDS + i) 0
+pub pred-kept : (ws₀ ws : List ℕ) (i : ℕ) → i < 1024 → slice (PREDS + i) RELATIONS ws ≡ slice (PREDS + i) RELATIONS ws₀ → getD ws (PREDS + i) 0 ≡ getD ws₀ (PREDS + i) 0
 pred-kept ws₀ ws i h e =
     let z : PREDS + i + 0 ≡ PREDS + i = omega arith in
     let f : (l : List ℕ) → getD (slice (PREDS + i) RELATIONS l) 0 0 ≡ getD l (PREDS + i) 0 = λ l. slice-at (PREDS + i) RELATIONS 0 l (omega arith) ∙ ap (λ (j : ℕ). getD l j 0) z in

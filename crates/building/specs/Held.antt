@@ -3,7 +3,7 @@ use Prim.Native.Nat.{ℕ, _+_, _*_, _/_, _%_, _≤_, _<_}
 use mathlib.Core.Bool.{Bool, false, not}
 use mathlib.Core.List.{List, [], _∷_, _++_}
 use mathlib.Core.Path.{_≡_}
-use lib.ListN.{length, take, drop}
+use lib.ListN.{length, getD, set, take, drop}
 use lib.Seq.{slice}
 use lib.Dec.{eqb}
 use Rattle.model.specs.Lists.{keep, each}
@@ -79,6 +79,18 @@ pub record Waits (w : Waiting) (ws : List ℕ) (h : Held) (ws′ : List ℕ) (r 
   pub low : take VALUE ws′ ≡ take VALUE ws
   pub high : drop HANDED ws′ ≡ drop HANDED ws
   pub same : length ws′ ≡ length ws
+
+-- the two words of an operand at k
+abbrev pub downW : ℕ → ℕ → ℕ → List ℕ → List ℕ
+downW k p w ws = set (set ws (PREDS + k) p) (RELATIONS + k) w
+
+-- the four operands from i on at k too
+unfoldable pub fourW : List ℕ → ℕ → ℕ → List ℕ
+fourW ws i k =
+    downW (k + 3) (getD ws (PREDS + (i + 3)) 0) (getD ws (RELATIONS + (i + 3)) 0)
+    (downW (k + 2) (getD ws (PREDS + (i + 2)) 0) (getD ws (RELATIONS + (i + 2)) 0)
+    (downW (k + 1) (getD ws (PREDS + (i + 1)) 0) (getD ws (RELATIONS + (i + 1)) 0)
+    (downW k (getD ws (PREDS + i) 0) (getD ws (RELATIONS + i) 0) ws)))
 
 -- the operands from `from` to r, of which none waits for the block, follow the first `left` up to k; the words before the operands and those of the operands from r on stay
 pub record Moved (block from left n : ℕ) (ws : List ℕ) (r k : ℕ) (ws′ : List ℕ) : Type 0 where

@@ -11,7 +11,7 @@ ghost use lib.Seq.{slice};
 ghost use lib.Dec.{eqb};
 ghost use Rattle.rows.specs.Layout.{LEAST, PREDS};
 ghost use Rattle.building.specs.Logs.{anyP};
-ghost use Rattle.building.specs.Held.{Room, Others, Waits, Moved, Wakes};
+ghost use Rattle.building.specs.Held.{Room, Others, Waits, fourW, Moved, Wakes};
 
 // A phi operand waits for the end of the block `predecessor`, with its index.
 pub fn wait(ws: &mut [u32], h: Held, predecessor: u32, index: u32, from: u32, into: u32) -> Held
@@ -64,13 +64,57 @@ fn others(ws: &[u32], n: usize, block: u32) -> usize
     i
 }
 
+// Four operands from `i` on move down to `k`. All are read before one is written, so that four words are moved as one.
+fn move_four(ws: &mut [u32], i: usize, k: usize)
+    requires { ⌜ (LEAST ≤ length (now ws)) × ((k ≤ i) × (i + 4 ≤ 1024)) ⌝ }
+    ensures { λ _. ⌜ now (ws .exit) ≡ fourW (now (ws .entry)) i k ⌝ }
+{
+    let p0 = ws[PREDS + i];
+    let p1 = ws[PREDS + (i + 1)];
+    let p2 = ws[PREDS + (i + 2)];
+    let p3 = ws[PREDS + (i + 3)];
+    let w0 = ws[RELATIONS + i];
+    let w1 = ws[RELATIONS + (i + 1)];
+    let w2 = ws[RELATIONS + (i + 2)];
+    let w3 = ws[RELATIONS + (i + 3)];
+    ws[PREDS + k] = p0;
+    ws[RELATIONS + k] = w0;
+    ws[PREDS + (k + 1)] = p1;
+    ws[RELATIONS + (k + 1)] = w1;
+    ws[PREDS + (k + 2)] = p2;
+    ws[RELATIONS + (k + 2)] = w2;
+    ws[PREDS + (k + 3)] = p3;
+    ws[RELATIONS + (k + 3)] = w3;
+}
+
+// The operands from `from` on move down to `left`, 16 at a time, up to a run in which one waits for the block; where that run begins, or the last words, which are no run.
+fn stay_runs(ws: &mut [u32], from: usize, left: usize, n: usize, block: u32) -> usize
+    requires { ⌜ (LEAST ≤ length (now ws)) × ((left ≤ from) × ((from ≤ n) × (n ≤ 1024))) ⌝ }
+    ensures { λ r. ⌜ Moved block from left n (now (ws .entry)) r (left + (r - from)) (now (ws .exit)) ⌝ }
+{
+    let mut i = from;
+    let mut k = left;
+    while i + 16 <= n {
+        if one_waits(ws, PREDS + i, 16, block) {
+            return i;
+        }
+        move_four(ws, i, k);
+        move_four(ws, i + 4, k + 4);
+        move_four(ws, i + 8, k + 8);
+        move_four(ws, i + 12, k + 12);
+        i += 16;
+        k += 16;
+    }
+    i
+}
+
 // The operands from `from` on move down to `left`, up to the first that waits for the block; where that one stands, or n. By itself, so that the loop that moves is a short one.
 fn stay(ws: &mut [u32], from: usize, left: usize, n: usize, block: u32) -> usize
     requires { ⌜ (LEAST ≤ length (now ws)) × ((left ≤ from) × ((from ≤ n) × (n ≤ 1024))) ⌝ }
     ensures { λ r. ⌜ Moved block from left n (now (ws .entry)) r (left + (r - from)) (now (ws .exit)) × (r < n → getD (now (ws .exit)) (PREDS + r) 0 ≡ block) ⌝ }
 {
-    let mut i = from;
-    let mut k = left;
+    let mut i = stay_runs(ws, from, left, n, block);
+    let mut k = left + (i - from);
     while i < n {
         let predecessor = ws[PREDS + i];
         if predecessor == block {
