@@ -177,7 +177,7 @@ pub fn blocks(start: Cursor, s: &[u32], n: u32, m: u32) -> TotalsStep
         mutations: 0,
         renders: 0,
     };
-    let mut used = [0u32; 256];
+    let mut used = [0u16; 256];
     let mut free: usize = 256;
     let mut above: u32 = 0;
     while 0 < left {
@@ -197,7 +197,7 @@ pub fn blocks(start: Cursor, s: &[u32], n: u32, m: u32) -> TotalsStep
         }
         above = phis::raised(above, number);
         free -= 1;
-        used[free] = number;
+        used[free] = number as u16;
         match block(c1, s, n, m, t, number) {
             TotalsStep::Got(u, d2) => {
                 t = u;

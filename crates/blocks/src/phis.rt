@@ -17,8 +17,8 @@ use hir::Cursor;
 use hir::PlaceStep;
 use hir::WordStep;
 
-// Whether a number is among those from a position on. Every one is looked at, so that many are compared at once.
-pub fn listed(numbers: &[u32], from: usize, number: u32) -> bool
+// Whether a number is among those from a position on. Every one is looked at, so that many are compared at once, and more of them in 16 bits.
+pub fn listed(numbers: &[u16], from: usize, number: u16) -> bool
     requires { ⌜ from ≤ length (now numbers) ⌝ }
     ensures { λ r. ⌜ r ≡ among number (drop from (now (numbers .entry))) ⌝ }
 {
@@ -32,13 +32,14 @@ pub fn listed(numbers: &[u32], from: usize, number: u32) -> bool
 }
 
 // The same for numbers that are all below `above`. Numbers mostly rise, and then none is looked at.
-pub fn repeated(numbers: &[u32], from: usize, above: u32, number: u32) -> bool
+pub fn repeated(numbers: &[u16], from: usize, above: u32, number: u32) -> bool
     requires { ⌜ from ≤ length (now numbers) ⌝ }
     requires { ⌜ Every (λ (v : ℕ). v < above) (drop from (now numbers)) ⌝ }
+    requires { ⌜ number ≤ mostBlockNumber ⌝ }
     ensures { λ r. ⌜ r ≡ among number (drop from (now (numbers .entry))) ⌝ }
 {
     if number < above {
-        listed(numbers, from, number)
+        listed(numbers, from, number as u16)
     } else {
         false
     }

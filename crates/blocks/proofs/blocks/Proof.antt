@@ -67,34 +67,38 @@ returns-2 c =
 
 slice-aggregate-repeated : tie.Need-slice-aggregate-repeated Inv-loop μ-loop
 slice-aggregate-repeated c =
-    let b6 = c .before .before .before .before .before .before in
-    sym (b6 .loop .inv .3)
+    let b5 = c .before .before .before .before .before in
+    let b6 = b5 .before in sym (b6 .loop .inv .3)
 
 repeated-requires : tie.Need-repeated-requires Inv-loop μ-loop
 repeated-requires c κs =
-    let b6 = c .before .before .before .before .before .before in
-    (omega (arith, b6 .loop .inv .3), b6 .loop .inv .4)
+    let b4 = c .before .before .before .before in
+    let b6 = b4 .before .before in
+    (omega (arith, b6 .loop .inv .3), (b6 .loop .inv .4, at-most-reads mostBlockNumber _ _ _ _ (says blockSays (c .before .before .b .given .1) (b4 .block-number .ensures))))
 
 returns-3 : tie.Need-returns-3 Inv-loop μ-loop
 returns-3 c =
-    let b4 = c .before .before .before .before in
+    let b3 = c .before .before .before in
+    let b4 = b3 .before in
     let b6 = b4 .before .before in
     let b7 = b6 .before in
     let b8 = b7 .before in
     let b10 = b8 .before .before in
-    let b12 = b10 .before .before in
-    sym (blocks-got _ _ _ _ _ _ _ (says wordSays (b10 .count2 .given .1) (b12 .count .ensures))
-    ∙ b8 .loop .inv .0
-    ∙ numbered-refused _ _ _ _ _ _ _ _ (b7 .loop-test .taken) (new-used _ _ _ _ _ (says blockSays (b4 .b .given .1) (b6 .block-number .ensures)) (sym (c .before .repeated .ensures)
-    ∙ c .if1 .taken)))
+    let b12 = b10 .before .before in sym (blocks-got _ _ _ _ _ _ _ (says wordSays (b10 .count2 .given .1) (b12 .count .ensures)) ∙ b8 .loop .inv .0 ∙ numbered-refused _ _ _ _ _ _ _ _ (b7 .loop-test .taken) (new-used _ _ _ _ _ (says blockSays (b4 .b .given .1) (b6 .block-number .ensures)) (sym (c .before .repeated .ensures) ∙ c .if1 .taken)))
 
 raised-requires : tie.Need-raised-requires Inv-loop μ-loop
 raised-requires c κs =
-    let b4 = c .before .before .before .before in
-    at-most-reads mostBlockNumber _ _ _ _ (says blockSays (b4 .b .given .1) (b4 .before .before .block-number .ensures))
+    let b3 = c .before .before .before in
+    let b4 = b3 .before in at-most-reads mostBlockNumber _ _ _ _ (says blockSays (b4 .b .given .1) (b4 .before .before .block-number .ensures))
 
 sub-free : tie.Need-sub-free Inv-loop μ-loop
 sub-free c = omega arith
+
+cast-used : tie.Need-cast-used Inv-loop μ-loop
+cast-used c =
+    let b5 = c .before .before .before .before .before in
+    let b7 = b5 .before .before in
+    let few : b5 .b .given .0 .0 .0 ≤ 65535 = at-most-reads mostBlockNumber _ _ _ _ (says blockSays (b5 .b .given .1) (b7 .block-number .ensures)) in omega (arith, few)
 
 mul-used : tie.Need-mul-used Inv-loop μ-loop
 mul-used c = omega arith
@@ -174,6 +178,7 @@ blocks-spec =
     returns-3
     raised-requires
     sub-free
+    cast-used
     mul-used
     array-write-used
     block-requires

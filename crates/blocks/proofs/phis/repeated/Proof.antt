@@ -7,6 +7,9 @@ use Rattle.blocks.proofs.phis.repeated.Reads as reads
 use Rattle.blocks.proofs.phis.repeated.Lts as lts
 use Rattle.blocks.proofs.phis.listed.Reads as listed-reads
 
+cast-listed : tie.Need-cast-listed
+cast-listed c = search needs
+
 listed-requires : tie.Need-listed-requires
 listed-requires c κs = search needs
 
@@ -16,7 +19,7 @@ returns c = search needs
 returns-2 : tie.Need-returns-2
 returns-2 c =
     let b2 = c .before .before in
-    none-above _ _ (drop (b2 .args .from) (b2 .args .numbers .now)) (c .if1 .left) (b2 .pre .1)
+    none-above _ _ (drop (b2 .args .from) (b2 .args .numbers .now)) (c .if1 .left) (b2 .pre .1 .0)
 
 pub repeated-spec : {M : Type 1} → statement M
-repeated-spec = tie.close (tie.spec listed-requires returns returns-2)
+repeated-spec = tie.close (tie.spec cast-listed listed-requires returns returns-2)
