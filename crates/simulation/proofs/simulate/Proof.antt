@@ -18,39 +18,35 @@ Inv-loop ws₀ count index returns answer₀ at to₀ i₀ next₀ ws answer to 
 abbrev μ-loop : tie.MeasureT-loop
 μ-loop ws₀ count index returns answer₀ at to₀ i₀ next₀ ws answer to i next = count - i
 
--- src/lib.rt:68:5
 loop-holds : tie.Need-loop-holds Inv-loop μ-loop
 loop-holds c = turned-start _ _ _ _ _ _ (c .before .before .pre .0)
 
--- src/lib.rt:69:13
 tracked-requires : tie.Need-tracked-requires Inv-loop μ-loop
 tracked-requires c κs = (omega arith, c .before .before .loop .inv .indexed .size)
 
--- src/lib.rt:70:36
 simulated-requires : tie.Need-simulated-requires Inv-loop μ-loop
-simulated-requires c κs = is-below _ _ (c .before .tracked .ensures)
+simulated-requires c κs =
+    let b4 = c .before .before .before .before in
+    let b7 = b4 .before .before .before in
+    (is-below _ _ (c .before .tracked .ensures), omega (arith, b4 .loop .inv .number, c .before .before .before .loop-test .taken, b7 .pre .1 .1 .0, b7 .pre .1 .1 .1 .0))
 
--- src/lib.rt:70:13
 mutate-requires : tie.Need-mutate-requires Inv-loop μ-loop
 mutate-requires c κs =
     let b5 = c .before .before .before .before .before in
     (b5 .loop .inv .indexed, (handing-start _, c .simulated .ensures .1 .1))
 
--- src/lib.rt:71:12
 add-ws : tie.Need-add-ws Inv-loop μ-loop
 add-ws c =
     let b7 = c .before .before .before .before .before .before .before in
     let b11 = b7 .before .before .before .before in
     omega (arith, b11 .pre .1 .1 .0, b7 .loop-test .taken)
 
--- src/lib.rt:71:9
 mul-ws : tie.Need-mul-ws Inv-loop μ-loop
 mul-ws c =
     let b7 = c .before .before .before .before .before .before .before in
     let b11 = b7 .before .before .before .before in
     omega (arith, b11 .pre .1 .1 .0, b7 .loop-test .taken)
 
--- src/lib.rt:71:9
 slice-write-ws : tie.Need-slice-write-ws Inv-loop μ-loop
 slice-write-ws c =
     let b3 = c .before .before .before in
@@ -60,7 +56,6 @@ slice-write-ws c =
     let b11 = b8 .before .before .before in
     long (b8 .loop .inv) (b11 .pre .1 .1 .0) (b7 .loop-test .taken) (b5 .tracked .ensures) (b3 .simulated .ensures) (c .before .before .mutate .ensures)
 
--- src/lib.rt:72:9
 put-flows-requires : tie.Need-put-flows-requires Inv-loop μ-loop
 put-flows-requires c κs =
     let b4 = c .before .before .before .before in
@@ -71,7 +66,6 @@ put-flows-requires c κs =
     let b13 = b10 .before .before .before in
     ((b13 .pre .1 .1 .0, stored-size (b10 .loop .inv) (b13 .pre .1 .1 .0) (b9 .loop-test .taken) (b7 .tracked .ensures) (b5 .simulated .ensures) (b4 .mutate .ensures)), omega (arith, b10 .loop .inv .few, b13 .pre .1 .1, b9 .loop-test .taken))
 
--- src/lib.rt:73:9
 add-next : tie.Need-add-next Inv-loop μ-loop
 add-next c =
     let b12 = c .before .before .before .before .before .before .before .before .before .before .before .before in
@@ -79,18 +73,15 @@ add-next c =
     let b16 = b13 .before .before .before in
     omega (arith, b13 .loop .inv .number, b16 .pre .1 .1, b12 .loop-test .taken)
 
--- src/lib.rt:74:9
 add-i : tie.Need-add-i Inv-loop μ-loop
 add-i c =
     let b12 = c .before .before .before .before .before .before .before .before .before .before .before .before in
     let b16 = b12 .before .before .before .before in
     omega (arith, b16 .pre .1 .1, b12 .loop-test .taken)
 
--- src/lib.rt:68:5
 loop-less : tie.Need-loop-less Inv-loop μ-loop
 loop-less c = omega arith
 
--- src/lib.rt:68:5
 loop-again : tie.Need-loop-again Inv-loop μ-loop
 loop-again c =
     let b7 = c .before .before .before .before .before .before .before in
@@ -101,15 +92,12 @@ loop-again c =
     let b16 = b13 .before .before .before in
     turned-turn (b13 .loop .inv) (b16 .pre .1 .1 .0) (b12 .loop-test .taken) (b10 .tracked .ensures) (b8 .simulated .ensures) (b7 .mutate .ensures) (b16 .pre .1 .0) (c .before .before .put-flows .ensures) (c .before .before .put-flows .kept .1 .1 .1 .1 .1 .0)
 
--- src/lib.rt:52:1
 same-length : tie.Need-same-length Inv-loop μ-loop
 same-length c = c .before .loop .inv .same
 
--- src/lib.rt:52:1
 same-length-2 : tie.Need-same-length-2 Inv-loop μ-loop
 same-length-2 c = c .before .loop .inv .buffer
 
--- src/lib.rt:52:1
 returns : tie.Need-returns Inv-loop μ-loop
 returns c = turned-end (c .before .loop .inv) (c .loop-test .left)
 
