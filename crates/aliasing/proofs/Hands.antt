@@ -1,5 +1,5 @@
 -- The functions handed over: which they are, and that there is room for them.
-use Prim.Native.Nat.{ℕ, zero, suc, _+_, _-_, _≤_, _<_}
+use Prim.Native.Nat.{ℕ, zero, suc, _+_, _-_, _%_, _≤_, _<_}
 use native.Mathlib.Omega.{arith}
 use mathlib.Core.Bool.{Bool, true, false, _||_, _&&_, not}
 use mathlib.Core.List.{List, [], _∷_}
@@ -8,7 +8,7 @@ use mathlib.Core.Path.{_≡_, refl, sym, ap, _∙_}
 use lib.ListN.{length, getD, set, take}
 use lib.Seq.{getD-take}
 use lib.Dec.{eqb}
-use borrow.Author.Tests.{le-ltb, ne-eqb}
+use borrow.Author.Tests.{le-ltb}
 use Rattle.model.specs.Lists.{pick, listIf, isSome, oneIf}
 use Rattle.model.specs.Graph.{Value, object, phi, function}
 use Rattle.model.specs.Mutation.{Mutation}
@@ -17,9 +17,10 @@ use Rattle.rows.specs.Graph.{valueOf}
 use Rattle.rows.proofs.Tables.{tab-at, tab-length}
 use Rattle.aliasing.specs.declared.Mutation.{Mutation as CodeMutation}
 use Rattle.aliasing.specs.Says.{modeOf, modeSays}
-use Rattle.aliasing.specs.State.{infoOf, recordAt, recordsOf, bare}
+use Rattle.aliasing.specs.State.{recordAt, recordsOf, bare}
 use Rattle.aliasing.specs.Accepts.{functionW, handW}
 use Rattle.aliasing.specs.Walks.{Callable}
+use Rattle.aliasing.proofs.Packed.{has-word}
 
 -- ---- which
 pub function-is : (v : ℕ) → functionW v ≡ functionOf (valueOf v)
@@ -29,13 +30,10 @@ function-is (suc zero) = refl
 function-is (suc (suc zero)) = refl
 function-is (suc (suc (suc v))) = let e : suc (suc (suc v)) - 3 ≡ v = omega arith in rw (le-ltb (suc (suc (suc v))) 3 (omega arith), e)
 
-hand-is : (errors : Bool) (f : List ℕ) (lk ls tk ts : ℕ) → pick errors (pick (eqb lk 0) (pick (eqb tk 0) f []) []) []
-    ≡ listIf (errors && not (isSome (infoOf tk ts) || isSome (infoOf lk ls))) f
-hand-is false f lk ls tk ts = refl
-hand-is true f zero ls zero ts = refl
-hand-is true f (suc lk) ls zero ts = rw (ne-eqb (suc lk) 0 (λ e. omega (arith, e)))
-hand-is true f zero ls (suc tk) ts = rw (ne-eqb (suc tk) 0 (λ e. omega (arith, e)))
-hand-is true f (suc lk) ls (suc tk) ts = rw (ne-eqb (suc lk) 0 (λ e. omega (arith, e)))
+hand-is : (errors bare : Bool) (f : List ℕ) → pick errors (pick bare f []) [] ≡ listIf (errors && not (not bare)) f
+hand-is false bare f = refl
+hand-is true true f = refl
+hand-is true false f = refl
 
 errors-are : (e : ℕ) (errors : Bool) → (e ≡ 0 → errors ≡ false) → errors ≡ recordsErrors (modeOf e errors)
 errors-are zero errors q = q refl
@@ -46,7 +44,8 @@ pub handed-is : (ns : List ℕ) (v x : ℕ) (m : CodeMutation) → x < 512 → C
     → handW ns v x (m .«should_record_errors») ≡ listIf (recordsErrors (modeSays m) && not (hasRecord (getD (recordsOf ns) x noRecord))) (functionOf (valueOf v))
 unfolding handW recordsOf recordAt modeSays
 handed-is ns v x m hx callable =
-    hand-is (m .«should_record_errors») (functionW v) (getD ns (0 + x) 0) (getD ns (512 + x) 0) (getD ns (1024 + x) 0) (getD ns (1536 + x) 0)
+    hand-is (m .«should_record_errors») (eqb (getD ns (0 + x) 0 % 16) 0) (functionW v)
+    ∙ ap (λ (b : Bool). listIf (m .«should_record_errors» && not b) (functionW v)) (sym (has-word (getD ns (0 + x) 0) (getD ns (1536 + x) 0) (getD ns (512 + x) 0)))
     ∙ ap (listIf (m .«should_record_errors» && not (hasRecord (recordAt ns x)))) (function-is v)
     ∙ ap (λ (b : Bool). listIf (b && not (hasRecord (recordAt ns x))) (functionOf (valueOf v))) (errors-are (m .end .0) (m .«should_record_errors») (callable .quiet))
     ∙ ap (λ (r : Record). listIf (recordsErrors (modeOf (m .end .0) (m .«should_record_errors»)) && not (hasRecord r)) (functionOf (valueOf v))) (sym (tab-at 512 (recordAt ns) x noRecord hx))
@@ -54,10 +53,7 @@ handed-is ns v x m hx callable =
 -- it looks at the node fields alone
 pub hand-same : (ws : List ℕ) (v x : ℕ) (errors : Bool) → x < 512 → handW ws v x errors ≡ handW (take 3584 ws) v x errors
 unfolding handW
-hand-same ws v x errors h =
-    let a : getD ws (0 + x) 0 ≡ getD (take 3584 ws) (0 + x) 0 = sym (getD-take 3584 ws (0 + x) 0 (omega arith)) in
-    let b : getD ws (1024 + x) 0 ≡ getD (take 3584 ws) (1024 + x) 0 = sym (getD-take 3584 ws (1024 + x) 0 (omega arith)) in
-    rw (a, b)
+hand-same ws v x errors h = ap (λ (w : ℕ). pick errors (pick (eqb (w % 16) 0) (functionW v) []) []) (sym (getD-take 3584 ws (0 + x) 0 (omega arith)))
 
 -- ---- the room
 pub bare-top : (rs : List Record) → bare rs ≤ length rs

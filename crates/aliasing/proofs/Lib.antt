@@ -1,3 +1,4 @@
+pub mod Packed
 pub mod Writes
 pub mod Records
 pub mod Hands

@@ -1,4 +1,4 @@
--- The state before the first mutation: where the fields of the nodes but the spans and the ends are 0, there is no record, and nothing was handed over.
+-- The state before the first mutation: where the words of the records are 0, there is none, whatever the spans, and nothing was handed over.
 use Prim.Native.Nat.{ℕ, _+_, _<_}
 use native.Mathlib.Omega.{arith}
 use mathlib.Core.List.{List, []}
@@ -7,30 +7,22 @@ use lib.ListN.{getD, take, drop, replicate, length-replicate, getD-replicate}
 use lib.Seq.{slice, slice-empty, ext-getD, getD-take, take-take}
 use Rattle.model.specs.Graph.{Graph}
 use Rattle.model.specs.State.{noRecord}
-use Rattle.rows.specs.Layout.{LKIND, TKIND, LAST, REASON, END, SEEN, HANDED}
+use Rattle.rows.specs.Layout.{RECORD, END, SEEN, HANDED}
 use Rattle.rows.specs.Rows.{rowsOf}
 use Rattle.rows.specs.Graph.{tab, graphOfRows}
 use Rattle.rows.proofs.Tables.{tab-length, tab-at}
-use Rattle.aliasing.specs.State.{nodesOf, recordAt, recordsOf, endsOf, stateOf}
+use Rattle.aliasing.specs.State.{nodesOf, recordIn, recordAt, recordsOf, endsOf, stateOf}
 
--- the fields of the nodes but the spans and the ends are 0
-pub record Bare (ws : List ℕ) : Type 0 where
-  pub reason : (x : ℕ) → x < 512 → getD ws (REASON + x) 0 ≡ 0
-  pub last : (x : ℕ) → x < 512 → getD ws (LAST + x) 0 ≡ 0
-  pub transitive : (x : ℕ) → x < 512 → getD ws (TKIND + x) 0 ≡ 0
-  pub local : (x : ℕ) → x < 512 → getD ws (LKIND + x) 0 ≡ 0
+-- the words of the records are 0
+abbrev pub Bare : List ℕ → Type 0
+Bare ws = (x : ℕ) → x < 512 → getD ws (RECORD + x) 0 ≡ 0
 
 bare-nodes : (ws : List ℕ) → Bare ws → Bare (take 3584 ws)
-bare-nodes ws z = record {
-  reason = λ x h. getD-take 3584 ws (2560 + x) 0 (omega arith) ∙ z .reason x h;
-  last = λ x h. getD-take 3584 ws (2048 + x) 0 (omega arith) ∙ z .last x h;
-  transitive = λ x h. getD-take 3584 ws (1024 + x) 0 (omega arith) ∙ z .transitive x h;
-  local = λ x h. getD-take 3584 ws (0 + x) 0 (omega arith) ∙ z .local x h;
-}
+bare-nodes ws z x h = getD-take 3584 ws (0 + x) 0 (omega arith) ∙ z x h
 
 no-record : (ns : List ℕ) → Bare ns → (x : ℕ) → x < 512 → recordAt ns x ≡ noRecord
 unfolding recordAt
-no-record ns z x h = rw (z .reason x h, z .last x h, z .transitive x h, z .local x h)
+no-record ns z x h = ap (λ (w : ℕ). recordIn w (getD ns (1536 + x) 0) (getD ns (512 + x) 0)) (z x h)
 
 no-records : (ns : List ℕ) → Bare ns → recordsOf ns ≡ replicate 512 noRecord
 unfolding recordsOf

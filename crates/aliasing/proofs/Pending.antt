@@ -37,7 +37,7 @@ pub kind-definite : (b : ℕ) → (b ≡ 0 → ⊥) → definite ≡ kindOf b
 kind-definite zero h = absurd (h refl)
 kind-definite (suc b) h = refl
 
-pub made : (w order span : ℕ) (errors : Bool) (kind : MutationKind) → kindSays kind ≡ kindOf (w / 1024 % 2)
+pub made : (w order span : ℕ) (errors : Bool) (kind : MutationKind) → w / 4096 < 134217728 → kindSays kind ≡ kindOf (w / 1024 % 2)
     → Made w order span errors (record {
       index = w / 4096;
       start = record { 0 = w % 512 };
@@ -49,13 +49,13 @@ pub made : (w order span : ℕ) (errors : Bool) (kind : MutationKind) → kindSa
       «should_record_errors» = errors;
     })
 unfolding mutationSays modeSays mutationOf
-made w order span errors kind k =
+made w order span errors kind low k =
     let e : order + 1 ≡ suc order = omega arith in
     let p : order + 1 - 1 ≡ order = omega arith in
     record {
       is = rw (p, k);
       how = ap (λ (n : ℕ). modeOf n errors) e;
-      callable = record { start = omega arith; quiet = λ z. absurd (omega (arith, z)) };
+      callable = record { start = omega arith; reason = omega arith; index = low; quiet = λ z. absurd (omega (arith, z)) };
     }
 
 -- ---- each order

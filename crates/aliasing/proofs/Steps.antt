@@ -292,7 +292,7 @@ module _ (m : Mutation) (base : ℕ) (ws : List ℕ) (top hand : ℕ) (ready : R
 
           records₃ : recordsOf (nodesOf ws₃) ≡ touched
           unfolding itemOf
-          records₃ = ap recordsOf nodes₃ ∙ accept-records (nodesOf ws) (nodes-length ws (ready .size)) (placeAt ws top) (transitiveAt ws top) (kindAt ws top) x-below k-below m
+          records₃ = ap recordsOf nodes₃ ∙ accept-records (nodesOf ws) (nodes-length ws (ready .size)) (placeAt ws top) (kindAt ws top) x-below k-below m (callable .reason) (transitiveAt ws top)
 
           state₃ : stateOf ws₃ h
               ≡ accepts (modeSays m) (mutationSays m) (placeAt ws top) (valueOf (value (rowsOf ws) (placeAt ws top))) (itemOf (last ws top) .transitive) (itemOf (last ws top) .kind) (stateOf ws hand)

@@ -1,30 +1,39 @@
 -- What accepting a node writes, in words.
-use Prim.Native.Nat.{ℕ, _+_, _-_}
+use Prim.Native.Nat.{ℕ, _+_, _-_, _*_, _/_, _%_, max}
 use mathlib.Core.Bool.{Bool}
 use mathlib.Core.List.{List, [], _∷_}
 use lib.ListN.{getD, set}
 use lib.Dec.{ltb, eqb}
 use Rattle.model.specs.Lists.{pick}
-use Rattle.rows.specs.Layout.{LKIND, TKIND, LAST, REASON, END}
+use Rattle.rows.specs.Layout.{RECORD, LSPAN, TSPAN, END}
 use Rattle.aliasing.specs.declared.Mutation.{Mutation}
 
 -- the word at `at` becomes the larger of itself and v
 unfoldable pub raiseW : List ℕ → ℕ → ℕ → List ℕ
 raiseW ws at v = pick (ltb (getD ws at 0) v) (set ws at v) ws
 
--- the word at `at` becomes v where it is 0
-unfoldable pub firstW : List ℕ → ℕ → ℕ → List ℕ
-firstW ws at v = pick (eqb (getD ws at 0) 0) (set ws at v) ws
+-- the word of a record: its kinds (0 is none, else the level), its reason and the largest index
+abbrev pub recordWord : ℕ → ℕ → ℕ → ℕ → ℕ
+recordWord local transitive reason last = local + 4 * transitive + 16 * reason + 32 * last
 
--- a record of a higher kind: the kind at `at`, its span 512 words further
-unfoldable pub recordW : List ℕ → ℕ → ℕ → ℕ → List ℕ
-recordW ws at level span = pick (ltb (getD ws at 0) level) (set (set ws at level) (at + 512) span) ws
+-- the record's word w once its node is accepted: the higher kind of the transitive or local record, the first reason, the largest index
+unfoldable pub keptWord : ℕ → ℕ → ℕ → ℕ → ℕ → ℕ
+keptWord w transitive level reason index =
+    recordWord (pick (eqb transitive 1) (w % 4) (max (w % 4) level)) (pick (eqb transitive 1) (max (w / 4 % 4) level) (w / 4 % 4)) (max (w / 16 % 2) reason) (max (w / 32) index)
 
--- an accepted node x: the first reason, the largest index and end, the transitive or local record
+-- the span at `at` becomes this one where the level is above the record's kind
+unfoldable pub spanW : List ℕ → ℕ → ℕ → ℕ → ℕ → List ℕ
+spanW ws at kind level span = pick (ltb kind level) (set ws at span) ws
+
+-- an accepted node x whose record's word is w: the largest end, the word, the span of the transitive or local record
+unfoldable pub writeW : ℕ → List ℕ → ℕ → ℕ → ℕ → Mutation → List ℕ
+writeW w ws x transitive level m =
+    spanW (set (raiseW ws (END + x) (m .end .0)) (RECORD + x) (keptWord w transitive level (m .reason) (m .index)))
+    (pick (eqb transitive 1) (TSPAN + x) (LSPAN + x)) (pick (eqb transitive 1) (w / 4 % 4) (w % 4)) level (m .span)
+
+-- an accepted node x
 unfoldable pub acceptW : List ℕ → ℕ → ℕ → ℕ → Mutation → List ℕ
-acceptW ws x transitive level m =
-    recordW (raiseW (raiseW (firstW ws (REASON + x) (m .reason)) (LAST + x) (m .index)) (END + x) (m .end .0))
-    (pick (eqb transitive 1) (TKIND + x) (LKIND + x)) level (m .span)
+acceptW ws x transitive level m = writeW (getD ws (RECORD + x) 0) ws x transitive level m
 
 -- the function of a node whose value is v, if it is a function node
 unfoldable pub functionW : ℕ → List ℕ
@@ -32,4 +41,4 @@ functionW v = pick (ltb v 3) [] ((v - 3) ∷ [])
 
 -- the function that x hands over: its value is v, and it has no record
 unfoldable pub handW : List ℕ → ℕ → ℕ → Bool → List ℕ
-handW ws v x errors = pick errors (pick (eqb (getD ws (LKIND + x) 0) 0) (pick (eqb (getD ws (TKIND + x) 0) 0) (functionW v) []) []) []
+handW ws v x errors = pick errors (pick (eqb (getD ws (RECORD + x) 0 % 16) 0) (functionW v) []) []

@@ -1,5 +1,5 @@
 -- What the workspace stands for: the state that mutations run on (document 01, "Walks").
-use Prim.Native.Nat.{ℕ, zero, suc, _+_, _-_, _≤_, _<_}
+use Prim.Native.Nat.{ℕ, zero, suc, _+_, _-_, _/_, _%_, _≤_, _<_}
 use mathlib.Core.Bool.{not}
 use mathlib.Core.List.{List}
 use mathlib.Core.Option.{Option, none, some}
@@ -8,7 +8,7 @@ use lib.Seq.{slice}
 use Rattle.model.specs.Lists.{tally, oneIf}
 use Rattle.model.specs.Mutation.{reasonOf}
 use Rattle.model.specs.State.{Info, Record, hasRecord, State}
-use Rattle.rows.specs.Layout.{LKIND, LSPAN, TKIND, TSPAN, LAST, REASON, END, SEEN, VALUE, HANDED, MUTATIONS}
+use Rattle.rows.specs.Layout.{RECORD, LSPAN, TSPAN, END, SEEN, VALUE, HANDED, MUTATIONS}
 use Rattle.rows.specs.Rows.{rowsOf}
 use Rattle.rows.specs.Graph.{tab, graphOfRows}
 use Rattle.rows.specs.Pending.{kindOf}
@@ -29,19 +29,23 @@ levels base seen = tab 512 (λ (x : ℕ). getD seen x 0 - base)
 pub record NoneAbove (most : ℕ) (ws : List ℕ) : Type 0 where
   pub marks : (x : ℕ) → x < 512 → getD (seenOf ws) x 0 ≤ most
 
--- a record by the words of its kind (0 is none, else the level) and its span
+-- a record by its kind (0 is none, else the level) and the word of its span
 abbrev pub infoOf : ℕ → ℕ → Option Info
 infoOf zero span = none
 infoOf (suc k) span = some (record { kind = kindOf k; span = span })
 
+-- what a record's word and its spans, the transitive and the local, keep
+abbrev pub recordIn : ℕ → ℕ → ℕ → Record
+recordIn w ts ls = record {
+  reason = reasonOf (w / 16 % 2);
+  last = w / 32;
+  transitive = infoOf (w / 4 % 4) ts;
+  local = infoOf (w % 4) ls;
+}
+
 -- what the fields keep of x
 unfoldable pub recordAt : List ℕ → ℕ → Record
-recordAt ns x = record {
-  reason = reasonOf (getD ns (REASON + x) 0);
-  last = getD ns (LAST + x) 0;
-  transitive = infoOf (getD ns (TKIND + x) 0) (getD ns (TSPAN + x) 0);
-  local = infoOf (getD ns (LKIND + x) 0) (getD ns (LSPAN + x) 0);
-}
+recordAt ns x = recordIn (getD ns (RECORD + x) 0) (getD ns (TSPAN + x) 0) (getD ns (LSPAN + x) 0)
 
 -- the records of all identifiers
 unfoldable pub recordsOf : List ℕ → List Record

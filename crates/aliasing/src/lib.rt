@@ -1,6 +1,6 @@
 // The walk of a mutation over the graph in the lent workspace (the original's `mutate`), and the loop over the pending mutations.
 ghost use mathlib.Core.Path.{_≡_};
-ghost use Prim.Native.Nat.{_+_, _-_, _*_, _≤_, _<_};
+ghost use Prim.Native.Nat.{_+_, _-_, _*_, _≤_, _<_, max};
 ghost use lib.ListN.{length, getD};
 ghost use Rattle.model.specs.Limits.{mostOrder};
 ghost use Rattle.rows.specs.Layout.{LEAST, MUTATIONS, QUEUE, VALUE};
@@ -9,7 +9,7 @@ ghost use Rattle.pushes.specs.Pushes.{Pushed};
 ghost use Rattle.rows.specs.Pending.{kindOf};
 ghost use Rattle.aliasing.specs.Says.{bit, kindBit, kindSays};
 ghost use Rattle.aliasing.specs.State.{Handing, NoneAbove};
-ghost use Rattle.aliasing.specs.Accepts.{raiseW, firstW, recordW, acceptW, functionW, handW};
+ghost use Rattle.aliasing.specs.Accepts.{raiseW, keptWord, spanW, acceptW, functionW, handW};
 ghost use Rattle.aliasing.specs.Walks.{Ready, Callable, Stepped, Walked, Mutated};
 ghost use Rattle.aliasing.specs.Pending.{Pending, Made, Processed};
 use hir::EvaluationOrder;
@@ -18,13 +18,12 @@ use pushes::entry;
 use pushes::push_all;
 use rows::END;
 use rows::HANDED;
-use rows::LAST;
-use rows::LKIND;
+use rows::LSPAN;
 use rows::MUTATIONS;
 use rows::QUEUE;
-use rows::REASON;
+use rows::RECORD;
 use rows::SEEN;
-use rows::TKIND;
+use rows::TSPAN;
 use rows::VALUE;
 use rows::clear;
 
@@ -79,40 +78,50 @@ fn raise_end(ws: &mut [u32], at: usize, end: EvaluationOrder)
     raise(ws, at, end.0);
 }
 
-// ws[at] becomes v where it is 0.
-fn first(ws: &mut [u32], at: usize, v: u32)
-    requires { ⌜ at < length (now ws) ⌝ }
-    ensures { λ _. ⌜ now (ws .exit) ≡ firstW (now (ws .entry)) at v ⌝ }
+// The larger of two.
+fn larger(a: u32, b: u32) -> u32
+    ensures { λ r. ⌜ r ≡ max a b ⌝ }
 {
-    if ws[at] == 0 {
-        ws[at] = v;
+    if a < b { b } else { a }
+}
+
+// The word of a record: the higher kind of the transitive or local one, the first reason and the largest index.
+fn kept(w: u32, transitive: u32, level: u32, reason: u32, index: u32) -> u32
+    requires { ⌜ (level < 4) × ((reason < 2) × (index < 134217728)) ⌝ }
+    ensures { λ r. ⌜ r ≡ keptWord w transitive level reason index ⌝ }
+{
+    let rest = 16 * larger(w / 16 % 2, reason) + 32 * larger(w / 32, index);
+    if transitive == 1 {
+        w % 4 + 4 * larger(w / 4 % 4, level) + rest
+    } else {
+        larger(w % 4, level) + 4 * (w / 4 % 4) + rest
     }
 }
 
-// A record of a higher kind replaces the one there: its level at `at`, its span 512 words further.
-fn record_kind(ws: &mut [u32], at: usize, level: u32, span: u32)
-    requires { ⌜ at + 512 < length (now ws) ⌝ }
-    ensures { λ _. ⌜ now (ws .exit) ≡ recordW (now (ws .entry)) at level span ⌝ }
+// The span of a record whose kind was below the level.
+fn record_span(ws: &mut [u32], at: usize, kind: u32, level: u32, span: u32)
+    requires { ⌜ at < length (now ws) ⌝ }
+    ensures { λ _. ⌜ now (ws .exit) ≡ spanW (now (ws .entry)) at kind level span ⌝ }
 {
-    if ws[at] < level {
-        ws[at] = level;
-        ws[at + 512] = span;
+    if kind < level {
+        ws[at] = span;
     }
 }
 
 // What an accepted node keeps of the mutation.
 fn accept(ws: &mut [u32], x: usize, transitive: u32, level: u32, m: Mutation)
-    requires { ⌜ (x < 512) × (LEAST ≤ length (now ws)) ⌝ }
+    requires { ⌜ (x < 512) × ((LEAST ≤ length (now ws)) × (level < 4)) ⌝ }
+    requires { ⌜ Callable m ⌝ }
     ensures { λ _. ⌜ now (ws .exit) ≡ acceptW (now (ws .entry)) x transitive level m ⌝ }
 {
     let end = m.end;
-    first(ws, REASON + x, m.reason);
-    raise(ws, LAST + x, m.index);
+    let w = ws[RECORD + x];
     raise_end(ws, END + x, end);
+    ws[RECORD + x] = kept(w, transitive, level, m.reason, m.index);
     if transitive == 1 {
-        record_kind(ws, TKIND + x, level, m.span);
+        record_span(ws, TSPAN + x, w / 4 % 4, level, m.span);
     } else {
-        record_kind(ws, LKIND + x, level, m.span);
+        record_span(ws, LSPAN + x, w % 4, level, m.span);
     }
 }
 
@@ -135,10 +144,8 @@ fn record_errors(ws: &mut [u32], x: usize, errors: bool, hand: usize) -> usize
     ensures { λ r. ⌜ Pushed (now (ws .entry)) hand (handW (now (ws .entry)) (getD (now (ws .entry)) (VALUE + x) 0) x errors) (now (ws .exit)) r ⌝ }
 {
     if errors {
-        if ws[LKIND + x] == 0 {
-            if ws[TKIND + x] == 0 {
-                return append_function_errors(ws, x, hand);
-            }
+        if ws[RECORD + x] % 16 == 0 {
+            return append_function_errors(ws, x, hand);
         }
     }
     hand

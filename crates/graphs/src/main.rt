@@ -12,13 +12,10 @@ use libc::STDIN_FILENO;
 use libc::STDOUT_FILENO;
 use rows::END;
 use rows::HANDED;
-use rows::LAST;
-use rows::LKIND;
 use rows::LSPAN;
 use rows::MUTATIONS;
-use rows::REASON;
+use rows::RECORD;
 use rows::RENDERS;
-use rows::TKIND;
 use rows::TSPAN;
 
 // How many graphs, walks, renders and differences there were.
@@ -112,20 +109,14 @@ fn taken(c: Comparison, graph: &[u32], ws: &[u32], count: usize) -> Comparison
     r
 }
 
-// A word of the workspace comes next, and then the one 512 words further.
-fn pair(c: Comparison, graph: &[u32], ws: &[u32], at: usize) -> Comparison
-    requires { ⌜ (16384 ≤ length (now ws)) × (at < 3072) ⌝ }
-{
-    c.word(graph, ws[at]).word(graph, ws[at + 512])
-}
-
 // The local record of x, its transitive one, its largest index and reason, and its end come next.
 fn node(c: Comparison, graph: &[u32], ws: &[u32], x: usize) -> Comparison
     requires { ⌜ (16384 ≤ length (now ws)) × (x < 512) ⌝ }
 {
-    let local = pair(c, graph, ws, LKIND + x);
-    let both = pair(local, graph, ws, TKIND + x);
-    let last = pair(both, graph, ws, LAST + x);
+    let w = ws[RECORD + x];
+    let local = c.word(graph, w % 4).word(graph, ws[LSPAN + x]);
+    let both = local.word(graph, w / 4 % 4).word(graph, ws[TSPAN + x]);
+    let last = both.word(graph, w / 32).word(graph, w / 16 % 2);
     last.word(graph, ws[END + x])
 }
 
@@ -133,11 +124,8 @@ fn node(c: Comparison, graph: &[u32], ws: &[u32], x: usize) -> Comparison
 fn bare(c: Comparison, ws: &[u32], x: usize) -> Comparison
     requires { ⌜ (16384 ≤ length (now ws)) × (x < 512) ⌝ }
 {
-    let local = c.zero(ws[LKIND + x]).zero(ws[LSPAN + x]);
-    let both = local.zero(ws[TKIND + x]).zero(ws[TSPAN + x]);
-    both.zero(ws[LAST + x])
-        .zero(ws[REASON + x])
-        .zero(ws[END + x])
+    let spans = c.zero(ws[LSPAN + x]).zero(ws[TSPAN + x]);
+    spans.zero(ws[RECORD + x]).zero(ws[END + x])
 }
 
 // The records and the ends of all identifiers.
@@ -297,7 +285,7 @@ fn graph(graph: &[u32], ws: &mut [u32]) -> Tally
         return one_graph(0, 0, 1);
     }
     let identifiers = count_at(graph, ends);
-    rows::clear(ws, LKIND, 3584);
+    rows::clear(ws, RECORD, 3584);
     put_ends(graph, ends + 1, identifiers, ws);
     let p = steps::lay_out_steps(&graph[1..ends], ws);
     walks(

@@ -16,7 +16,7 @@ use Rattle.model.specs.Building.{block as blockStep}
 use Rattle.model.specs.Call.{IsSheet}
 use Rattle.model.proofs.WhenRead.{read-got}
 use Rattle.hir.specs.Says.{placeIs}
-use Rattle.rows.specs.Layout.{LEAST, LKIND, TKIND, LAST, END, SEEN}
+use Rattle.rows.specs.Layout.{LEAST, RECORD, END, SEEN}
 use Rattle.rows.specs.Sort.{clearW}
 use Rattle.building.specs.declared.Building.{Building}
 use Rattle.building.specs.Built.{LaysOut, Sound}
@@ -47,9 +47,9 @@ is-read sheet {s} is = read-got sheet s (is .0) (is .1) .0
 is-within : (sheet : List ℕ) {s : Sheet} → IsSheet sheet s → over (totals s) ≡ false
 is-within sheet {s} is = read-got sheet s (is .0) (is .1) .1
 
--- the three clearings
-pub cleared : (ws₀ : List ℕ) {ws₁ ws₂ ws : List ℕ} → ws₁ ≡ clearW ws₀ LKIND 512 → ws₂ ≡ clearW ws₁ TKIND 512 → ws ≡ clearW ws₂ LAST 1536 → ws ≡ clearedW ws₀
-cleared ws₀ p q r = r ∙ ap (λ (z : List ℕ). clearW z 2048 1536) (q ∙ ap (λ (z : List ℕ). clearW z 1024 512) p)
+-- the two clearings
+pub cleared : (ws₀ : List ℕ) {ws₁ ws : List ℕ} → ws₁ ≡ clearW ws₀ RECORD 512 → ws ≡ clearW ws₁ END 512 → ws ≡ clearedW ws₀
+cleared ws₀ p q = q ∙ ap (λ (z : List ℕ). clearW z 3072 512) p
 
 pub cleared-size : (ws₀ : List ℕ) {ws : List ℕ} → LEAST ≤ length ws₀ → ws ≡ clearedW ws₀ → LEAST ≤ length ws
 cleared-size ws₀ h e = omega (arith, h, cleared-same ws₀, ap (λ (z : List ℕ). length z) e)

@@ -14,7 +14,7 @@ use Rattle.model.specs.Mutation.{Mutation, RenderOf}
 use Rattle.model.specs.Built.{Built}
 use Rattle.model.specs.Building.{build}
 use Rattle.model.specs.Summary.{sheetEnds, built}
-use Rattle.rows.specs.Layout.{LEAST, LKIND, TKIND, LAST, END, SEEN, FBOUND, QUEUE, HANDED, FUNCTIONS}
+use Rattle.rows.specs.Layout.{LEAST, RECORD, END, SEEN, FBOUND, QUEUE, HANDED, FUNCTIONS}
 use Rattle.rows.specs.Rows.{Kept, rowsOf}
 use Rattle.rows.specs.Sort.{clearW}
 use Rattle.rows.specs.Graph.{graphOfRows}
@@ -59,55 +59,34 @@ module _ (ws : List ℕ) (a n : ℕ) (h : a + n ≤ length ws) where
       ∙ sym (append-assoc (take a ws) (zeros k) (zeros m ++ after)) in
       ap (λ (l : List ℕ). take m (drop (a + k) l)) w ∙ ap (take m) (drop-at before (zeros m ++ after) (a + k) count) ∙ take-at (zeros m) after m (length-replicate m 0)
 
-  -- words written over some of them, after k, up to the last
-  written : (k : ℕ) (vs : List ℕ) (m : ℕ) → k + length vs + m ≡ n → slice (a + k) (a + n) (sets (clearW ws a n) (a + k) vs) ≡ vs ++ zeros m
-  written k vs m e =
+  -- words written over the first of them
+  written : (vs : List ℕ) (m : ℕ) → length vs + m ≡ n → slice a (a + n) (sets (clearW ws a n) a vs) ≡ vs ++ zeros m
+  written vs m e =
       let l : List ℕ = clearW ws a n in
       let same : length l ≡ length ws = kept-clear ws a n .same in
-      let p : List ℕ = take (a + k) l in
-      let q : List ℕ = drop (a + k + length vs) l in
-      let c : length p ≡ a + k = length-take-le (a + k) l (omega (arith, same, h, e)) in
-      let s : sets l (a + k) vs ≡ p ++ (vs ++ q) = sets-eq vs l (a + k) (omega (arith, same, h, e)) ∙ append-assoc p vs q in
+      let p : List ℕ = take a l in
+      let q : List ℕ = drop (a + length vs) l in
+      let c : length p ≡ a = length-take-le a l (omega (arith, same, h, e)) in
+      let s : sets l a vs ≡ p ++ (vs ++ q) = sets-eq vs l a (omega (arith, same, h, e)) ∙ append-assoc p vs q in
       let t : a + n ≡ length p + (length vs + m) = omega (arith, c, e) in
-      let u : a + k + length vs ≡ a + (k + length vs) = omega arith in
-      ap (λ (z : List ℕ). drop (a + k) (take (a + n) z)) s
-      ∙ ap (λ (i : ℕ). drop (a + k) (take i (p ++ (vs ++ q)))) t
-      ∙ ap (drop (a + k)) (take-append-add p (vs ++ q) (length vs + m))
-      ∙ drop-at p (take (length vs + m) (vs ++ q)) (a + k) c
+      ap (λ (z : List ℕ). drop a (take (a + n) z)) s
+      ∙ ap (λ (i : ℕ). drop a (take i (p ++ (vs ++ q)))) t
+      ∙ ap (drop a) (take-append-add p (vs ++ q) (length vs + m))
+      ∙ drop-at p (take (length vs + m) (vs ++ q)) a c
       ∙ take-append-add vs q m
-      ∙ ap (λ (i : ℕ). vs ++ take m (drop i l)) u
-      ∙ ap (λ (z : List ℕ). vs ++ z) (cleared-part (k + length vs) m e)
+      ∙ ap (λ (z : List ℕ). vs ++ z) (cleared-part (length vs) m e)
 
--- ---- the fields of the nodes but the spans cleared
-abbrev kindsW : List ℕ → List ℕ
-kindsW ws = clearW (clearW ws LKIND 512) TKIND 512
-
+-- ---- the records' words and the ends cleared
 abbrev pub clearedW : List ℕ → List ℕ
-clearedW ws = clearW (kindsW ws) LAST 1536
+clearedW ws = clearW (clearW ws RECORD 512) END 512
 
 pub cleared-same : (ws : List ℕ) → length (clearedW ws) ≡ length ws
-cleared-same ws = kept-clear (kindsW ws) 2048 1536 .same ∙ kept-clear (clearW ws 0 512) 1024 512 .same ∙ kept-clear ws 0 512 .same
+cleared-same ws = kept-clear (clearW ws 0 512) 3072 512 .same ∙ kept-clear ws 0 512 .same
 
-module _ (ws : List ℕ) (size : LEAST ≤ length ws) where
-  local-size : LEAST ≤ length (clearW ws LKIND 512)
-  local-size = omega (arith, size, kept-clear ws 0 512 .same)
-
-  kinds-size : LEAST ≤ length (kindsW ws)
-  kinds-size = omega (arith, local-size, kept-clear (clearW ws 0 512) 1024 512 .same)
-
-  kinds-kept : (i : ℕ) → i < LAST → getD (clearedW ws) i 0 ≡ getD (kindsW ws) i 0
-  kinds-kept i h = take-word 2048 i (kindsW ws) (clearedW ws) h (kept-clear (kindsW ws) 2048 1536 .low)
-
-  cleared-bare : Bare (clearedW ws)
-  cleared-bare = record {
-    reason = λ x h. let e : 2560 + x ≡ 2048 + (512 + x) = omega arith in
-        ap (λ (i : ℕ). getD (clearedW ws) i 0) e ∙ clear-at (kindsW ws) 2048 1536 (512 + x) (omega (arith, kinds-size)) (omega (arith, h));
-    last = λ x h. clear-at (kindsW ws) 2048 1536 x (omega (arith, kinds-size)) (omega (arith, h));
-    transitive = λ x h. kinds-kept (1024 + x) (omega (arith, h)) ∙ clear-at (clearW ws 0 512) 1024 512 x (omega (arith, local-size)) h;
-    local = λ x h. kinds-kept (0 + x) (omega (arith, h))
-        ∙ take-word 1024 (0 + x) (clearW ws 0 512) (kindsW ws) (omega (arith, h)) (kept-clear (clearW ws 0 512) 1024 512 .low)
-        ∙ clear-at ws 0 512 x (omega (arith, size)) h;
-  }
+cleared-bare : (ws : List ℕ) → LEAST ≤ length ws → Bare (clearedW ws)
+cleared-bare ws size x h =
+    take-word 3072 (0 + x) (clearW ws 0 512) (clearedW ws) (omega (arith, h)) (kept-clear (clearW ws 0 512) 3072 512 .low)
+    ∙ clear-at ws 0 512 x (omega (arith, size)) h
 
 -- ---- the sheet's ends in the words
 module _ (ws₀ : List ℕ) (ids : List Identifier) (few : length ids ≤ 512) (size : LEAST ≤ length ws₀) (ws : List ℕ)
@@ -122,7 +101,7 @@ module _ (ws₀ : List ℕ) (ids : List Identifier) (few : length ids ≤ 512) (
   unfolding sheetEnds
   ends-stand =
       slice-take 3584 3072 3584 ws (sets (clearedW ws₀) 3072 ends) (omega arith) low
-      ∙ written (kindsW ws₀) 2048 1536 (omega (arith, kinds-size ws₀ size)) 1024 ends (512 - length ids) (omega (arith, count, few))
+      ∙ written (clearW ws₀ 0 512) 3072 512 (omega (arith, size, kept-clear ws₀ 0 512 .same)) ends (512 - length ids) (omega (arith, count, few))
 
   before-ends : (i : ℕ) → i < END → getD ws i 0 ≡ getD (clearedW ws₀) i 0
   before-ends i h =
@@ -130,12 +109,7 @@ module _ (ws₀ : List ℕ) (ids : List Identifier) (few : length ids ≤ 512) (
       ∙ take-word 3072 i (clearedW ws₀) (sets (clearedW ws₀) 3072 ends) h (take-sets 3072 ends (clearedW ws₀) 3072 (omega arith))
 
   bare : Bare ws
-  bare = let z = cleared-bare ws₀ size in record {
-    reason = λ x h. before-ends (2560 + x) (omega (arith, h)) ∙ z .reason x h;
-    last = λ x h. before-ends (2048 + x) (omega (arith, h)) ∙ z .last x h;
-    transitive = λ x h. before-ends (1024 + x) (omega (arith, h)) ∙ z .transitive x h;
-    local = λ x h. before-ends (0 + x) (omega (arith, h)) ∙ z .local x h;
-  }
+  bare x h = before-ends (0 + x) (omega (arith, h)) ∙ cleared-bare ws₀ size x h
 
 module _ (s : Sheet) (sheet : List ℕ) (d : Position) (is : sheetReader sheet 0 ≡ got s d) (f : HirFunction) (b : Building) (ws₀ ws₁ ws₂ ws₃ : List ℕ) where
   module _ (describes : Describes s sheet f) (limited : Limited f) (stands : Stands s sheet ws₁) (size : LEAST ≤ length ws₀)

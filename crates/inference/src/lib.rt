@@ -16,10 +16,8 @@ use instructions::BuildStep;
 use parameters::FunctionStep;
 use parameters::read_function;
 use reading::Verdict;
-use rows::LAST;
-use rows::LKIND;
-use rows::SEEN;
-use rows::TKIND;
+use rows::END;
+use rows::RECORD;
 use rows::clear;
 use simulation::put_effects;
 use summary::ranges::put_ranges;
@@ -32,15 +30,14 @@ pub enum Outcome {
     Accepted(usize),
 }
 
-// Part 1: builds the data flow graph and lays it out for the walks. The spans are not cleared: a record whose kind is 0 is none.
+// Part 1: builds the data flow graph and lays it out for the walks. The spans are not cleared: a record whose word is 0 is none.
 fn build(sheet: &[u32], ws: &mut [u32]) -> FunctionStep
     requires { ⌜ 16384 ≤ length (now ws) ⌝ }
     requires { ⌜ ((s : Sheet) × IsSheet (now sheet) s) ⌝ }
     ensures { λ r. ⌜ Prepares (now (sheet .entry)) (now (ws .entry)) (now (ws .exit)) r ⌝ }
 {
-    clear(ws, LKIND, 512);
-    clear(ws, TKIND, 512);
-    clear(ws, LAST, SEEN - LAST);
+    clear(ws, RECORD, 512);
+    clear(ws, END, 512);
     let FunctionStep::Got(f, first) = read_function(sheet, ws) else {
         return FunctionStep::Refused;
     };

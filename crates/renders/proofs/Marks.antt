@@ -1,18 +1,19 @@
 -- The marks of a render walk, whom it passes by, and the room for the functions handed over.
-use Prim.Native.Nat.{ℕ, zero, suc, _+_, _-_, _≤_, _<_}
+use Prim.Native.Nat.{ℕ, zero, suc, _+_, _-_, _%_, _≤_, _<_}
 use native.Mathlib.Omega.{arith}
-use mathlib.Core.Bool.{Bool, true, false, _||_, false≢true, true≢false}
+use mathlib.Core.Bool.{Bool, true, false, not, true≢false}
 use mathlib.Core.List.{List, [], _∷_, map}
 use mathlib.Core.Logic.{_⊎_, inl, inr}
-use mathlib.Core.Path.{_≡_, refl, ap}
+use mathlib.Core.Path.{_≡_, refl, ap, _∙_}
 use lib.ListN.{length, getD, set, replicate, List·getD-map}
 use lib.Dec.{eqb, ltb}
 use borrow.Author.Tests.{eq-eqb, ne-eqb}
-use Rattle.model.specs.Lists.{pick, isSome, oneIf}
+use Rattle.model.specs.Lists.{pick, oneIf}
 use Rattle.model.specs.State.{noRecord, hasRecord}
 use Rattle.rows.proofs.Tables.{tab-at}
-use Rattle.aliasing.specs.State.{infoOf, recordAt, recordsOf}
+use Rattle.aliasing.specs.State.{recordAt, recordsOf}
 use Rattle.aliasing.specs.Accepts.{functionW}
+use Rattle.aliasing.proofs.Packed.{has-word}
 use Rattle.renders.specs.Renders.{passesW, taken, unseen}
 
 -- ---- marks as truth values
@@ -35,21 +36,17 @@ pub not-taken : (w : ℕ) → w ≤ 0 → taken w ≡ false
 not-taken w h = let e : w ≡ 0 = omega arith in rw e
 
 -- ---- whom it passes by
-pub passes-true : (v l ls t ts : ℕ) → passesW v l t ≡ true → (v ≡ 0) ⊎ ((isSome (infoOf t ts) || isSome (infoOf l ls)) ≡ true)
-passes-true zero l ls t ts h = inl refl
-passes-true (suc v) zero ls zero ts h = absurd (false≢true (rw (ne-eqb (suc v) 0 (λ e. omega (arith, e))) at h))
-passes-true (suc v) (suc l) ls zero ts h = inr refl
-passes-true (suc v) l ls (suc t) ts h = inr refl
+pub passes-true : (v w : ℕ) → passesW v w ≡ true → (v ≡ 0) ⊎ (not (eqb (w % 16) 0) ≡ true)
+passes-true zero w h = inl refl
+passes-true (suc v) w h = inr (rw (ne-eqb (suc v) 0 (λ e. omega (arith, e))) at h)
 
-pub passes-false : (v l ls t ts : ℕ) → passesW v l t ≡ false → (v ≡ 0 → ⊥) × ((isSome (infoOf t ts) || isSome (infoOf l ls)) ≡ false)
-passes-false zero l ls t ts h = absurd (true≢false h)
-passes-false (suc v) zero ls zero ts h = (λ e. omega (arith, e), refl)
-passes-false (suc v) (suc l) ls t ts h = absurd (true≢false (rw (ne-eqb (suc v) 0 (λ e. omega (arith, e)), ne-eqb (suc l) 0 (λ e. omega (arith, e))) at h))
-passes-false (suc v) zero ls (suc t) ts h = absurd (true≢false (rw (ne-eqb (suc v) 0 (λ e. omega (arith, e)), ne-eqb (suc t) 0 (λ e. omega (arith, e))) at h))
+pub passes-false : (v w : ℕ) → passesW v w ≡ false → (v ≡ 0 → ⊥) × (not (eqb (w % 16) 0) ≡ false)
+passes-false zero w h = absurd (true≢false h)
+passes-false (suc v) w h = (λ e. omega (arith, e), rw (ne-eqb (suc v) 0 (λ e. omega (arith, e))) at h)
 
-pub has-record : (ns : List ℕ) (x : ℕ) → x < 512 → hasRecord (getD (recordsOf ns) x noRecord) ≡ (isSome (infoOf (getD ns (1024 + x) 0) (getD ns (1536 + x) 0)) || isSome (infoOf (getD ns (0 + x) 0) (getD ns (512 + x) 0)))
+pub has-record : (ns : List ℕ) (x : ℕ) → x < 512 → hasRecord (getD (recordsOf ns) x noRecord) ≡ not (eqb (getD ns (0 + x) 0 % 16) 0)
 unfolding recordsOf recordAt
-has-record ns x h = ap hasRecord (tab-at 512 (recordAt ns) x noRecord h)
+has-record ns x h = ap hasRecord (tab-at 512 (recordAt ns) x noRecord h) ∙ has-word (getD ns (0 + x) 0) (getD ns (1536 + x) 0) (getD ns (512 + x) 0)
 
 -- ---- room
 pub unseen-top : (l : List ℕ) → unseen l ≤ length l

@@ -1,14 +1,14 @@
 -- One entry of a render walk taken: the three ways that a step ends.
-use Prim.Native.Nat.{ℕ, _+_, _-_, _≤_, _<_}
+use Prim.Native.Nat.{ℕ, _+_, _-_, _%_, _≤_, _<_}
 use native.Mathlib.Omega.{arith}
-use mathlib.Core.Bool.{Bool, true, false, _||_}
+use mathlib.Core.Bool.{Bool, true, false, not}
 use mathlib.Core.List.{List, [], _∷_, _++_, map, reverseAux}
 use mathlib.Core.Logic.{_⊎_, ⊎-map}
 use mathlib.Core.Option.{none}
 use mathlib.Core.Path.{_≡_, refl, sym, ap, subst, _∙_}
 use lib.ListN.{length, getD, set, take}
 use lib.Seq.{slice, getD-set-other, getD-take}
-use Rattle.model.specs.Lists.{isSome}
+use lib.Dec.{eqb}
 use Rattle.model.specs.Graph.{Node, nodeAt}
 use Rattle.model.specs.State.{noRecord, hasRecord, functionOf, State}
 use Rattle.model.specs.Renders.{RenderWalk, renderPushes, handOver, passBy, renderNode, renderStep}
@@ -18,7 +18,7 @@ use Rattle.rows.proofs.Rows.{value-at, rows-length}
 use Rattle.rows.proofs.Parts.{drop-more}
 use Rattle.pushes.specs.Pushes.{Pushed, Room, deg}
 use Rattle.pushes.proofs.Pushes.{pushed-part, pushed-kept}
-use Rattle.aliasing.specs.State.{infoOf, nodesOf, seenOf, recordsOf, endsOf, stateOf}
+use Rattle.aliasing.specs.State.{nodesOf, seenOf, recordsOf, endsOf, stateOf}
 use Rattle.aliasing.specs.Accepts.{functionW}
 use Rattle.aliasing.specs.Potential.{phi}
 use Rattle.aliasing.proofs.Hands.{function-is}
@@ -37,15 +37,9 @@ shows-to : {ws : List ℕ} {top hand : ℕ} (w v : RenderWalk) → Shows ws top 
 shows-to {ws} {top} {hand} w v s p = subst (Shows ws top hand) (sym p) s
 
 -- ---- the state by its parts
-record-at : (ws : List ℕ) (hand x : ℕ) → x < 512
-    → hasRecord (getD (stateOf ws hand .records) x noRecord) ≡ (isSome (infoOf (getD ws (1024 + x) 0) (getD ws (1536 + x) 0)) || isSome (infoOf (getD ws (0 + x) 0) (getD ws (512 + x) 0)))
+record-at : (ws : List ℕ) (hand x : ℕ) → x < 512 → hasRecord (getD (stateOf ws hand .records) x noRecord) ≡ not (eqb (getD ws (0 + x) 0 % 16) 0)
 unfolding stateOf nodesOf
-record-at ws hand x h =
-    let a : getD (take 3584 ws) (1024 + x) 0 ≡ getD ws (1024 + x) 0 = getD-take 3584 ws (1024 + x) 0 (omega arith) in
-    let b : getD (take 3584 ws) (1536 + x) 0 ≡ getD ws (1536 + x) 0 = getD-take 3584 ws (1536 + x) 0 (omega arith) in
-    let c : getD (take 3584 ws) (0 + x) 0 ≡ getD ws (0 + x) 0 = getD-take 3584 ws (0 + x) 0 (omega arith) in
-    let d : getD (take 3584 ws) (512 + x) 0 ≡ getD ws (512 + x) 0 = getD-take 3584 ws (512 + x) 0 (omega arith) in
-    has-record (take 3584 ws) x h ∙ rw (a, b, c, d)
+record-at ws hand x h = has-record (take 3584 ws) x h ∙ ap (λ (w : ℕ). not (eqb (w % 16) 0)) (getD-take 3584 ws (0 + x) 0 (omega arith))
 
 state-more : (ws ws′ : List ℕ) (hand hand′ : ℕ) (fs : List ℕ) → rowsOf ws′ ≡ rowsOf ws → nodesOf ws′ ≡ nodesOf ws → slice 13315 hand′ ws′ ≡ slice 13315 hand ws ++ fs → stateOf ws′ hand′ ≡ handOver fs (stateOf ws hand)
 unfolding stateOf
@@ -97,14 +91,10 @@ module _ (index : ℕ) (ws : List ℕ) (top hand : ℕ) (ready : Ready ws top ha
     value-kept : getD marked (4096 + placeAt ws top) 0 ≡ value (rowsOf ws) (placeAt ws top)
     value-kept = word-kept (4096 + placeAt ws top) (λ e. omega (arith, e)) ∙ sym (value-at ws (ready .size) (placeAt ws top) x-below)
 
-    passes-is : passesW (getD marked (4096 + placeAt ws top) 0) (getD marked (0 + placeAt ws top) 0) (getD marked (1024 + placeAt ws top) 0)
-        ≡ passesW (value (rowsOf ws) (placeAt ws top)) (getD ws (0 + placeAt ws top) 0) (getD ws (1024 + placeAt ws top) 0)
+    passes-is : passesW (getD marked (4096 + placeAt ws top) 0) (getD marked (0 + placeAt ws top) 0) ≡ passesW (value (rowsOf ws) (placeAt ws top)) (getD ws (0 + placeAt ws top) 0)
     passes-is =
-        let a : getD marked (0 + placeAt ws top) 0 ≡ getD ws (0 + placeAt ws top) 0 = word-kept (0 + placeAt ws top) (λ e. omega (arith, e)) in
-        let b : getD marked (1024 + placeAt ws top) 0 ≡ getD ws (1024 + placeAt ws top) 0 = word-kept (1024 + placeAt ws top) (λ e. omega (arith, e)) in
-        ap (λ (v : ℕ). passesW v (getD marked (0 + placeAt ws top) 0) (getD marked (1024 + placeAt ws top) 0)) value-kept
-        ∙ ap (λ (l : ℕ). passesW (value (rowsOf ws) (placeAt ws top)) l (getD marked (1024 + placeAt ws top) 0)) a
-        ∙ ap (passesW (value (rowsOf ws) (placeAt ws top)) (getD ws (0 + placeAt ws top) 0)) b
+        ap (λ (v : ℕ). passesW v (getD marked (0 + placeAt ws top) 0)) value-kept
+        ∙ ap (passesW (value (rowsOf ws) (placeAt ws top))) (word-kept (0 + placeAt ws top) (λ e. omega (arith, e)))
 
     not-seen : getD (seenOf ws) (placeAt ws top) 0 ≡ 0
     not-seen = omega (arith, seen-at ws (placeAt ws top) x-below)
@@ -123,13 +113,12 @@ module _ (index : ℕ) (ws : List ℕ) (top hand : ℕ) (ready : Ready ws top ha
       remembered = mark-set (seenOf ws) (placeAt ws top) ∙ ap (λ (l : List Bool). set l (placeAt ws top) true) (s .seen)
 
     -- ---- passed by
-    module _ (passed : passesW (getD marked (4096 + placeAt ws top) 0) (getD marked (0 + placeAt ws top) 0) (getD marked (1024 + placeAt ws top) 0) ≡ true) where
+    module _ (passed : passesW (getD marked (4096 + placeAt ws top) 0) (getD marked (0 + placeAt ws top) 0) ≡ true) where
       why : (nodeAt (stateOf ws hand .graph) (placeAt ws top) ≡ none) ⊎ (hasRecord (getD (stateOf ws hand .records) (placeAt ws top) noRecord) ≡ true)
       why =
           ⊎-map (λ (e : value (rowsOf ws) (placeAt ws top) ≡ 0). graph-missing ws hand (placeAt ws top) x-below e)
-          (λ (e : (isSome (infoOf (getD ws (1024 + placeAt ws top) 0) (getD ws (1536 + placeAt ws top) 0)) || isSome (infoOf (getD ws (0 + placeAt ws top) 0) (getD ws (512 + placeAt ws top) 0))) ≡ true).
-          record-at ws hand (placeAt ws top) x-below ∙ e)
-          (passes-true (value (rowsOf ws) (placeAt ws top)) (getD ws (0 + placeAt ws top) 0) (getD ws (512 + placeAt ws top) 0) (getD ws (1024 + placeAt ws top) 0) (getD ws (1536 + placeAt ws top) 0) (sym passes-is ∙ passed))
+          (λ (e : not (eqb (getD ws (0 + placeAt ws top) 0 % 16) 0) ≡ true). record-at ws hand (placeAt ws top) x-below ∙ e)
+          (passes-true (value (rowsOf ws) (placeAt ws top)) (getD ws (0 + placeAt ws top) 0) (sym passes-is ∙ passed))
 
       passes : (w : RenderWalk) → Shows ws top hand w → Shows marked (top - 1) hand (renderStep index (w .queue) w)
       passes w s =
@@ -185,7 +174,7 @@ module _ (index : ℕ) (ws : List ℕ) (top hand : ℕ) (ready : Ready ws top ha
         room = omega (arith, falls-by, ready .fits, ap (λ (g : List ℕ). deg g (placeAt ws top)) rows₁);
       }
 
-      module _ (passed : passesW (getD marked (4096 + placeAt ws top) 0) (getD marked (0 + placeAt ws top) 0) (getD marked (1024 + placeAt ws top) 0) ≡ false)
+      module _ (passed : passesW (getD marked (4096 + placeAt ws top) 0) (getD marked (0 + placeAt ws top) 0) ≡ false)
           (ws₂ : List ℕ) (r : ℕ) (p : Pushed wsH (top - 1) (originsW (rowsOf wsH) (placeAt ws top) index) ws₂ r) where
         abbrev pushed : List ℕ
         pushed = originsW (rowsOf ws) (placeAt ws top) index
@@ -227,9 +216,8 @@ module _ (index : ℕ) (ws : List ℕ) (top hand : ℕ) (ready : Ready ws top ha
         abbrev own : Node
         own = ownNode (value (rowsOf ws) (placeAt ws top)) (rowF (rowsOf ws)) (rowB (rowsOf ws)) (placeAt ws top)
 
-        bare : (value (rowsOf ws) (placeAt ws top) ≡ 0 → ⊥)
-            × ((isSome (infoOf (getD ws (1024 + placeAt ws top) 0) (getD ws (1536 + placeAt ws top) 0)) || isSome (infoOf (getD ws (0 + placeAt ws top) 0) (getD ws (512 + placeAt ws top) 0))) ≡ false)
-        bare = passes-false (value (rowsOf ws) (placeAt ws top)) (getD ws (0 + placeAt ws top) 0) (getD ws (512 + placeAt ws top) 0) (getD ws (1024 + placeAt ws top) 0) (getD ws (1536 + placeAt ws top) 0) (sym passes-is ∙ passed)
+        bare : (value (rowsOf ws) (placeAt ws top) ≡ 0 → ⊥) × (not (eqb (getD ws (0 + placeAt ws top) 0 % 16) 0) ≡ false)
+        bare = passes-false (value (rowsOf ws) (placeAt ws top)) (getD ws (0 + placeAt ws top) 0) (sym passes-is ∙ passed)
 
         entries₂ : placesOf (slice 9218 r ws₂) ≡ reverseAux (renderPushes index own) (placesOf (slice 9218 (top - 1) ws))
         entries₂ =

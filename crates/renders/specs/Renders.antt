@@ -18,9 +18,9 @@ use Rattle.aliasing.specs.State.{nodesOf, seenOf, stateOf}
 use Rattle.aliasing.specs.Potential.{phi}
 use Rattle.aliasing.specs.Walks.{Aside}
 
--- whether the walk passes by a node, by the words of its value and of its records' kinds: it is missing, or has a record
-abbrev pub passesW : ℕ → ℕ → ℕ → Bool
-passesW v local transitive = pick (eqb v 0) true (pick (eqb local 0) (not (eqb transitive 0)) true)
+-- whether the walk passes by a node, by the words of its value and of its record: it is missing, or has a record
+abbrev pub passesW : ℕ → ℕ → Bool
+passesW v w = pick (eqb v 0) true (not (eqb (w % 16) 0))
 
 -- what a node pushes: created-from, aliases, captures
 unfoldable pub originsW : List ℕ → ℕ → ℕ → List ℕ

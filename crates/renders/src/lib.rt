@@ -10,10 +10,9 @@ use aliasing::append_function_errors;
 use hir::IdentifierId;
 use pushes::push_list;
 use rows::HANDED;
-use rows::LKIND;
 use rows::QUEUE;
+use rows::RECORD;
 use rows::SEEN;
-use rows::TKIND;
 use rows::VALUE;
 use rows::clear;
 
@@ -23,14 +22,14 @@ struct Next {
     hand: usize,
 }
 
-// A node that is missing, or has a record.
-fn passes_by(v: u32, local: u32, transitive: u32) -> bool
-    ensures { λ r. ⌜ r ≡ passesW v local transitive ⌝ }
+// A node of value v and record w that is missing, or has a record.
+fn passes_by(v: u32, w: u32) -> bool
+    ensures { λ r. ⌜ r ≡ passesW v w ⌝ }
 {
     if v == 0 {
         return true;
     }
-    if local == 0 { transitive != 0 } else { true }
+    w % 16 != 0
 }
 
 // Created-from, aliases and captures of node x.
@@ -56,7 +55,7 @@ fn step(ws: &mut [u32], top: usize, hand: usize, index: u32) -> Next
         return Next { top: t, hand: hand };
     }
     ws[SEEN + x] = 1;
-    if passes_by(ws[VALUE + x], ws[LKIND + x], ws[TKIND + x]) {
+    if passes_by(ws[VALUE + x], ws[RECORD + x]) {
         return Next { top: t, hand: hand };
     }
     let h = append_function_errors(ws, x, hand);

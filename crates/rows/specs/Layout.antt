@@ -5,31 +5,20 @@ use Prim.Native.Nat.{ℕ}
 abbrev pub LEAST : ℕ
 LEAST = 16384
 
--- the fields of the nodes, 512 words each: the local record's kind (0 none, 1 Conditional, 2 Definite)
-abbrev pub LKIND : ℕ
-LKIND = 0
+-- the fields of the nodes, 512 words each: the record's word, which is the local kind (0 none, 1 Conditional, 2 Definite) + 4 * the transitive kind
+-- + 16 * the reason (0 none, 1 AssignCurrentProperty) + 32 * the largest index of a mutation
+abbrev pub RECORD : ℕ
+RECORD = 0
 
 -- the local record's span
 abbrev pub LSPAN : ℕ
 LSPAN = 512
 
--- the transitive record's kind
-abbrev pub TKIND : ℕ
-TKIND = 1024
-
--- the transitive record's span
+-- the transitive record's span, after 512 words that are not used
 abbrev pub TSPAN : ℕ
 TSPAN = 1536
 
--- the largest index of a mutation
-abbrev pub LAST : ℕ
-LAST = 2048
-
--- the first reason
-abbrev pub REASON : ℕ
-REASON = 2560
-
--- the end of the range
+-- the end of the range, after 1,024 words that are not used
 abbrev pub END : ℕ
 END = 3072
 

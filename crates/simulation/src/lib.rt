@@ -34,7 +34,7 @@ use writing::put;
 
 // The simulated mutation of a place: transitive, Conditional, moving no end.
 fn simulated(index: u32, into: Place) -> Mutation
-    requires { ⌜ into .identifier .0 < 512 ⌝ }
+    requires { ⌜ (into .identifier .0 < 512) × (index < 134217728) ⌝ }
     ensures { λ r. ⌜ (mutationSays r ≡ simulation index (placeIs into)) × ((modeSays r ≡ simulated) × Callable r) ⌝ }
 {
     let start = into.identifier;

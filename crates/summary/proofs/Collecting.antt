@@ -1,5 +1,5 @@
 -- The records of a place as effects.
-use Prim.Native.Nat.{ℕ, zero, suc, _+_, _*_, _≤_, _<_}
+use Prim.Native.Nat.{ℕ, zero, suc, _+_, _*_, _/_, _%_, _≤_, _<_}
 use native.Mathlib.Omega.{arith}
 use mathlib.Core.Path.{_≡_, refl, sym, ap, _∙_}
 use mathlib.Core.List.{List, [], _∷_, _++_, append-nil}
@@ -11,9 +11,9 @@ use Rattle.model.specs.Mutation.{reasonOf}
 use Rattle.model.specs.State.{Info, Record, noRecord, State}
 use Rattle.model.specs.Summary.{recordOf, reasonWord, localEffects, transitiveEffects, collectParamEffects}
 use Rattle.model.specs.Answer.{effectWords}
-use Rattle.rows.specs.Layout.{LKIND, LSPAN, TKIND, TSPAN, LAST, REASON}
+use Rattle.rows.specs.Layout.{RECORD, LSPAN, TSPAN}
 use Rattle.rows.specs.Graph.{tab}
-use Rattle.aliasing.specs.State.{infoOf, stateOf}
+use Rattle.aliasing.specs.State.{infoOf, recordIn, stateOf}
 use Rattle.writing.specs.Wrote.{Wrote}
 use Rattle.writing.proofs.Writing.{wrote-then, wrote-as, wrote-none}
 use Rattle.copies.proofs.Gathers.{gather-append, gather-gather}
@@ -77,50 +77,48 @@ module _ (ws : List ℕ) (p : Place) (b : p .identifier < 512) where
   abbrev x : ℕ
   x = p .identifier
 
+  -- its record's word
+  abbrev word : ℕ
+  word = getD ws (RECORD + x) 0
+
   collect-words : (t : State) → Holds ws t
       → collectParamEffects t p
-      ≡ levelEffects (getD ws (LKIND + x) 0) MutateConditionally Mutate (reasonWord (reasonOf (getD ws (REASON + x) 0))) (withSpan p (getD ws (LSPAN + x) 0))
-      ++ levelEffects (getD ws (TKIND + x) 0) MutateTransitiveConditionally MutateTransitive 0 (withSpan p (getD ws (TSPAN + x) 0))
+      ≡ levelEffects (word % 4) MutateConditionally Mutate (reasonWord (reasonOf (word / 16 % 2))) (withSpan p (getD ws (LSPAN + x) 0))
+      ++ levelEffects (word / 4 % 4) MutateTransitiveConditionally MutateTransitive 0 (withSpan p (getD ws (TSPAN + x) 0))
   unfolding collectParamEffects
   collect-words t h =
       ap (λ (r : Record). localEffects (r .local) p r ++ transitiveEffects (r .transitive) p) (state-words ws t h x b)
-      ∙ ap (λ (l : List Effect). l ++ transitiveEffects (infoOf (getD ws (TKIND + x) 0) (getD ws (TSPAN + x) 0)) p)
-      (local-words (getD ws (LKIND + x) 0) (getD ws (LSPAN + x) 0) p
-      (record {
-        reason = reasonOf (getD ws (REASON + x) 0);
-        last = getD ws (LAST + x) 0;
-        transitive = infoOf (getD ws (TKIND + x) 0) (getD ws (TSPAN + x) 0);
-        local = infoOf (getD ws (LKIND + x) 0) (getD ws (LSPAN + x) 0);
-      }))
-      ∙ ap (λ (l : List Effect). levelEffects (getD ws (LKIND + x) 0) MutateConditionally Mutate (reasonWord (reasonOf (getD ws (REASON + x) 0))) (withSpan p (getD ws (LSPAN + x) 0)) ++ l)
-      (transitive-words (getD ws (TKIND + x) 0) (getD ws (TSPAN + x) 0) p)
+      ∙ ap (λ (l : List Effect). l ++ transitiveEffects (infoOf (word / 4 % 4) (getD ws (TSPAN + x) 0)) p)
+      (local-words (word % 4) (getD ws (LSPAN + x) 0) p (recordIn word (getD ws (TSPAN + x) 0) (getD ws (LSPAN + x) 0)))
+      ∙ ap (λ (l : List Effect). levelEffects (word % 4) MutateConditionally Mutate (reasonWord (reasonOf (word / 16 % 2))) (withSpan p (getD ws (LSPAN + x) 0)) ++ l)
+      (transitive-words (word / 4 % 4) (getD ws (TSPAN + x) 0) p)
 
   -- the local one first
-  pub collected : {w : ℕ} {a : List ℕ} {at : ℕ} {a′ : List ℕ} {at′ : ℕ} {a″ : List ℕ} {at″ : ℕ} → w ≡ reasonWord (reasonOf (getD ws (REASON + x) 0))
-      → Wrote (gather effectWords (levelEffects (getD ws (LKIND + x) 0) MutateConditionally Mutate w (withSpan p (getD ws (LSPAN + x) 0)))) a at a′ at′
-      → Wrote (gather effectWords (levelEffects (getD ws (TKIND + x) 0) MutateTransitiveConditionally MutateTransitive 0 (withSpan p (getD ws (TSPAN + x) 0)))) a′ at′ a″ at″
+  pub collected : {w : ℕ} {a : List ℕ} {at : ℕ} {a′ : List ℕ} {at′ : ℕ} {a″ : List ℕ} {at″ : ℕ} → w ≡ reasonWord (reasonOf (word / 16 % 2))
+      → Wrote (gather effectWords (levelEffects (word % 4) MutateConditionally Mutate w (withSpan p (getD ws (LSPAN + x) 0)))) a at a′ at′
+      → Wrote (gather effectWords (levelEffects (word / 4 % 4) MutateTransitiveConditionally MutateTransitive 0 (withSpan p (getD ws (TSPAN + x) 0)))) a′ at′ a″ at″
       → Collected ws (p ∷ []) a at a″ at″
   collected {w} e u v t h =
       wrote-as (wrote-then u v)
-      (ap (λ (k : ℕ). gather effectWords (levelEffects (getD ws (LKIND + x) 0) MutateConditionally Mutate k (withSpan p (getD ws (LSPAN + x) 0)))
-      ++ gather effectWords (levelEffects (getD ws (TKIND + x) 0) MutateTransitiveConditionally MutateTransitive 0 (withSpan p (getD ws (TSPAN + x) 0)))) e
-      ∙ sym (gather-append effectWords (levelEffects (getD ws (LKIND + x) 0) MutateConditionally Mutate (reasonWord (reasonOf (getD ws (REASON + x) 0))) (withSpan p (getD ws (LSPAN + x) 0)))
-      (levelEffects (getD ws (TKIND + x) 0) MutateTransitiveConditionally MutateTransitive 0 (withSpan p (getD ws (TSPAN + x) 0))))
+      (ap (λ (k : ℕ). gather effectWords (levelEffects (word % 4) MutateConditionally Mutate k (withSpan p (getD ws (LSPAN + x) 0)))
+      ++ gather effectWords (levelEffects (word / 4 % 4) MutateTransitiveConditionally MutateTransitive 0 (withSpan p (getD ws (TSPAN + x) 0)))) e
+      ∙ sym (gather-append effectWords (levelEffects (word % 4) MutateConditionally Mutate (reasonWord (reasonOf (word / 16 % 2))) (withSpan p (getD ws (LSPAN + x) 0)))
+      (levelEffects (word / 4 % 4) MutateTransitiveConditionally MutateTransitive 0 (withSpan p (getD ws (TSPAN + x) 0))))
       ∙ ap (gather effectWords) (sym (collect-words t h) ∙ sym (append-nil (collectParamEffects t p))))
 
   -- at most sixteen words
   pub collect-length : (t : State) → Holds ws t → length (gather effectWords (collectParamEffects t p)) ≤ 16
   collect-length t h =
-      let l : List Effect = levelEffects (getD ws (LKIND + x) 0) MutateConditionally Mutate (reasonWord (reasonOf (getD ws (REASON + x) 0))) (withSpan p (getD ws (LSPAN + x) 0)) in
-      let r : List Effect = levelEffects (getD ws (TKIND + x) 0) MutateTransitiveConditionally MutateTransitive 0 (withSpan p (getD ws (TSPAN + x) 0)) in
+      let l : List Effect = levelEffects (word % 4) MutateConditionally Mutate (reasonWord (reasonOf (word / 16 % 2))) (withSpan p (getD ws (LSPAN + x) 0)) in
+      let r : List Effect = levelEffects (word / 4 % 4) MutateTransitiveConditionally MutateTransitive 0 (withSpan p (getD ws (TSPAN + x) 0)) in
       let e : length (gather effectWords (collectParamEffects t p)) ≡ length (gather effectWords (l ++ r)) = ap (λ (z : List Effect). length (gather effectWords z)) (collect-words t h) in
       omega (
         arith,
         e,
         effects-length (l ++ r),
         length-append l r,
-        level-most (getD ws (LKIND + x) 0) MutateConditionally Mutate (reasonWord (reasonOf (getD ws (REASON + x) 0))) (withSpan p (getD ws (LSPAN + x) 0)),
-        level-most (getD ws (TKIND + x) 0) MutateTransitiveConditionally MutateTransitive 0 (withSpan p (getD ws (TSPAN + x) 0)),
+        level-most (word % 4) MutateConditionally Mutate (reasonWord (reasonOf (word / 16 % 2))) (withSpan p (getD ws (LSPAN + x) 0)),
+        level-most (word / 4 % 4) MutateTransitiveConditionally MutateTransitive 0 (withSpan p (getD ws (TSPAN + x) 0)),
       )
 
   -- the bound on where the next word goes, in any case

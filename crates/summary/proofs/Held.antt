@@ -1,21 +1,17 @@
 -- What a state keeps of an identifier, word by word.
-use Prim.Native.Nat.{ℕ, zero, suc, _+_, _≤_, _<_}
+use Prim.Native.Nat.{ℕ, _+_, _%_, _<_}
 use native.Mathlib.Omega.{arith}
 use mathlib.Core.Path.{_≡_, refl, sym, ap, _∙_}
-use mathlib.Core.Bool.{Bool, true, false, _||_, not}
+use mathlib.Core.Bool.{not}
 use mathlib.Core.List.{List}
-use mathlib.Core.Option.{Option, none, some}
-use lib.ListN.{length, getD, take}
+use lib.ListN.{getD}
 use lib.Seq.{getD-take}
 use lib.Dec.{eqb}
-use borrow.Author.Tests.{eq-eqb, ne-eqb}
-use Rattle.model.specs.Lists.{isSome, pick}
-use Rattle.model.specs.Mutation.{reasonOf}
-use Rattle.model.specs.State.{Info, Record, noRecord, hasRecord, State}
-use Rattle.rows.specs.Layout.{LKIND, LSPAN, TKIND, TSPAN, LAST, REASON, SEEN}
-use Rattle.rows.specs.Graph.{tab}
+use Rattle.model.specs.State.{Record, noRecord, hasRecord, State}
+use Rattle.rows.specs.Layout.{RECORD, LSPAN, TSPAN, SEEN}
 use Rattle.rows.proofs.Tables.{tab-at}
-use Rattle.aliasing.specs.State.{nodesOf, infoOf, recordAt, recordsOf, stateOf}
+use Rattle.aliasing.specs.State.{nodesOf, recordIn, recordAt, recordsOf, stateOf}
+use Rattle.aliasing.proofs.Packed.{has-word}
 use Rattle.summary.specs.Records.{Holds}
 
 -- there is a state that the words hold
@@ -37,39 +33,21 @@ pub node-word : (ws : List ℕ) (i : ℕ) → i < SEEN → getD (nodesOf ws) i 0
 unfolding nodesOf
 node-word ws i h = getD-take SEEN ws i 0 h
 
-some-info : (k s : ℕ) → isSome (infoOf k s) ≡ not (eqb k 0)
-some-info zero s = refl
-some-info (suc k) s = sym (ap not (ne-eqb (suc k) 0 (λ e. omega (arith, e))))
-
 module _ (ws : List ℕ) (x : ℕ) (h : x < 512) where
   -- the record of x by the words
-  pub record-words : recordAt (nodesOf ws) x ≡ record {
-    reason = reasonOf (getD ws (REASON + x) 0);
-    last = getD ws (LAST + x) 0;
-    transitive = infoOf (getD ws (TKIND + x) 0) (getD ws (TSPAN + x) 0);
-    local = infoOf (getD ws (LKIND + x) 0) (getD ws (LSPAN + x) 0);
-  }
+  record-words : recordAt (nodesOf ws) x ≡ recordIn (getD ws (RECORD + x) 0) (getD ws (TSPAN + x) 0) (getD ws (LSPAN + x) 0)
   unfolding recordAt
   record-words =
       rw (
-        node-word ws (REASON + x) (omega (arith, h)),
-        node-word ws (LAST + x) (omega (arith, h)),
-        node-word ws (TKIND + x) (omega (arith, h)),
+        node-word ws (RECORD + x) (omega (arith, h)),
         node-word ws (TSPAN + x) (omega (arith, h)),
-        node-word ws (LKIND + x) (omega (arith, h)),
         node-word ws (LSPAN + x) (omega (arith, h)),
       )
 
   -- whether it is one
-  pub has-words : hasRecord (recordAt (nodesOf ws) x) ≡ (not (eqb (getD ws (TKIND + x) 0) 0) || not (eqb (getD ws (LKIND + x) 0) 0))
-  has-words = ap hasRecord record-words ∙ ap (λ (b : Bool). b || isSome (infoOf (getD ws (LKIND + x) 0) (getD ws (LSPAN + x) 0))) (some-info (getD ws (TKIND + x) 0) (getD ws (TSPAN + x) 0))
-      ∙ ap (λ (b : Bool). not (eqb (getD ws (TKIND + x) 0) 0) || b) (some-info (getD ws (LKIND + x) 0) (getD ws (LSPAN + x) 0))
+  pub has-words : hasRecord (recordAt (nodesOf ws) x) ≡ not (eqb (getD ws (RECORD + x) 0 % 16) 0)
+  has-words = ap hasRecord record-words ∙ has-word (getD ws (RECORD + x) 0) (getD ws (TSPAN + x) 0) (getD ws (LSPAN + x) 0)
 
 -- the record of x in the state, by the words
-pub state-words : (ws : List ℕ) (t : State) → Holds ws t → (x : ℕ) → x < 512 → getD (t .records) x noRecord ≡ record {
-  reason = reasonOf (getD ws (REASON + x) 0);
-  last = getD ws (LAST + x) 0;
-  transitive = infoOf (getD ws (TKIND + x) 0) (getD ws (TSPAN + x) 0);
-  local = infoOf (getD ws (LKIND + x) 0) (getD ws (LSPAN + x) 0);
-}
+pub state-words : (ws : List ℕ) (t : State) → Holds ws t → (x : ℕ) → x < 512 → getD (t .records) x noRecord ≡ recordIn (getD ws (RECORD + x) 0) (getD ws (TSPAN + x) 0) (getD ws (LSPAN + x) 0)
 state-words ws t h x k = record-held ws t h x k ∙ record-words ws x k

@@ -15,7 +15,7 @@ use hir::AliasingEffect;
 use hir::EffectKind;
 use hir::IdentifierId;
 use hir::Place;
-use rows::LAST;
+use rows::RECORD;
 
 // Alias into returns, Capture into any other place.
 fn flow_kind(into: IdentifierId, returns: IdentifierId) -> EffectKind
@@ -51,7 +51,7 @@ fn put_flow(
         return at;
     }
     let k = x.0 as usize;
-    if ws[LAST + k] == index {
+    if ws[RECORD + k] / 32 == index {
         let e = AliasingEffect {
             kind: flow_kind(y, returns),
             first: from,

@@ -18,10 +18,8 @@ use copies::put_effect;
 use hir::AliasingEffect;
 use hir::EffectKind;
 use hir::Place;
-use rows::LKIND;
 use rows::LSPAN;
-use rows::REASON;
-use rows::TKIND;
+use rows::RECORD;
 use rows::TSPAN;
 
 // A reason as an extra word.
@@ -86,19 +84,20 @@ pub fn collect_param_effects(ws: &[u32], p: Place, answer: &mut [u32], at: usize
         reactive: p.reactive,
         span: ws[TSPAN + x],
     };
+    let w = ws[RECORD + x];
     let to = put_record(
         answer,
         at,
-        ws[LKIND + x],
+        w % 4,
         EffectKind::MutateConditionally,
         EffectKind::Mutate,
-        reason_word(ws[REASON + x]),
+        reason_word(w / 16 % 2),
         local,
     );
     put_record(
         answer,
         to,
-        ws[TKIND + x],
+        w / 4 % 4,
         EffectKind::MutateTransitiveConditionally,
         EffectKind::MutateTransitive,
         0,

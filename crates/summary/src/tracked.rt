@@ -17,8 +17,7 @@ use hir::Place;
 use hir::places::effect_of;
 use hir::places::reactive_of;
 use hir::places::traits_word;
-use rows::LKIND;
-use rows::TKIND;
+use rows::RECORD;
 use writing::put;
 
 pub const TRACKED: usize = 15812;
@@ -58,10 +57,7 @@ fn has_record(ws: &[u32], x: usize) -> bool
     requires { ⌜ (x < 512) × (16384 ≤ length (now ws)) ⌝ }
     ensures { λ r. ⌜ r ≡ hasRecord (recordAt (nodesOf (now (ws .entry))) x) ⌝ }
 {
-    if ws[TKIND + x] == 0 {
-        return ws[LKIND + x] != 0;
-    }
-    true
+    ws[RECORD + x] % 16 != 0
 }
 
 // The place with the Capture mark, if its identifier has a record.

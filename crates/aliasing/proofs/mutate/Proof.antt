@@ -12,40 +12,32 @@ use Rattle.aliasing.proofs.kind_bit.Reads as kind-bit-reads
 use Rattle.aliasing.proofs.walk.Reads as walk-reads
 use Rattle.pushes.proofs.entry.Reads as entry-reads
 
--- src/lib.rt:218:34
 bit-of-requires : tie.Need-bit-of-requires
 bit-of-requires c κs = omega arith
 
--- src/lib.rt:218:59
 kind-bit-requires : tie.Need-kind-bit-requires
 kind-bit-requires c κs = omega arith
 
--- src/lib.rt:218:17
 entry-requires : tie.Need-entry-requires
 entry-requires c κs =
     let b3 = c .before .before .before in
     (b3 .pre .1 .1 .0 .start, (omega (arith, c .before .bit-of .ensures, bit-below (b3 .args .m .transitive)), (omega arith, omega (arith, c .kind-bit .ensures, kind-below (b3 .args .m .kind)))))
 
--- src/lib.rt:218:5
 slice-write-ws : tie.Need-slice-write-ws
 slice-write-ws c = omega arith
 
--- src/lib.rt:219:14
 add-walk : tie.Need-add-walk
 add-walk c = omega arith
 
--- src/lib.rt:219:5
 walk-requires : tie.Need-walk-requires
 walk-requires c κs =
     let b3 = c .before .before .before in
     let b5 = b3 .before .before in
     (start-ready (b5 .args .ws .now) (b5 .args .hand) (b5 .args .m) (b5 .args .base) (b5 .pre .0) (b5 .pre .1 .0) (b5 .pre .1 .1 .0) (b5 .pre .1 .1 .1) (c .before .entry .result) (entry-of (b5 .args .m) (c .before .entry .result) (b3 .bit-of .result) (c .before .before .kind-bit .result) (b3 .bit-of .ensures) (c .before .before .kind-bit .ensures) (c .before .entry .ensures)), b5 .pre .1 .1 .0)
 
--- src/lib.rt:210:1
 same-length : tie.Need-same-length
 same-length c = c .before .before .walk .kept .0 ∙ simp length-set
 
--- src/lib.rt:210:1
 returns : tie.Need-returns
 returns c =
     let b4 = c .before .before .before .before in

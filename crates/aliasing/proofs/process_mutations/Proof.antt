@@ -16,57 +16,44 @@ Inv-loop ws₀ count should-record-errors i₀ hand₀ ws i hand = Processing sh
 abbrev μ-loop : tie.MeasureT-loop
 μ-loop ws₀ count should-record-errors i₀ hand₀ ws i hand = count - i
 
--- src/lib.rt:256:5
 clear-requires : tie.Need-clear-requires Inv-loop μ-loop
 clear-requires c κs = omega arith
 
--- src/lib.rt:259:5
 loop-holds : tie.Need-loop-holds Inv-loop μ-loop
 loop-holds c =
     let b5 = c .before .before .before .before .before in
     cleared-start (b5 .args .ws .now) (b5 .pre .0) (c .before .before .clear .last .0) (c .before .before .clear .ensures) (b5 .args .count) (b5 .pre .1) (b5 .args .should-record-errors)
 
--- src/lib.rt:260:30
 mul-at : tie.Need-mul-at Inv-loop μ-loop
 mul-at c = omega arith
 
--- src/lib.rt:260:18
 add-at : tie.Need-add-at Inv-loop μ-loop
 add-at c = omega arith
 
--- src/lib.rt:261:34
 mul-pending-mutation : tie.Need-mul-pending-mutation Inv-loop μ-loop
 mul-pending-mutation c = omega arith
 
--- src/lib.rt:261:34
 slice-read-pending-mutation : tie.Need-slice-read-pending-mutation Inv-loop μ-loop
 slice-read-pending-mutation c = omega arith
 
--- src/lib.rt:261:45
 add-pending-mutation : tie.Need-add-pending-mutation Inv-loop μ-loop
 add-pending-mutation c = omega arith
 
--- src/lib.rt:261:42
 mul-pending-mutation-2 : tie.Need-mul-pending-mutation-2 Inv-loop μ-loop
 mul-pending-mutation-2 c = omega arith
 
--- src/lib.rt:261:42
 slice-read-pending-mutation-2 : tie.Need-slice-read-pending-mutation-2 Inv-loop μ-loop
 slice-read-pending-mutation-2 c = omega arith
 
--- src/lib.rt:261:57
 add-pending-mutation-2 : tie.Need-add-pending-mutation-2 Inv-loop μ-loop
 add-pending-mutation-2 c = omega arith
 
--- src/lib.rt:261:54
 mul-pending-mutation-3 : tie.Need-mul-pending-mutation-3 Inv-loop μ-loop
 mul-pending-mutation-3 c = omega arith
 
--- src/lib.rt:261:54
 slice-read-pending-mutation-3 : tie.Need-slice-read-pending-mutation-3 Inv-loop μ-loop
 slice-read-pending-mutation-3 c = omega arith
 
--- src/lib.rt:261:13
 pending-mutation-requires : tie.Need-pending-mutation-requires Inv-loop μ-loop
 pending-mutation-requires c κs =
     let b3 = c .before .before .before in
@@ -75,29 +62,23 @@ pending-mutation-requires c κs =
     let b10 = b7 .before .before .before in
     order-few (b10 .args .should-record-errors) (b7 .clear .last .0) (b10 .args .count) (b4 .loop .ws) (b4 .loop .i) (b4 .loop .hand) (b4 .loop .inv) (b3 .loop-test .taken)
 
--- src/lib.rt:262:38
 mul-mutate : tie.Need-mul-mutate Inv-loop μ-loop
 mul-mutate c = omega arith
 
--- src/lib.rt:262:37
 cast-mutate : tie.Need-cast-mutate Inv-loop μ-loop
 cast-mutate c = omega arith
 
--- src/lib.rt:262:13
 mutate-requires : tie.Need-mutate-requires Inv-loop μ-loop
 mutate-requires c κs =
     let b6 = c .before .before .before .before .before .before in
     (b6 .loop .inv .indexed, (b6 .loop .inv .handing, (c .before .pending-mutation .ensures .callable, (omega (arith, b6 .loop .inv .mid, b6 .loop .inv .pending .few), b6 .loop .inv .marked))))
 
--- src/lib.rt:263:12
 add-ws : tie.Need-add-ws Inv-loop μ-loop
 add-ws c = omega arith
 
--- src/lib.rt:263:9
 mul-ws : tie.Need-mul-ws Inv-loop μ-loop
 mul-ws c = omega arith
 
--- src/lib.rt:263:9
 slice-write-ws : tie.Need-slice-write-ws Inv-loop μ-loop
 slice-write-ws c =
     let b4 = c .before .before .before .before in
@@ -107,15 +88,12 @@ slice-write-ws c =
     let b15 = b12 .before .before .before in
     long (b15 .args .should-record-errors) (b12 .clear .last .0) (b15 .args .count) (b9 .loop .ws) (b9 .loop .i) (b9 .loop .hand) (b9 .loop .inv) (b8 .loop-test .taken) (b4 .pending-mutation .result) (b4 .pending-mutation .ensures) (c .before .before .mutate .last .0) (c .before .before .mutate .result .count) (c .before .before .mutate .result .hand) (c .before .before .mutate .ensures .0) (c .before .before .mutate .ensures .1)
 
--- src/lib.rt:265:9
 add-i : tie.Need-add-i Inv-loop μ-loop
 add-i c = omega arith
 
--- src/lib.rt:259:5
 loop-less : tie.Need-loop-less Inv-loop μ-loop
 loop-less c = omega arith
 
--- src/lib.rt:259:5
 loop-again : tie.Need-loop-again Inv-loop μ-loop
 loop-again c =
     let b4 = c .before .before .before .before in
@@ -125,13 +103,11 @@ loop-again c =
     let b15 = b12 .before .before .before in
     process-turn (b15 .args .should-record-errors) (b12 .clear .last .0) (b15 .args .count) (b9 .loop .ws) (b9 .loop .i) (b9 .loop .hand) (b9 .loop .inv) (b8 .loop-test .taken) (b4 .pending-mutation .result) (b4 .pending-mutation .ensures) (c .before .before .mutate .last .0) (c .before .before .mutate .result .count) (c .before .before .mutate .result .hand) (c .before .before .mutate .ensures .0) (c .before .before .mutate .ensures .1)
 
--- src/lib.rt:251:1
 same-length : tie.Need-same-length Inv-loop μ-loop
 same-length c =
     let b4 = c .before .before .before .before in
     c .before .loop .inv .same ∙ b4 .clear .kept .0
 
--- src/lib.rt:251:1
 returns : tie.Need-returns Inv-loop μ-loop
 returns c =
     let b4 = c .before .before .before .before in

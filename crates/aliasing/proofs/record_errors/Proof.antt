@@ -17,15 +17,6 @@ mul-if2 c = search needs
 slice-read-if2 : tie.Need-slice-read-if2
 slice-read-if2 c = search needs
 
-add-if3 : tie.Need-add-if3
-add-if3 c = search needs
-
-mul-if3 : tie.Need-mul-if3
-mul-if3 c = search needs
-
-slice-read-if3 : tie.Need-slice-read-if3
-slice-read-if3 c = search needs
-
 append-function-errors-requires : tie.Need-append-function-errors-requires
 append-function-errors-requires c κs = search needs
 
@@ -37,30 +28,18 @@ unfolding handW
 returns c =
     let b4 = c .before .before .before .before in
     let b6 = b4 .before .before in
-    let b8 = b6 .before .before in
     simp (
-      b8 .if1 .taken,
-      eq-eqb _ 0 (b6 .if2 .taken),
-      eq-eqb _ 0 (b4 .if3 .taken),
+      b6 .if1 .taken,
+      eq-eqb _ 0 (b4 .if2 .taken),
     ) (c .before .before .append-function-errors .ensures)
 
 returns-2 : tie.Need-returns-2
 unfolding handW
-returns-2 c =
-    let b4 = c .before .before .before .before in
-    simp (
-      b4 .if1 .taken,
-      eq-eqb _ 0 (c .before .before .if2 .taken),
-      ne-eqb _ 0 (c .if3 .left),
-    ) (pushed-none _ _)
+returns-2 c = simp (c .before .before .if1 .taken, ne-eqb _ 0 (c .if2 .left)) (pushed-none _ _)
 
 returns-3 : tie.Need-returns-3
 unfolding handW
-returns-3 c = simp (c .before .before .if1 .taken, ne-eqb _ 0 (c .if2 .left)) (pushed-none _ _)
-
-returns-4 : tie.Need-returns-4
-unfolding handW
-returns-4 c = simp (c .if1 .left) (pushed-none _ _)
+returns-3 c = simp (c .if1 .left) (pushed-none _ _)
 
 pub record-errors-spec : {M : Type 1} → statement M
 record-errors-spec =
@@ -69,12 +48,8 @@ record-errors-spec =
     add-if2
     mul-if2
     slice-read-if2
-    add-if3
-    mul-if3
-    slice-read-if3
     append-function-errors-requires
     same-length
     returns
     returns-2
-    returns-3
-    returns-4)
+    returns-3)

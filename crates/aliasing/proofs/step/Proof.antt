@@ -88,7 +88,8 @@ add-accept c = omega arith
 accept-requires : tie.Need-accept-requires
 accept-requires c κs =
     let b3 = c .before .before .before in
-    (omega arith, omega (arith, simp length-set at (b3 .record-errors .kept .0)))
+    let b11 = b3 .before .before .before .before .before .before .before .before in
+    ((omega arith, (omega (arith, simp length-set at (b3 .record-errors .kept .0)), omega arith)), b11 .pre .1 .0)
 
 push-all-requires : tie.Need-push-all-requires
 push-all-requires c κs =

@@ -8,10 +8,7 @@ returns : tie.Need-returns
 returns c = simp (eq-eqb _ 0 (c .if1 .taken))
 
 returns-2 : tie.Need-returns-2
-returns-2 c = simp (ne-eqb _ 0 (c .before .if1 .left), eq-eqb _ 0 (c .if2 .taken))
-
-returns-3 : tie.Need-returns-3
-returns-3 c = simp (ne-eqb _ 0 (c .before .if1 .left), ne-eqb _ 0 (c .if2 .left))
+returns-2 c = simp (ne-eqb _ 0 (c .if1 .left))
 
 pub passes-by-spec : {M : Type 1} → statement M
-passes-by-spec = tie.close (tie.spec returns returns-2 returns-3)
+passes-by-spec = tie.close (tie.spec returns returns-2)

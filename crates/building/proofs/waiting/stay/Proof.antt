@@ -18,49 +18,40 @@ Inv-loop ws₀ from left n block i₀ k₀ ws i k = Moved block i₀ k₀ n ws�
 abbrev μ-loop : tie.MeasureT-loop
 μ-loop ws₀ from left n block i₀ k₀ ws i k = n - i
 
--- src/waiting.rt:116:9
 stay-runs-requires : tie.Need-stay-runs-requires Inv-loop μ-loop
 stay-runs-requires c κs = c .before .before .pre
 
--- src/waiting.rt:117:25
 sub-k : tie.Need-sub-k Inv-loop μ-loop
 sub-k c = omega (arith, c .before .before .stay-runs .ensures .some)
 
--- src/waiting.rt:117:17
 add-k : tie.Need-add-k Inv-loop μ-loop
 add-k c =
     let b5 = c .before .before .before .before .before in
     omega (arith, c .before .before .stay-runs .ensures .some, c .before .before .stay-runs .ensures .few, b5 .pre .1 .0, b5 .pre .1 .1)
 
--- src/waiting.rt:118:5
 loop-holds : tie.Need-loop-holds Inv-loop μ-loop
 loop-holds c =
     let b5 = c .before .before .before .before .before in
     move-start _ _ _ _ _ (omega (arith, c .before .before .stay-runs .kept .0, b5 .pre .0)) (omega (arith, c .before .before .stay-runs .ensures .some, b5 .pre .1 .0)) (b5 .pre .1 .1 .1) (c .before .before .stay-runs .ensures .few)
 
--- src/waiting.rt:119:30
 add-predecessor : tie.Need-add-predecessor Inv-loop μ-loop
 add-predecessor c = omega arith
 
--- src/waiting.rt:119:27
 mul-predecessor : tie.Need-mul-predecessor Inv-loop μ-loop
 mul-predecessor c = omega arith
 
--- src/waiting.rt:119:27
 slice-read-predecessor : tie.Need-slice-read-predecessor Inv-loop μ-loop
 slice-read-predecessor c =
     let b5 = c .before .before .before .before .before in
     let b8 = b5 .before .before .before in
     omega (arith, c .before .before .loop .inv .same, b5 .stay-runs .kept .0, b8 .pre .0, c .before .loop-test .taken, b8 .pre .1 .1 .1)
 
--- src/waiting.rt:121:13
 same-length : tie.Need-same-length Inv-loop μ-loop
 same-length c =
     let b3 = c .before .before .before in
     let b6 = b3 .before .before .before in
     b3 .loop .inv .same ∙ b6 .stay-runs .kept .0
 
--- src/waiting.rt:121:13
 returns : tie.Need-returns Inv-loop μ-loop
 returns c =
     let b3 = c .before .before .before in
@@ -68,15 +59,12 @@ returns c =
     let b9 = b6 .before .before .before in
     (move-end _ _ _ _ _ _ _ _ (move-then (b9 .pre .0) (b9 .pre .1 .1 .1) (b6 .stay-runs .ensures) (b3 .loop .inv)), λ h. c .if1 .taken)
 
--- src/waiting.rt:123:20
 add-w : tie.Need-add-w Inv-loop μ-loop
 add-w c = omega arith
 
--- src/waiting.rt:123:17
 mul-w : tie.Need-mul-w Inv-loop μ-loop
 mul-w c = omega arith
 
--- src/waiting.rt:123:17
 slice-read-w : tie.Need-slice-read-w Inv-loop μ-loop
 slice-read-w c =
     let b3 = c .before .before .before in
@@ -85,7 +73,6 @@ slice-read-w c =
     let b10 = b7 .before .before .before in
     omega (arith, b4 .loop .inv .same, b7 .stay-runs .kept .0, b10 .pre .0, b3 .loop-test .taken, b10 .pre .1 .1 .1)
 
--- src/waiting.rt:124:12
 add-ws : tie.Need-add-ws Inv-loop μ-loop
 add-ws c =
     let b3 = c .before .before .before in
@@ -94,7 +81,6 @@ add-ws c =
     let b10 = b7 .before .before .before in
     omega (arith, b4 .loop .inv .count, b7 .stay-runs .ensures .some, b10 .pre .1 .0, b3 .loop-test .taken, b10 .pre .1 .1 .1)
 
--- src/waiting.rt:124:9
 mul-ws : tie.Need-mul-ws Inv-loop μ-loop
 mul-ws c =
     let b3 = c .before .before .before in
@@ -103,7 +89,6 @@ mul-ws c =
     let b10 = b7 .before .before .before in
     omega (arith, b4 .loop .inv .count, b7 .stay-runs .ensures .some, b10 .pre .1 .0, b3 .loop-test .taken, b10 .pre .1 .1 .1)
 
--- src/waiting.rt:124:9
 slice-write-ws : tie.Need-slice-write-ws Inv-loop μ-loop
 slice-write-ws c =
     let b3 = c .before .before .before in
@@ -112,7 +97,6 @@ slice-write-ws c =
     let b10 = b7 .before .before .before in
     omega (arith, b4 .loop .inv .count, b7 .stay-runs .ensures .some, b10 .pre .1 .0, b3 .loop-test .taken, b10 .pre .1 .1 .1, b4 .loop .inv .same, b7 .stay-runs .kept .0, b10 .pre .0)
 
--- src/waiting.rt:125:12
 add-ws-2 : tie.Need-add-ws-2 Inv-loop μ-loop
 add-ws-2 c =
     let b3 = c .before .before .before in
@@ -121,7 +105,6 @@ add-ws-2 c =
     let b10 = b7 .before .before .before in
     omega (arith, b4 .loop .inv .count, b7 .stay-runs .ensures .some, b10 .pre .1 .0, b3 .loop-test .taken, b10 .pre .1 .1 .1)
 
--- src/waiting.rt:125:9
 mul-ws-2 : tie.Need-mul-ws-2 Inv-loop μ-loop
 mul-ws-2 c =
     let b3 = c .before .before .before in
@@ -130,7 +113,6 @@ mul-ws-2 c =
     let b10 = b7 .before .before .before in
     omega (arith, b4 .loop .inv .count, b7 .stay-runs .ensures .some, b10 .pre .1 .0, b3 .loop-test .taken, b10 .pre .1 .1 .1)
 
--- src/waiting.rt:125:9
 slice-write-ws-2 : tie.Need-slice-write-ws-2 Inv-loop μ-loop
 slice-write-ws-2 c =
     let b3 = c .before .before .before in
@@ -139,11 +121,9 @@ slice-write-ws-2 c =
     let b10 = b7 .before .before .before in
     omega (arith, length-set (b4 .loop .ws) (PREDS + b4 .loop .k) (getD (b4 .loop .ws) (PREDS + b4 .loop .i) 0), b4 .loop .inv .same, b4 .loop .inv .count, b7 .stay-runs .ensures .some, b10 .pre .1 .0, b3 .loop-test .taken, b10 .pre .1 .1 .1, b7 .stay-runs .kept .0, b10 .pre .0)
 
--- src/waiting.rt:126:9
 add-i : tie.Need-add-i Inv-loop μ-loop
 add-i c = omega arith
 
--- src/waiting.rt:127:9
 add-k-2 : tie.Need-add-k-2 Inv-loop μ-loop
 add-k-2 c =
     let b3 = c .before .before .before in
@@ -152,11 +132,9 @@ add-k-2 c =
     let b10 = b7 .before .before .before in
     omega (arith, b4 .loop .inv .count, b7 .stay-runs .ensures .some, b10 .pre .1 .0, b3 .loop-test .taken, b10 .pre .1 .1 .1)
 
--- src/waiting.rt:118:5
 loop-less : tie.Need-loop-less Inv-loop μ-loop
 loop-less c = omega arith
 
--- src/waiting.rt:118:5
 loop-again : tie.Need-loop-again Inv-loop μ-loop
 loop-again c =
     let b3 = c .before .before .before in
@@ -165,13 +143,11 @@ loop-again c =
     let b10 = b7 .before .before .before in
     move-turn _ _ _ _ _ (omega (arith, b7 .stay-runs .kept .0, b10 .pre .0)) (omega (arith, b7 .stay-runs .ensures .some, b10 .pre .1 .0)) (b10 .pre .1 .1 .1) _ _ _ (b4 .loop .inv) (b3 .loop-test .taken) _ _ refl refl (c .before .if1 .left)
 
--- src/waiting.rt:112:1
 same-length-2 : tie.Need-same-length-2 Inv-loop μ-loop
 same-length-2 c =
     let b4 = c .before .before .before .before in
     c .before .loop .inv .same ∙ b4 .stay-runs .kept .0
 
--- src/waiting.rt:112:1
 returns-2 : tie.Need-returns-2 Inv-loop μ-loop
 returns-2 c =
     let b4 = c .before .before .before .before in

@@ -17,39 +17,32 @@ Inv-loop ws₀ from left n block i₀ k₀ ws i k = Moved block from left n ws�
 abbrev μ-loop : tie.MeasureT-loop
 μ-loop ws₀ from left n block i₀ k₀ ws i k = n - i
 
--- src/waiting.rt:97:5
 loop-holds : tie.Need-loop-holds Inv-loop μ-loop
 loop-holds c = move-start _ _ _ _ _ (c .before .pre .0) (c .before .pre .1 .0) (c .before .pre .1 .1 .1) (c .before .pre .1 .1 .0)
 
--- src/waiting.rt:97:11
 add-loop : tie.Need-add-loop Inv-loop μ-loop
 add-loop c = omega (arith, c .loop .inv .few, c .before .before .pre .1 .1 .1)
 
--- src/waiting.rt:98:26
 add-one-waits : tie.Need-add-one-waits Inv-loop μ-loop
 add-one-waits c =
     let b4 = c .before .before .before .before in
     omega (arith, c .before .before .loop .inv .few, b4 .pre .1 .1 .1)
 
--- src/waiting.rt:98:12
 one-waits-requires : tie.Need-one-waits-requires Inv-loop μ-loop
 one-waits-requires c κs =
     let b4 = c .before .before .before .before in
     omega (arith, c .before .before .loop .inv .same, c .before .before .loop .inv .few, b4 .pre .0, b4 .pre .1 .1 .1)
 
--- src/waiting.rt:99:13
 same-length : tie.Need-same-length Inv-loop μ-loop
 same-length c =
     let b4 = c .before .before .before .before in
     b4 .loop .inv .same
 
--- src/waiting.rt:99:13
 returns : tie.Need-returns Inv-loop μ-loop
 returns c =
     let b4 = c .before .before .before .before in
     move-end _ _ _ _ _ _ _ _ (b4 .loop .inv)
 
--- src/waiting.rt:101:9
 move-four-requires : tie.Need-move-four-requires Inv-loop μ-loop
 move-four-requires c κs =
     let b4 = c .before .before .before .before in
@@ -57,21 +50,18 @@ move-four-requires c κs =
     let b7 = b5 .before .before in
     (omega (arith, b5 .loop .inv .same, b7 .pre .0), (omega (arith, b5 .loop .inv .count, b7 .pre .1 .0), omega (arith, b4 .loop-test .taken, b7 .pre .1 .1 .1)))
 
--- src/waiting.rt:102:23
 add-move-four : tie.Need-add-move-four Inv-loop μ-loop
 add-move-four c =
     let b9 = c .before .before .before .before .before .before .before .before .before in
     let b11 = b9 .before .before in
     omega (arith, b9 .loop .inv .few, b11 .pre .1 .1 .1)
 
--- src/waiting.rt:102:30
 add-move-four-2 : tie.Need-add-move-four-2 Inv-loop μ-loop
 add-move-four-2 c =
     let b9 = c .before .before .before .before .before .before .before .before .before in
     let b11 = b9 .before .before in
     omega (arith, b9 .loop .inv .few, b9 .loop .inv .count, b11 .pre .1 .0, b11 .pre .1 .1 .1)
 
--- src/waiting.rt:102:9
 move-four-requires-2 : tie.Need-move-four-requires-2 Inv-loop μ-loop
 move-four-requires-2 c κs =
     let b3 = c .before .before .before in
@@ -80,21 +70,18 @@ move-four-requires-2 c κs =
     let b11 = b9 .before .before in
     (omega (arith, b3 .move-four .kept .0, b9 .loop .inv .same, b11 .pre .0), (omega (arith, b9 .loop .inv .count, b11 .pre .1 .0), omega (arith, b8 .loop-test .taken, b11 .pre .1 .1 .1)))
 
--- src/waiting.rt:103:23
 add-move-four-3 : tie.Need-add-move-four-3 Inv-loop μ-loop
 add-move-four-3 c =
     let b13 = c .before .before .before .before .before .before .before .before .before .before .before .before .before in
     let b15 = b13 .before .before in
     omega (arith, b13 .loop .inv .few, b15 .pre .1 .1 .1)
 
--- src/waiting.rt:103:30
 add-move-four-4 : tie.Need-add-move-four-4 Inv-loop μ-loop
 add-move-four-4 c =
     let b13 = c .before .before .before .before .before .before .before .before .before .before .before .before .before in
     let b15 = b13 .before .before in
     omega (arith, b13 .loop .inv .few, b13 .loop .inv .count, b15 .pre .1 .0, b15 .pre .1 .1 .1)
 
--- src/waiting.rt:103:9
 move-four-requires-3 : tie.Need-move-four-requires-3 Inv-loop μ-loop
 move-four-requires-3 c κs =
     let b3 = c .before .before .before in
@@ -104,21 +91,18 @@ move-four-requires-3 c κs =
     let b15 = b13 .before .before in
     (omega (arith, b3 .move-four2 .kept .0, b7 .move-four .kept .0, b13 .loop .inv .same, b15 .pre .0), (omega (arith, b13 .loop .inv .count, b15 .pre .1 .0), omega (arith, b12 .loop-test .taken, b15 .pre .1 .1 .1)))
 
--- src/waiting.rt:104:23
 add-move-four-5 : tie.Need-add-move-four-5 Inv-loop μ-loop
 add-move-four-5 c =
     let b17 = c .before .before .before .before .before .before .before .before .before .before .before .before .before .before .before .before .before in
     let b19 = b17 .before .before in
     omega (arith, b17 .loop .inv .few, b19 .pre .1 .1 .1)
 
--- src/waiting.rt:104:31
 add-move-four-6 : tie.Need-add-move-four-6 Inv-loop μ-loop
 add-move-four-6 c =
     let b17 = c .before .before .before .before .before .before .before .before .before .before .before .before .before .before .before .before .before in
     let b19 = b17 .before .before in
     omega (arith, b17 .loop .inv .few, b17 .loop .inv .count, b19 .pre .1 .0, b19 .pre .1 .1 .1)
 
--- src/waiting.rt:104:9
 move-four-requires-4 : tie.Need-move-four-requires-4 Inv-loop μ-loop
 move-four-requires-4 c κs =
     let b3 = c .before .before .before in
@@ -129,25 +113,21 @@ move-four-requires-4 c κs =
     let b19 = b17 .before .before in
     (omega (arith, b3 .move-four3 .kept .0, b7 .move-four2 .kept .0, b11 .move-four .kept .0, b17 .loop .inv .same, b19 .pre .0), (omega (arith, b17 .loop .inv .count, b19 .pre .1 .0), omega (arith, b16 .loop-test .taken, b19 .pre .1 .1 .1)))
 
--- src/waiting.rt:105:9
 add-i : tie.Need-add-i Inv-loop μ-loop
 add-i c =
     let b20 = c .before .before .before .before .before .before .before .before .before .before .before .before .before .before .before .before .before .before .before .before in
     let b22 = b20 .before .before in
     omega (arith, b20 .loop .inv .few, b22 .pre .1 .1 .1)
 
--- src/waiting.rt:106:9
 add-k : tie.Need-add-k Inv-loop μ-loop
 add-k c =
     let b20 = c .before .before .before .before .before .before .before .before .before .before .before .before .before .before .before .before .before .before .before .before in
     let b22 = b20 .before .before in
     omega (arith, b20 .loop .inv .few, b20 .loop .inv .count, b22 .pre .1 .0, b22 .pre .1 .1 .1)
 
--- src/waiting.rt:97:5
 loop-less : tie.Need-loop-less Inv-loop μ-loop
 loop-less c = omega arith
 
--- src/waiting.rt:97:5
 loop-again : tie.Need-loop-again Inv-loop μ-loop
 loop-again c =
     let b6 = c .before .before .before .before .before .before in
@@ -161,11 +141,9 @@ loop-again c =
     run-moved _ _ _ _ _ (b22 .pre .0) (b22 .pre .1 .0) (b22 .pre .1 .1 .1) _ _ _ (b20 .loop .inv) (b19 .loop-test .taken) (sym (b16 .if1 .left)
     ∙ b17 .one-waits .ensures) _ _ _ _ (b14 .move-four .ensures) (b10 .move-four2 .ensures) (b6 .move-four3 .ensures) (c .before .before .move-four4 .ensures)
 
--- src/waiting.rt:91:1
 same-length-2 : tie.Need-same-length-2 Inv-loop μ-loop
 same-length-2 c = c .before .loop .inv .same
 
--- src/waiting.rt:91:1
 returns-2 : tie.Need-returns-2 Inv-loop μ-loop
 returns-2 c = move-end _ _ _ _ _ _ _ _ (c .before .loop .inv)
 

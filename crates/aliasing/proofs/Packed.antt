@@ -1,0 +1,43 @@
+-- A record's word: what its fields are, and whether it is a record at all.
+use Prim.Native.Nat.{ℕ, zero, suc, _+_, _*_, _/_, _%_, _<_}
+use native.Mathlib.Omega.{arith}
+use mathlib.Core.Bool.{_||_, not}
+use mathlib.Core.Path.{_≡_, sym, ap}
+use lib.Dec.{eqb}
+use borrow.Author.Tests.{eq-eqb, ne-eqb}
+use Rattle.model.specs.Lists.{isSome}
+use Rattle.model.specs.Mutation.{reasonOf}
+use Rattle.model.specs.State.{hasRecord}
+use Rattle.aliasing.specs.State.{infoOf, recordIn}
+use Rattle.aliasing.specs.Accepts.{recordWord}
+
+-- the fields of a word that was made of them
+module _ (l t r i : ℕ) (hl : l < 4) (ht : t < 4) (hr : r < 2) where
+  local-field : recordWord l t r i % 4 ≡ l
+  local-field = omega arith
+
+  transitive-field : recordWord l t r i / 4 % 4 ≡ t
+  transitive-field = omega arith
+
+  reason-field : recordWord l t r i / 16 % 2 ≡ r
+  reason-field = omega arith
+
+  last-field : recordWord l t r i / 32 ≡ i
+  last-field = omega arith
+
+  pub word-record : (ts ls : ℕ) → recordIn (recordWord l t r i) ts ls ≡ record { reason = reasonOf r; last = i; transitive = infoOf t ts; local = infoOf l ls }
+  word-record ts ls = λ j. record {
+    reason = reasonOf (reason-field j);
+    last = last-field j;
+    transitive = infoOf (transitive-field j) ts;
+    local = infoOf (local-field j) ls;
+  }
+
+-- a word of two kinds that are 0 is no record, whatever its spans
+kinds-some : (l t ts ls n : ℕ) → n ≡ l + 4 * t → (isSome (infoOf t ts) || isSome (infoOf l ls)) ≡ not (eqb n 0)
+kinds-some zero zero ts ls n e = sym (ap not (eq-eqb n 0 (omega (arith, e))))
+kinds-some (suc l) zero ts ls n e = sym (ap not (ne-eqb n 0 (λ z. omega (arith, e, z))))
+kinds-some l (suc t) ts ls n e = sym (ap not (ne-eqb n 0 (λ z. omega (arith, e, z))))
+
+pub has-word : (w ts ls : ℕ) → hasRecord (recordIn w ts ls) ≡ not (eqb (w % 16) 0)
+has-word w ts ls = kinds-some (w % 4) (w / 4 % 4) ts ls (w % 16) (omega arith)
