@@ -1,20 +1,25 @@
 -- The parts of a block, judged: what is left to read once the words so far were read.
-use Prim.Native.Nat.{ℕ, _+_, _<_}
+use Prim.Native.Nat.{ℕ, _+_, _-_, _*_, _≤_, _<_}
 use native.Mathlib.Numerals.{add-one}
 use mathlib.Core.Path.{_≡_, _∙_, refl, sym, ap}
 use mathlib.Core.Bool.{Bool, true, false, _||_, or-false, or-assoc, or-comm}
 use mathlib.Core.List.{List, [], _∷_}
 use lib.ListN.{length, drop, getD}
 use lib.Seq.{drop-length, drop-cons}
-use lib.Dec.{eqb}
+use lib.Dec.{leb, eqb}
+use borrow.Author.Tests.{leb-true}
 use Rattle.model.specs.Limits.{mostCount, mostOrder, mostTerminal, mostBlocks}
 use Rattle.model.specs.Lists.{each, among}
 use Rattle.model.specs.Sheet.{Place, Effect, EffectList, Operand, Phi, Instruction, Terminal, Other, Return, MaybeThrow, Block, BlockId, EvaluationOrder}
 use Rattle.model.specs.Reading.{Position, Result, got, refused, Read, andThen, _>>=_, pure, refuse, count, atMost, times, numbered, counted}
 use Rattle.model.specs.Sections.{place, effect, effects, operand, phi, instruction, terminalOf, terminal, block}
 use Rattle.model.specs.Totals.{Totals}
+use Rattle.hir.specs.Runs.{noEffect, Run}
+use Rattle.hir.proofs.WordLaws.{and-left, and-right}
+use Rattle.hir.proofs.RunLaws.{run-leaves, emptyFrom, empty-got}
+use Rattle.blocks.specs.Empty.{emptyFits}
 use Rattle.blocks.specs.Judging.{judge, withRelation, tellEffect, tellOperand, tellPhi, tellInstruction, tellTerminal, tellBlock, blocksOf}
-use Rattle.blocks.proofs.JudgeLaws.{judge-got, judge-refused, got-judged, refused-judged, then-got, then-refused, then-made}
+use Rattle.blocks.proofs.JudgeLaws.{judge-got, judge-refused, got-judged, refused-judged, then-got, then-refused, then-made, times-next}
 
 -- a search: what is found or stands from here on, one number later
 pub listed-next : (x : ℕ) (l : List ℕ) (i : ℕ) (found : Bool) → i < length l → found || among x (drop i l) ≡ eqb x (getD l i 0) || found || among x (drop (i + 1) l)
@@ -135,3 +140,15 @@ module _ (n m : ℕ) (t : Totals) (ws : List ℕ) (c : Position) where
   pub blocks-refused : (r : ℕ) → count mostBlocks ws c ≡ refused r → judge (blocksOf n m) (each tellBlock) t ws c ≡ refused r
   unfolding blocksOf
   blocks-refused r x = then-refused (count mostBlocks) (λ (k : ℕ). numbered k [] (block n m)) (each tellBlock) t ws c r x
+
+-- a run of instructions without effects: they are read, and nothing is told
+pub empty-run : (n m : ℕ) (t : Totals) (ws : List ℕ) (r left : ℕ) (c : Position) → Run emptyFits ws c left r →
+    judge (times left (instruction n m)) (each tellInstruction) t ws c ≡ judge (times (left - r) (instruction n m)) (each tellInstruction) t ws (c + 2 * r)
+empty-run n m t ws r left c x =
+    run-leaves emptyFits ws
+    (λ (k : ℕ) (d : Position). judge (times left (instruction n m)) (each tellInstruction) t ws c ≡ judge (times k (instruction n m)) (each tellInstruction) t ws d)
+    (λ k d z i e q.
+    let fits : getD ws d 0 ≤ mostOrder = leb-true _ _ (and-left (leb (getD ws d 0) mostOrder) (noEffect ws d) e) in
+    let none = and-right (leb (getD ws d 0) mostOrder) (noEffect ws d) e in
+    q ∙ times-next (instruction n m) tellInstruction ws k t t d (d + 2) z (judge-got (instruction n m) tellInstruction t ws d (emptyFrom ws d) (d + 2) (empty-got n m ws d i none fits)))
+    r left c x refl

@@ -1,3 +1,4 @@
+pub mod Empty
 pub mod Judging
 pub mod Operands
 pub mod Says

@@ -16,6 +16,7 @@ use hir::WordStep;
 
 mod counts;
 mod phis;
+mod runs;
 
 // The relation effects, mutations and renders so far, each no higher than one above its limit.
 pub struct Totals {
@@ -99,13 +100,16 @@ pub fn instructions(start: Cursor, s: &[u32], n: u32, m: u32, totals: Totals) ->
         match instruction(c, s, n, m, t) {
             TotalsStep::Got(u, d2) => {
                 t = u;
-                c = d2;
+                let run = runs::empty_instructions(s, c.at, d2.at, left - 1);
+                left = left - 1 - run;
+                c = Cursor {
+                    at: d2.at + 2 * (run as usize),
+                };
             }
             TotalsStep::Refused(k2) => {
                 return TotalsStep::Refused(k2);
             }
         }
-        left -= 1;
     }
     TotalsStep::Got(t, c)
 }

@@ -1,17 +1,23 @@
 -- An instruction and a block, copied by their parts.
-use Prim.Native.Nat.{ℕ, zero, suc, _+_, _≤_}
+use Prim.Native.Nat.{ℕ, zero, suc, _+_, _-_, _*_, _≤_, _<_}
+use native.Mathlib.Omega.{arith}
 use mathlib.Core.Path.{_≡_, refl, sym, ap, subst, _∙_}
+use mathlib.Core.Bool.{true}
 use mathlib.Core.List.{List, [], _∷_, _++_}
+use lib.ListN.{length}
 use Rattle.model.specs.Lists.{gather}
 use Rattle.model.specs.Limits.{mostCount, mostOrder}
 use Rattle.model.specs.Sheet.{BlockId, Effect, EffectList, Phi, Instruction, Terminal, Block}
 use Rattle.model.specs.Reading.{Position, Result, got, refused, Read, andThen, _>>=_, pure, atMost, counted}
 use Rattle.model.specs.Sections.{effects, phi, instruction, terminal, block}
 use Rattle.model.proofs.Got.{got-value, got-next, not-both, bind-got}
+use Rattle.hir.specs.Runs.{noEffect, Run}
+use Rattle.hir.proofs.RunLaws.{run-leaves, empty-read}
 use Rattle.writing.specs.Wrote.{Wrote}
 use Rattle.copies.specs.Copies.{Copies, Past}
 use Rattle.copies.specs.Words.{copyWords, instructionWords, blockWords}
 use Rattle.copies.specs.declared.effect_lists.Section.{Section}
+use Rattle.copies.proofs.Copying.{Loop, loop-turn}
 
 module _ (n m : ℕ) (ws : List ℕ) (c : Position) where
   -- an order, then effects
@@ -78,3 +84,19 @@ module _ (n m : ℕ) (ws : List ℕ) (c : Position) where
     where
       inside : {b : Block} {d : Position} (x : BlockParts number b d) → counted mostCount (instruction n m) ws i ≡ got (x .list) (x .next)
       inside x = ap (λ (k : Position). counted mostCount (instruction n m) ws k) (p (x .phis) (x .inside) (x .phisRead)) ∙ x .listRead
+
+-- a run of instructions without effects: they are passed, and nothing is written
+module _ (n m : ℕ) (s : Section) (ws : List ℕ) {a : List ℕ} {at : ℕ} where
+  empty-copies : (c : Position) → c + 2 ≤ length ws → noEffect ws c ≡ true → Copies (instruction n m ws c) (instructionWords s) 0 a at a at (c + 2)
+  unfolding instructionWords
+  empty-copies c i e = record {
+    wrote = λ x d h. subst (λ (x : Instruction). Wrote (gather (copyWords s) (x .effects)) a at a at) (got-value (sym (empty-read n m ws c i e h) ∙ h)) (record { words = refl; next = omega arith });
+    after = λ x d h. got-next (sym (empty-read n m ws c i e h) ∙ h);
+    few = omega arith;
+  }
+
+  pub empty-run : {k₀ : ℕ} {c₀ : Position} {a₀ : List ℕ} {at₀ : ℕ} (r left : ℕ) (c : Position) → Run noEffect ws c left r → Loop (instruction n m) (instructionWords s) ws k₀ c₀ a₀ at₀ left c a at
+      → Loop (instruction n m) (instructionWords s) ws k₀ c₀ a₀ at₀ (left - r) (c + 2 * r) a at
+  empty-run {k₀} {c₀} {a₀} {at₀} =
+      run-leaves noEffect ws (λ (k : ℕ) (d : Position). Loop (instruction n m) (instructionWords s) ws k₀ c₀ a₀ at₀ k d a at)
+      (λ k d z i e v. loop-turn (instruction n m) (instructionWords s) v z (empty-copies d i e) refl)

@@ -17,6 +17,7 @@ use hir::BlockStep;
 use hir::Cursor;
 use hir::OrderStep;
 use hir::WordStep;
+use hir::runs::without_effects;
 use writing::put;
 
 // The section that effects of instructions are copied to.
@@ -143,8 +144,12 @@ fn copy_instructions(
     while 0 < left {
         let r = copy_instruction(sheet, next, n, m, section, answer, to);
         to = r.at;
-        next = r.next;
-        left -= 1;
+        let d = r.next;
+        let run = without_effects(sheet, next.at, d.at, left - 1);
+        left = left - 1 - run;
+        next = Cursor {
+            at: d.at + 2 * (run as usize),
+        };
     }
     Copied { at: to, next }
 }

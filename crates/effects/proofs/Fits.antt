@@ -1,45 +1,23 @@
 -- An effect whose words are in their ranges is read to its end.
 use Prim.Native.Nat.{ℕ, _+_, _≤_, _<_}
 use mathlib.Core.Path.{_≡_, refl}
-use mathlib.Core.Bool.{Bool, true, false, _&&_, false≢true}
+use mathlib.Core.Bool.{Bool, true, false, _&&_}
 use mathlib.Core.List.{List}
 use native.Mathlib.Omega.{arith}
 use lib.ListN.{length, getD}
 use lib.Dec.{leb, ltb, eqb}
-use borrow.Author.Tests.{lt-ltb, le-leb, ltb-true, leb-true, eqb-true}
+use borrow.Author.Tests.{ltb-true, leb-true, eqb-true}
 use Rattle.model.specs.Limits.{mostKind, mostTraits}
 use Rattle.model.specs.Lists.{pick}
 use Rattle.model.specs.Sheet.{Place, noPlace}
 use Rattle.model.specs.Traits.{effectOf, reactiveOf}
 use Rattle.model.specs.Effects.{kindOf, rowOf}
-use Rattle.model.specs.Reading.{Position, got, word, atMost, below}
+use Rattle.model.specs.Reading.{Position, got, atMost, below}
 use Rattle.model.specs.Sections.{place, unused, extra, effect}
 use Rattle.hir.specs.Says.{placeOrUnused}
+use Rattle.hir.proofs.WordLaws.{and-left, and-right, word-got, at-most-got, below-got}
 use Rattle.effects.specs.Fits.{effectKind, placeFits, effectFits}
 use Rattle.effects.proofs.LimitTable.{number-right}
-
--- both tests hold
-and-left : (a b : Bool) → (a && b) ≡ true → a ≡ true
-and-left true b e = refl
-and-left false b e = e
-
-and-right : (a b : Bool) → (a && b) ≡ true → b ≡ true
-and-right true b e = e
-and-right false b e = absurd (false≢true e)
-
--- a word in its range is read; `d` is the position after it
-module _ (ws : List ℕ) (c d : Position) (h : c < length ws) (e : d ≡ c + 1) where
-  word-got : word ws c ≡ got (getD ws c 0) d
-  unfolding word
-  word-got = rw (lt-ltb _ _ h, e)
-
-  at-most-got : (most : ℕ) → getD ws c 0 ≤ most → atMost most ws c ≡ got (getD ws c 0) d
-  unfolding atMost
-  at-most-got most g = rw (word-got, le-leb _ _ g)
-
-  below-got : (limit : ℕ) → getD ws c 0 < limit → below limit ws c ≡ got (getD ws c 0) d
-  unfolding below
-  below-got limit g = rw (word-got, lt-ltb _ _ g)
 
 -- the place that three words say
 abbrev placed : Bool → List ℕ → Position → Place

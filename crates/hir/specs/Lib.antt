@@ -1,2 +1,4 @@
+pub mod Fits
 pub mod Numbers
+pub mod Runs
 pub mod Says

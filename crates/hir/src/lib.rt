@@ -5,6 +5,7 @@ ghost use Rattle.hir.specs.Numbers.{effectNumber, kindNumber, terminalNu
 
 pub mod parts;
 pub mod places;
+pub mod runs;
 pub mod words;
 
 // An identifier's number, below the count of identifiers.

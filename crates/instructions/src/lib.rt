@@ -5,6 +5,7 @@ use hir::Cursor;
 use hir::EvaluationOrder;
 use hir::FunctionId;
 use hir::IdentifierId;
+use hir::runs::without_effects;
 ghost use Prim.Native.Nat.{_+_, _≤_};
 ghost use lib.ListN.{length};
 ghost use Rattle.model.specs.Limits.{mostCount};
@@ -118,13 +119,16 @@ pub fn build_instructions(
         match build_instruction(c, s, n, m, ws, built) {
             BuildStep::Got(t, d2) => {
                 built = t;
-                c = d2;
+                let run = without_effects(s, c.at, d2.at, left - 1);
+                left = left - 1 - run;
+                c = Cursor {
+                    at: d2.at + 2 * (run as usize),
+                };
             }
             BuildStep::Refused(k) => {
                 return BuildStep::Refused(k);
             }
         }
-        left -= 1;
     }
     BuildStep::Got(built, c)
 }

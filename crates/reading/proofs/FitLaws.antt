@@ -1,33 +1,41 @@
--- Identifiers whose words are in their ranges are read to their end.
-use Prim.Native.Nat.{ℕ, zero, suc, _+_, _-_, _*_, _≤_, _<_}
-use native.Mathlib.Nat.{not-suc-le-zero}
-use native.Mathlib.Numerals.{sub-one}
+-- Parts whose words are in their ranges are read to their end.
+use Prim.Native.Nat.{ℕ, zero, suc, _+_, _-_, _*_, _≤_}
+use native.Mathlib.Nat.{mul-zero, mul-suc}
 use native.Mathlib.Omega.{arith}
 use mathlib.Core.Path.{_≡_, _∙_, refl, ap}
-use mathlib.Core.Bool.{Bool, true, false, _&&_, false≢true}
+use mathlib.Core.Bool.{Bool, true, _&&_}
 use mathlib.Core.List.{List}
 use lib.ListN.{length, getD}
 use lib.Dec.{leb}
-use borrow.Author.Tests.{lt-ltb}
-use Rattle.model.specs.Limits.{mostRange, mostType}
+use borrow.Author.Tests.{leb-true}
+use Rattle.model.specs.Limits.{mostRange, mostType, mostDiagnostic}
 use Rattle.model.specs.Lists.{each}
 use Rattle.model.specs.Sheet.{Identifier}
-use Rattle.model.specs.Reading.{Position, got, word, atMost, times}
-use Rattle.model.specs.Sections.{typeOf, identifier}
+use Rattle.model.specs.Reading.{Position, got, Read, times}
+use Rattle.model.specs.Sections.{typeOf, identifier, diagnostic}
+use Rattle.hir.specs.Fits.{Test, allFit}
+use Rattle.hir.proofs.WordLaws.{and-left, and-right, at-most-got}
 use Rattle.blocks.specs.Judging.{judge}
 use Rattle.blocks.proofs.JudgeLaws.{judge-got, times-next, times-done}
 use Rattle.reading.specs.Whole.{skip}
-use Rattle.reading.specs.Fits.{identifierFits, identifiersFit}
+use Rattle.reading.specs.Fits.{identifierFits, diagnosticFits}
 
--- both tests hold
-both-hold : (a b : Bool) → (a && b) ≡ true → (a ≡ true) × (b ≡ true)
-both-hold true b e = (refl, e)
-both-hold false b e = absurd (false≢true e)
-
--- a word in its range is read; `d` is the position after it
-at-most-got : (most : ℕ) (ws : List ℕ) (c d : Position) → c < length ws → d ≡ c + 1 → leb (getD ws c 0) most ≡ true → atMost most ws c ≡ got (getD ws c 0) d
-unfolding atMost word
-at-most-got most ws c d h e g = rw (lt-ltb _ _ h, g, e)
+-- a part that passes the test is `here`; so many words each
+module _ {A : Type 0} (f : Read A) (here : List ℕ → Position → A) (test : Test) (words : ℕ) (ws : List ℕ)
+    (part : (c : Position) → c + words ≤ length ws → test ws c ≡ true → f ws c ≡ got (here ws c) (c + words)) where
+  parts-got : (k : ℕ) (c : Position) → c + words * k ≤ length ws → allFit test words k ws c ≡ true → judge (times k f) (each skip) tt ws c ≡ got tt (c + words * k)
+  unfolding allFit
+  parts-got zero c h e =
+      let same : c ≡ c + words * 0 = omega (arith, mul-zero words) in
+      times-done f skip ws 0 tt c (omega arith) ∙ ap (got tt) same
+  parts-got (suc k) c h e =
+      let one = part c (omega (arith, h, mul-suc words k)) (and-left (test ws c) (allFit test words k ws (c + words)) e) in
+      let less : suc k - 1 ≡ k = omega arith in
+      let same : c + words + words * k ≡ c + words * suc k = omega (arith, mul-suc words k) in
+      times-next f skip ws (suc k) tt tt c (c + words) (omega arith) (judge-got f skip tt ws c (here ws c) (c + words) one)
+      ∙ ap (λ (j : ℕ). judge (times j f) (each skip) tt ws (c + words)) less
+      ∙ parts-got k (c + words) (omega (arith, h, mul-suc words k)) (and-right (test ws c) (allFit test words k ws (c + words)) e)
+      ∙ ap (got tt) same
 
 -- the identifier that three words say
 abbrev identifierFrom : List ℕ → Position → Identifier
@@ -39,38 +47,22 @@ identifier-got ws c h f =
     let a : Bool = leb (getD ws c 0) mostRange in
     let b : Bool = leb (getD ws (c + 1) 0) mostRange in
     let t : Bool = leb (getD ws (c + 2) 0) mostType in
-    let p = both-hold (a && b) t f in
-    let q = both-hold a b (p .0) in
+    let ab : (a && b) ≡ true = and-left (a && b) t f in
     rw (
-      at-most-got mostRange ws c (c + 1) (omega arith) refl (q .0),
-      at-most-got mostRange ws (c + 1) (c + 2) (omega arith) (omega arith) (q .1),
-      at-most-got mostType ws (c + 2) (c + 3) (omega arith) (omega arith) (p .1),
+      at-most-got ws c (c + 1) (omega arith) refl mostRange (leb-true _ _ (and-left a b ab)),
+      at-most-got ws (c + 1) (c + 2) (omega arith) (omega arith) mostRange (leb-true _ _ (and-right a b ab)),
+      at-most-got ws (c + 2) (c + 3) (omega arith) (omega arith) mostType (leb-true _ _ (and-right (a && b) t f)),
     )
 
 -- three words each
-pub identifiers-got : (k : ℕ) (ws : List ℕ) (c : Position) → c + 3 * k ≤ length ws → identifiersFit k ws c ≡ true → judge (times k identifier) (each skip) tt ws c ≡ got tt (c + 3 * k)
-unfolding identifiersFit
-identifiers-got zero ws c h f = times-done identifier skip ws 0 tt c (omega arith) ∙ ap (got tt) (omega arith)
-identifiers-got (suc k) ws c h f =
-    let p = both-hold (identifierFits ws c) (identifiersFit k ws (c + 3)) f in
-    let one = judge-got identifier skip tt ws c (identifierFrom ws c) (c + 3) (identifier-got ws c (omega arith) (p .0)) in
-    let less : suc k - 1 ≡ k = omega arith in
-    times-next identifier skip ws (suc k) tt tt c (c + 3) (omega arith) one
-    ∙ ap (λ (j : ℕ). judge (times j identifier) (each skip) tt ws (c + 3)) less
-    ∙ identifiers-got k ws (c + 3) (omega arith) (p .1)
-    ∙ ap (got tt) (omega arith)
+pub identifiers-got : (k : ℕ) (ws : List ℕ) (c : Position) → c + 3 * k ≤ length ws → allFit identifierFits 3 k ws c ≡ true → judge (times k identifier) (each skip) tt ws c ≡ got tt (c + 3 * k)
+identifiers-got k ws c h f = parts-got identifier identifierFrom identifierFits 3 ws (identifier-got ws) k c h f
 
--- the test goes on: what was found so far, and the next identifier
-pub fit-next : (fit : Bool) (k : ℕ) (ws : List ℕ) (c : Position) → 0 < k
-    → (fit && identifiersFit k ws c)
-    ≡ (fit && leb (getD ws c 0) mostRange && leb (getD ws (c + 1) 0) mostRange && leb (getD ws (c + 2) 0) mostType && identifiersFit (k - 1) ws (c + 3))
-unfolding identifiersFit identifierFits
-fit-next fit zero ws c h = absurd (not-suc-le-zero h)
-fit-next true (suc k) ws c h = rw sub-one
-fit-next false (suc k) ws c h = refl
-
-pub fit-done : (fit : Bool) (k : ℕ) (ws : List ℕ) (c : Position) → k ≤ 0 → (fit && identifiersFit k ws c) ≡ fit
-unfolding identifiersFit
-fit-done true zero ws c h = refl
-fit-done false zero ws c h = refl
-fit-done fit (suc k) ws c h = absurd (not-suc-le-zero h)
+-- one word each
+pub diagnostics-got : (k : ℕ) (ws : List ℕ) (c : Position) → c + k ≤ length ws → allFit diagnosticFits 1 k ws c ≡ true → judge (times k diagnostic) (each skip) tt ws c ≡ got tt (c + k)
+unfolding diagnostic
+diagnostics-got k ws c h f =
+    let same : c + 1 * k ≡ c + k = omega arith in
+    parts-got diagnostic (λ (ws : List ℕ) (c : Position). getD ws c 0) diagnosticFits 1 ws
+    (λ c i e. at-most-got ws c (c + 1) (omega (arith, i)) refl mostDiagnostic (leb-true _ _ e)) k c (omega (arith, h)) f
+    ∙ ap (got tt) same

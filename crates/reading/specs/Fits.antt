@@ -1,17 +1,15 @@
--- One test for all words of the identifiers.
-use Prim.Native.Nat.{ℕ, zero, suc, _+_}
-use mathlib.Core.Bool.{Bool, true, _&&_}
-use mathlib.Core.List.{List}
+-- One test for the words of an identifier, and for a diagnostic number.
+use Prim.Native.Nat.{_+_}
+use mathlib.Core.Bool.{_&&_}
 use lib.ListN.{getD}
 use lib.Dec.{leb}
-use Rattle.model.specs.Limits.{mostRange, mostType}
-use Rattle.model.specs.Reading.{Position}
+use Rattle.model.specs.Limits.{mostRange, mostType, mostDiagnostic}
+use Rattle.hir.specs.Fits.{Test}
 
 -- whether the three words of an identifier are in their ranges
-unfoldable pub identifierFits : List ℕ → Position → Bool
+unfoldable pub identifierFits : Test
 identifierFits ws c = leb (getD ws c 0) mostRange && leb (getD ws (c + 1) 0) mostRange && leb (getD ws (c + 2) 0) mostType
 
--- and those of k identifiers
-unfoldable pub identifiersFit : ℕ → List ℕ → Position → Bool
-identifiersFit zero ws c = true
-identifiersFit (suc k) ws c = identifierFits ws c && identifiersFit k ws (c + 3)
+-- whether a diagnostic number is in its range
+abbrev pub diagnosticFits : Test
+diagnosticFits ws c = leb (getD ws c 0) mostDiagnostic

@@ -1,3 +1,4 @@
+use Prim.Native.Nat.{_+_, _*_, _≤_}
 use native.Mathlib.Omega.{arith}
 use mathlib.Core.Path.{refl, _∙_}
 use borrow.Author.Needs.{needs}
@@ -5,8 +6,11 @@ use Rattle.model.specs.Sections.{instruction}
 use Rattle.model.specs.Building.{instruction as instructionStep}
 use Rattle.model.specs.Reading.{times}
 use Rattle.model.specs.Limits.{mostCount}
+use Rattle.hir.specs.Runs.{noEffect}
+use Rattle.hir.proofs.RunLaws.{run-ends}
 use Rattle.instructions.specs.Cost.{instructionCost}
 use Rattle.instructions.proofs.InPlace.{counted-inside, counted-here}
+use Rattle.instructions.proofs.Instruction.{empty-run}
 use Rattle.instructions.proofs.Building.{not-built, found-builds, ready-as, builds-as}
 use Rattle.instructions.proofs.Looping.{Looping, loop-start, times-ready, times-turn, times-done}
 use Rattle.instructions.proofs.build_instructions.Statement.{statement}
@@ -32,8 +36,8 @@ shared-slice-read-left c =
     let i = counted-inside mostCount (instruction (a .n) (a .m)) (a .s .now) (a .start .at) (b .pre .1 .reads) in
     omega (arith, i)
 
-add-t14 : tie.Need-add-t14 Inv-loop μ-loop
-add-t14 c =
+add-t15 : tie.Need-add-t15 Inv-loop μ-loop
+add-t15 c =
     let b = c .before .before .before in
     let a = b .args in
     let i = counted-inside mostCount (instruction (a .n) (a .m)) (a .s .now) (a .start .at) (b .pre .1 .reads) in
@@ -55,6 +59,43 @@ build-instruction-requires c κs =
 enum-known-t : tie.Need-enum-known-t Inv-loop μ-loop
 enum-known-t c = search needs
 
+sub-without-effects : tie.Need-sub-without-effects Inv-loop μ-loop
+sub-without-effects c = omega arith
+
+without-effects-requires : tie.Need-without-effects-requires Inv-loop μ-loop
+without-effects-requires c κs = tt
+
+sub-left : tie.Need-sub-left Inv-loop μ-loop
+sub-left c = omega arith
+
+sub-left-2 : tie.Need-sub-left-2 Inv-loop μ-loop
+sub-left-2 c = omega (arith, c .without-effects .ensures .most)
+
+cast-t23 : tie.Need-cast-t23 Inv-loop μ-loop
+cast-t23 c = omega arith
+
+mul-t24 : tie.Need-mul-t24 Inv-loop μ-loop
+mul-t24 c = omega arith
+
+add-t25 : tie.Need-add-t25 Inv-loop μ-loop
+add-t25 c =
+    let d = c .before .before .before .t .given .0 .1 .0 .at in
+    let r = c .before .without-effects .result in
+    let ends : d + 2 * r ≤ 18446744073709551615 = run-ends noEffect _ r _ d 18446744073709551615 (c .before .without-effects .ensures) (omega (arith, c .struct-known .given)) (omega arith) in
+    omega (arith, ends)
+
+loop-less : tie.Need-loop-less Inv-loop μ-loop
+loop-less c = omega (arith, c .before .without-effects .ensures .most)
+
+loop-again : tie.Need-loop-again Inv-loop μ-loop
+loop-again c =
+    let b7 = c .before .before .before .before .before .before .before in
+    let b9 = b7 .before .before in
+    let l = b9 .before .loop in
+    let a = b9 .before .before .before .before .before .args in
+    empty-run (a .n) (a .m) (a .s .now) _ _ _ (c .before .without-effects .ensures)
+    (times-turn instructionStep instructionCost (instruction (a .n) (a .m)) (a .s .now) (l .left) (l .c) (l .inv) _ (b9 .loop-test .taken) (found-builds (c .before .before .before .t .given .1) (b7 .build-instruction .ensures)))
+
 enum-known-k : tie.Need-enum-known-k Inv-loop μ-loop
 enum-known-k c = search needs
 
@@ -68,19 +109,6 @@ returns c =
     let b = c .before .before .before .before .before .before .before .before .before .before .before .before in
     let a = b .args in
     absurd (not-built (times-ready instructionStep instructionCost (instruction (a .n) (a .m)) (a .s .now) (l .left) (l .c) (l .inv) (c .before .before .before .before .before .before .before .loop-test .taken)) (found-builds (c .before .k .given .1) (c .before .before .before .before .before .build-instruction .ensures)))
-
-sub-left : tie.Need-sub-left Inv-loop μ-loop
-sub-left c = omega arith
-
-loop-less : tie.Need-loop-less Inv-loop μ-loop
-loop-less c = omega arith
-
-loop-again : tie.Need-loop-again Inv-loop μ-loop
-loop-again c =
-    let l = c .before .before .before .before .before .before .before .before .loop in
-    let b = c .before .before .before .before .before .before .before .before .before .before .before .before in
-    let a = b .args in
-    times-turn instructionStep instructionCost (instruction (a .n) (a .m)) (a .s .now) (l .left) (l .c) (l .inv) _ (c .before .before .before .before .before .before .before .loop-test .taken) (found-builds (c .before .t .given .1) (c .before .before .before .before .before .build-instruction .ensures))
 
 same-length-2 : tie.Need-same-length-2 Inv-loop μ-loop
 same-length-2 c = c .before .loop .inv .same
@@ -100,15 +128,21 @@ build-instructions-spec =
     μ-loop
     mul-left
     shared-slice-read-left
-    add-t14
+    add-t15
     loop-holds
     build-instruction-requires
     enum-known-t
+    sub-without-effects
+    without-effects-requires
+    sub-left
+    sub-left-2
+    cast-t23
+    mul-t24
+    add-t25
+    loop-less
+    loop-again
     enum-known-k
     same-length
     returns
-    sub-left
-    loop-less
-    loop-again
     same-length-2
     returns-2)

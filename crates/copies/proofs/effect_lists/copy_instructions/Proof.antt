@@ -1,5 +1,8 @@
 use Rattle.copies.proofs.Copying.{Loop, loop-start, loop-turn, loop-end, copies-counted, copies-refused, counted-none}
 use Rattle.copies.specs.Words.{instructionWords}
+use Rattle.copies.proofs.Blocks.{empty-run}
+use Rattle.hir.specs.Runs.{noEffect}
+use Rattle.hir.proofs.RunLaws.{run-ends}
 use Rattle.hir.proofs.Answers.{says}
 use Rattle.hir.specs.Says.{wordSays}
 use Rattle.model.proofs.ReadLaws.{count-reads as count-at-most}
@@ -20,53 +23,66 @@ Inv-loop sheet n m section answer₀ at left₀ next₀ to₀ answer left next t
 abbrev μ-loop : tie.MeasureT-loop
 μ-loop sheet n m section answer₀ at left₀ next₀ to₀ answer left next to = left
 
--- src/effect_lists.rt:145:11
 count-requires : tie.Need-count-requires Inv-loop μ-loop
 count-requires c κs = omega arith
 
--- src/effect_lists.rt:146:23
 enum-known-k : tie.Need-enum-known-k Inv-loop μ-loop
 enum-known-k c = omega arith
 
--- src/effect_lists.rt:151:13
 enum-told : tie.Need-enum-told Inv-loop μ-loop
 enum-told c = omega arith
 
--- src/effect_lists.rt:151:13
 returns : tie.Need-returns Inv-loop μ-loop
 returns c = copies-refused _ _ 8388608 _ _ _ (counted-none mostCount (instruction _ _) _ _ (says wordSays (c .enum-told .given .1) (c .before .before .count .ensures)))
 
--- src/effect_lists.rt:155:5
 loop-holds : tie.Need-loop-holds Inv-loop μ-loop
 loop-holds c =
     let b3 = c .before .before .before in
     (loop-start _ _ _ _ _ _, omega (arith, count-at-most 1024 _ _ _ _ (says wordSays (c .before .k .given .1) (b3 .count .ensures))))
 
--- src/effect_lists.rt:156:13
 copy-instruction-requires : tie.Need-copy-instruction-requires Inv-loop μ-loop
 copy-instruction-requires c κs = omega arith
 
--- src/effect_lists.rt:159:9
+sub-without-effects : tie.Need-sub-without-effects Inv-loop μ-loop
+sub-without-effects c = omega arith
+
+without-effects-requires : tie.Need-without-effects-requires Inv-loop μ-loop
+without-effects-requires c κs = omega arith
+
 sub-left : tie.Need-sub-left Inv-loop μ-loop
 sub-left c = omega arith
 
--- src/effect_lists.rt:155:5
-loop-less : tie.Need-loop-less Inv-loop μ-loop
-loop-less c = omega arith
+sub-left-2 : tie.Need-sub-left-2 Inv-loop μ-loop
+sub-left-2 c = omega (arith, c .without-effects .ensures .most)
 
--- src/effect_lists.rt:155:5
+cast-t21 : tie.Need-cast-t21 Inv-loop μ-loop
+cast-t21 c = omega arith
+
+mul-t22 : tie.Need-mul-t22 Inv-loop μ-loop
+mul-t22 c = omega arith
+
+add-t23 : tie.Need-add-t23 Inv-loop μ-loop
+add-t23 c =
+    let b5 = c .before .before .before .before .before in
+    let b15 = b5 .before .before .before .before .before .before .before .before .before .before in
+    let d = b5 .copy-instruction .result .next .at in
+    let r = c .before .without-effects .result in
+    let ends : d + 2 * r ≤ 18446744073709551615 = run-ends noEffect _ r _ d 18446744073709551615 (c .before .without-effects .ensures) (omega (arith, c .struct-known .given)) (omega (arith, b15 .good)) in
+    omega (arith, ends)
+
+loop-less : tie.Need-loop-less Inv-loop μ-loop
+loop-less c = omega (arith, c .before .without-effects .ensures .most)
+
 loop-again : tie.Need-loop-again Inv-loop μ-loop
 loop-again c =
-    let b3 = c .before .before .before in
-    let b5 = b3 .before .before in
-    let b6 = b5 .before in
-    (loop-turn _ _ (b6 .loop .inv .0) (b5 .loop-test .taken) (b3 .copy-instruction .ensures) (b3 .copy-instruction .kept .1 .1 .1 .1 .1 .0), omega (arith, b3 .copy-instruction .ensures .few))
+    let b5 = c .before .before .before .before .before in
+    let b7 = b5 .before .before in
+    let b8 = b7 .before in
+    (empty-run _ _ _ _ _ _ _ (c .before .without-effects .ensures) (loop-turn _ _ (b8 .loop .inv .0) (b7 .loop-test .taken) (b5 .copy-instruction .ensures) (b5 .copy-instruction .kept .1 .1 .1 .1 .1 .0)), omega (arith, b5 .copy-instruction .ensures .few, b8 .loop .inv .1, b7 .loop-test .taken))
 
--- src/effect_lists.rt:131:1
 same-length : tie.Need-same-length Inv-loop μ-loop
 same-length c = c .before .loop .inv .0 .same
 
--- src/effect_lists.rt:131:1
 returns-2 : tie.Need-returns-2 Inv-loop μ-loop
 returns-2 c =
     let b3 = c .before .before .before in
@@ -85,7 +101,13 @@ copy-instructions-spec =
     returns
     loop-holds
     copy-instruction-requires
+    sub-without-effects
+    without-effects-requires
     sub-left
+    sub-left-2
+    cast-t21
+    mul-t22
+    add-t23
     loop-less
     loop-again
     same-length

@@ -4,13 +4,14 @@ use mathlib.Core.Path.{_≡_, _∙_, sym, refl}
 use mathlib.Core.Bool.{_&&_}
 use lib.ListN.{length}
 use denote.Ref.{now}
-use Rattle.reading.specs.Fits.{identifiersFit}
-use Rattle.reading.proofs.FitLaws.{fit-next, fit-done}
+use Rattle.hir.specs.Fits.{allFit}
+use Rattle.hir.proofs.WordLaws.{fit-next, fit-done}
+use Rattle.reading.specs.Fits.{identifierFits}
 use Rattle.reading.proofs.sections.identifiers_fit.Statement.{statement}
 use Rattle.reading.proofs.sections.identifiers_fit.Tie as tie
 
 abbrev Inv-loop : tie.InvT-loop
-Inv-loop s start count fit₀ at₀ left₀ fit at left = (at + 3 * left ≤ length s) × (identifiersFit count s start ≡ (fit && identifiersFit left s at))
+Inv-loop s start count fit₀ at₀ left₀ fit at left = (at + 3 * left ≤ length s) × (allFit identifierFits 3 count s start ≡ (fit && allFit identifierFits 3 left s at))
 
 abbrev μ-loop : tie.MeasureT-loop
 μ-loop s start count fit₀ at₀ left₀ fit at left = left
@@ -52,13 +53,14 @@ loop-less : tie.Need-loop-less Inv-loop μ-loop
 loop-less c = omega (arith, c .before .before .before .loop-test .taken, c .before .before .before .before .loop .inv .0)
 
 loop-again : tie.Need-loop-again Inv-loop μ-loop
+unfolding identifierFits
 loop-again c =
     let b3 = c .before .before .before in
     let b4 = b3 .before in
-    (omega (arith, b3 .loop-test .taken, b4 .loop .inv .0), b4 .loop .inv .1 ∙ fit-next (b4 .loop .fit) (b4 .loop .left) (now (b4 .before .args .s)) (b4 .loop .at) (b3 .loop-test .taken))
+    (omega (arith, b3 .loop-test .taken, b4 .loop .inv .0), b4 .loop .inv .1 ∙ fit-next identifierFits 3 (now (b4 .before .args .s)) (b4 .loop .fit) (b4 .loop .left) (b4 .loop .at) (b3 .loop-test .taken))
 
 returns : tie.Need-returns Inv-loop μ-loop
-returns c = sym (c .before .loop .inv .1 ∙ fit-done _ _ _ _ (c .loop-test .left))
+returns c = sym (c .before .loop .inv .1 ∙ fit-done _ _ _ _ _ _ (c .loop-test .left))
 
 pub identifiers-fit-spec : {M : Type 1} → statement M
 identifiers-fit-spec =
