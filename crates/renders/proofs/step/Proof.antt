@@ -1,4 +1,4 @@
-use Rattle.renders.proofs.Steps.{step-seen, step-passed, step-room, step-rendered}
+use Rattle.renders.proofs.Steps.{step-seen, step-passed, step-room, step-used, step-rendered}
 use lib.ListN.{length-set}
 use mathlib.Core.Path.{sym, _∙_}
 use native.Mathlib.Omega.{arith}
@@ -94,9 +94,11 @@ append-function-errors-requires c κs =
 push-origins-requires : tie.Need-push-origins-requires
 push-origins-requires c κs =
     let b3 = c .before .before .before in
-    let b10 = b3 .before .before .before .before .before .before .before in
+    let b5 = b3 .before .before in
+    let b6 = b5 .before in
+    let b10 = b6 .before .before .before .before in
     let b14 = b10 .before .before .before .before in
-    (step-room (b14 .args .index) (b14 .args .ws .now) (b14 .args .top) (b14 .args .hand) (b14 .pre .0) (b14 .pre .1) (b10 .if1 .left) (b3 .append-function-errors .last .0) (b3 .append-function-errors .result) (b3 .append-function-errors .ensures), omega arith)
+    (step-room (b14 .args .index) (b14 .args .ws .now) (b14 .args .top) (b14 .args .hand) (b14 .pre .0) (b14 .pre .1) (b10 .if1 .left) (b3 .append-function-errors .last .0) (b3 .append-function-errors .result) (b3 .append-function-errors .ensures), (omega arith, step-used (b14 .args .index) (b14 .args .ws .now) (b14 .args .top) (b14 .args .hand) (b14 .pre .0) (b14 .pre .1) (b10 .if1 .left) (b3 .append-function-errors .last .0) (b3 .append-function-errors .result) (b3 .append-function-errors .ensures) (sym (b6 .passes-by .ensures) ∙ b5 .if2 .left)))
 
 same-length-2 : tie.Need-same-length-2
 same-length-2 c =
