@@ -21,6 +21,12 @@ use Rattle.building.specs.Logs.{graphOfLogs}
 use Rattle.building.specs.Held.{logsOf, graphOf, Room, Laid}
 use Rattle.building.proofs.Counts.{edges-under, entries-under}
 
+-- where all have a key below m, all have one below k
+low-up : (t m k : ℕ) (l : List ℕ) → m ≤ k → low t m l ≡ length l → low t k l ≡ length l
+low-up t m k l h e =
+    let d : k ≡ m + (k - m) = omega arith in
+    omega (arith, e, low-mono t m (k - m) l, ap (λ (j : ℕ). low t j l) d, low-le t k l)
+
 module _ (ws : List ℕ) (h : Held) (room : Room 0 0 ws h) where
   few-e : h .edges ≤ 1024
   few-e = omega (arith, room .edges)
@@ -124,18 +130,14 @@ module _ (ws : List ℕ) (h : Held) (room : Room 0 0 ws h) where
       fb-is k = go (decLt U k)
         where
           go : Dec (U < k) → fb (rowsOf ws₂) k ≡ low 0 k E
-          go (yes p) =
-              let d : k ≡ U + (k - U) = omega (arith, p) in
-              omega (arith, fb-behind ws₂ long k p, f-all, E-under U (used-few (rowsOf ws₂)) no-value, low-mono 0 U (k - U) E, ap (λ (j : ℕ). low 0 j E) d, low-le 0 k E, E-length)
+          go (yes p) = fb-behind ws₂ long k p ∙ f-all ∙ sym (low-up 0 U k E (omega (arith, p)) (E-under U (used-few (rowsOf ws₂)) no-value ∙ sym E-length) ∙ E-length)
           go (no p) = omega (arith, fb-at ws₂ long k (omega (arith, p)), f-all, f-bound k (omega (arith, p, U-few)))
 
       bb-is : (k : ℕ) → bb (rowsOf ws₂) k ≡ low 1 k N
       bb-is k = go (decLt (4 * U) k)
         where
           go : Dec (4 * U < k) → bb (rowsOf ws₂) k ≡ low 1 k N
-          go (yes p) =
-              let d : k ≡ 4 * U + (k - 4 * U) = omega (arith, p) in
-              omega (arith, bb-behind ws₂ long k p, b-all, N-under U (used-few (rowsOf ws₂)) no-value, low-mono 1 (4 * U) (k - 4 * U) N, ap (λ (j : ℕ). low 1 j N) d, low-le 1 k N, N-length)
+          go (yes p) = bb-behind ws₂ long k p ∙ b-all ∙ sym (low-up 1 (4 * U) k N (omega (arith, p)) (N-under U (used-few (rowsOf ws₂)) no-value ∙ sym N-length) ∙ N-length)
           go (no p) = omega (arith, bb-at ws₂ long k (omega (arith, p)), b-all, b-bound k (omega (arith, p, U-few)))
 
       next : (t k : ℕ) (l : List ℕ) → low t (k + 1) l ≡ low t (suc k) l
