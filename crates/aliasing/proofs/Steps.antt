@@ -12,9 +12,9 @@ use Rattle.model.specs.Graph.{Graph, Node, nodeAt}
 use Rattle.model.specs.Mutation.{level}
 use Rattle.model.specs.State.{Record, noRecord, hasRecord, recordsErrors, touch, functionOf, State, accepts}
 use Rattle.model.specs.Walks.{Item, Walk, pushes, remember, skipped, missed, accept, step}
-use Rattle.rows.specs.Rows.{rowsOf, value, rowF, rowB, Good, Kept}
+use Rattle.rows.specs.Rows.{rowsOf, used, value, rowF, rowB, Good, Kept}
 use Rattle.rows.specs.Graph.{valueOf, ownNode, graphOfRows}
-use Rattle.rows.proofs.Rows.{value-at, rows-length}
+use Rattle.rows.proofs.Rows.{used-below, value-at, rows-length}
 use Rattle.rows.proofs.Graph.{row-there, row-missing}
 use Rattle.rows.proofs.Parts.{drop-more}
 use Rattle.pushes.specs.Pushes.{pushedW, Pushed, Room, deg}
@@ -246,6 +246,10 @@ module _ (m : Mutation) (base : ℕ) (ws : List ℕ) (top hand : ℕ) (ready : R
           good = subst Good (sym rows₂) (ready .good);
           room = omega (arith, falls-by, ready .fits, ap (λ (g : List ℕ). deg g (placeAt ws top)) rows₂);
         }
+
+        -- its rows have bounds
+        pub step-used : (getD marked (4096 + placeAt ws top) 0 ≡ 0 → ⊥) → placeAt ws top < used (rowsOf ws₂)
+        step-used there = subst (λ (g : List ℕ). placeAt ws top < used g) (sym rows₂) (used-below (rowsOf ws) (placeAt ws top) x-below (λ z. there (value-kept ∙ z)))
 
         module _ (there : getD marked (4096 + placeAt ws top) 0 ≡ 0 → ⊥) (ws₃ : List ℕ) (r : ℕ)
             (p : Pushed ws₂ (top - 1) (pushedW (rowsOf ws₂) (placeAt ws top) (directionAt ws top) (m .index) (transitiveAt ws top) (kindAt ws top)) ws₃ r) where

@@ -35,7 +35,7 @@ tab-all n f a h =
     (λ i k. let q : i < n = omega (arith, tab-length n f) in tab-at n f i a q ∙ h i q ∙ sym (getD-replicate n i a a q))
 
 abbrev none-held : Held
-none-held = record { edges = 0; entries = 0; waiting = 0 }
+none-held = record { edges = 0; entries = 0; waiting = 0; nodes = 0 }
 
 abbrev none-built : Building
 none-built = record { held = none-held; come = 0; relations = 0; mutations = 0; renders = 0 }
@@ -44,14 +44,14 @@ without-nil : (t x : ℕ) → without t x [] ≡ []
 unfolding without
 without-nil t x = refl
 
-clean-nil : (values : List ℕ) → Clean (record { values = values; edges = []; entries = [] })
-clean-nil values = record { edges = λ x h e. without-nil 0 x; entries = λ x h e. without-nil 1 x }
+clean-nil : (values : List ℕ) → ((x : ℕ) → x < 512 → getD values x 0 ≡ 0) → Clean (record { values = values; edges = []; entries = []; nodes = 0 })
+clean-nil values zeros = record { edges = λ x h e. without-nil 0 x; entries = λ x h e. without-nil 1 x; above = λ x h q. zeros x q; few = omega arith }
 
 module _ (ws ws′ : List ℕ) (size : LEAST ≤ length ws) (is : ws′ ≡ clearW ws VALUE 512) where
   cleared : Kept VALUE FBOUND ws ws′
   cleared = subst (λ (l : List ℕ). Kept VALUE FBOUND ws l) (sym is) (kept-clear ws VALUE 512)
 
-  no-logs : logsOf ws′ none-held ≡ record { values = slice VALUE FBOUND ws′; edges = []; entries = [] }
+  no-logs : logsOf ws′ none-held ≡ record { values = slice VALUE FBOUND ws′; edges = []; entries = []; nodes = 0 }
   no-logs = logs-eq refl (slice-empty EDGES ws′) (slice-empty ENTRIES ws′)
 
   no-value : (x : ℕ) → x < 512 → getD (slice VALUE FBOUND ws′) x 0 ≡ 0
@@ -76,7 +76,7 @@ module _ (ws ws′ : List ℕ) (size : LEAST ≤ length ws) (is : ws′ ≡ clea
     built = none-yet;
     sound = record {
       size = omega (arith, cleared .same);
-      clean = subst Clean (sym no-logs) (clean-nil (slice VALUE FBOUND ws′));
+      clean = subst Clean (sym no-logs) (clean-nil (slice VALUE FBOUND ws′) no-value);
       edges = omega arith;
       entries = omega arith;
       relations = omega arith;

@@ -32,16 +32,16 @@ waiting-push : (ps ws : List ℕ) (p w : ℕ) → length ps ≡ length ws → op
 unfolding operandsOf
 waiting-push ps ws p w e = operands-both ps (p ∷ []) ws (w ∷ []) e
 
--- the logs are words before PREDS, and the third count is not theirs
-logs-low : (ws ws′ : List ℕ) (e n a b : ℕ) → e ≤ 1024 → n ≤ 1024 → take PREDS ws′ ≡ take PREDS ws → logsOf ws′ (record { edges = e; entries = n; waiting = a }) ≡ logsOf ws (record { edges = e; entries = n; waiting = b })
-logs-low ws ws′ e n a b h k t = logs-eq (slice-take PREDS VALUE FBOUND ws′ ws (omega arith) t) (slice-take PREDS EDGES (EDGES + e) ws′ ws (omega arith) t) (slice-take PREDS ENTRIES (ENTRIES + n) ws′ ws (omega arith) t)
+-- the logs are words before PREDS, and how many wait is not theirs
+logs-low : (ws ws′ : List ℕ) (e n v a b : ℕ) → e ≤ 1024 → n ≤ 1024 → take PREDS ws′ ≡ take PREDS ws → logsOf ws′ (record { edges = e; entries = n; waiting = a; nodes = v }) ≡ logsOf ws (record { edges = e; entries = n; waiting = b; nodes = v })
+logs-low ws ws′ e n v a b h k t = logs-eq (slice-take PREDS VALUE FBOUND ws′ ws (omega arith) t) (slice-take PREDS EDGES (EDGES + e) ws′ ws (omega arith) t) (slice-take PREDS ENTRIES (ENTRIES + n) ws′ ws (omega arith) t)
 
-pub graph-low : (ws ws′ : List ℕ) (e n a b : ℕ) → e ≤ 1024 → n ≤ 1024 → take PREDS ws′ ≡ take PREDS ws → graphOf ws′ (record { edges = e; entries = n; waiting = a }) ≡ graphOf ws (record { edges = e; entries = n; waiting = b })
+pub graph-low : (ws ws′ : List ℕ) (e n v a b : ℕ) → e ≤ 1024 → n ≤ 1024 → take PREDS ws′ ≡ take PREDS ws → graphOf ws′ (record { edges = e; entries = n; waiting = a; nodes = v }) ≡ graphOf ws (record { edges = e; entries = n; waiting = b; nodes = v })
 unfolding graphOf
-graph-low ws ws′ e n a b h k t = ap graphOfLogs (logs-low ws ws′ e n a b h k t)
+graph-low ws ws′ e n v a b h k t = ap graphOfLogs (logs-low ws ws′ e n v a b h k t)
 
-pub clean-low : (ws ws′ : List ℕ) (e n a b : ℕ) → e ≤ 1024 → n ≤ 1024 → take PREDS ws′ ≡ take PREDS ws → Clean (logsOf ws (record { edges = e; entries = n; waiting = b })) → Clean (logsOf ws′ (record { edges = e; entries = n; waiting = a }))
-clean-low ws ws′ e n a b h k t c = subst Clean (sym (logs-low ws ws′ e n a b h k t)) c
+pub clean-low : (ws ws′ : List ℕ) (e n v a b : ℕ) → e ≤ 1024 → n ≤ 1024 → take PREDS ws′ ≡ take PREDS ws → Clean (logsOf ws (record { edges = e; entries = n; waiting = b; nodes = v })) → Clean (logsOf ws′ (record { edges = e; entries = n; waiting = a; nodes = v }))
+clean-low ws ws′ e n v a b h k t c = subst Clean (sym (logs-low ws ws′ e n v a b h k t)) c
 
 -- ---- one more waits
 module _ (ws : List ℕ) (p w : ℕ) (size : LEAST ≤ length ws) (k : ℕ) (few : k < 1024) where
@@ -85,15 +85,15 @@ module _ (ws : List ℕ) (h : Held) (p from into index w : ℕ) (room : Room 1 1
   k : h .waiting < 1024
   k = omega (arith, room .edges)
 
-  more : waitingOf (set (set ws (PREDS + h .waiting) p) (RELATIONS + h .waiting) w) (record { edges = h .edges; entries = h .entries; waiting = h .waiting + 1 }) ≡ waitingOf ws h ++ (record { predecessor = p; index = index; origin = from; into = into } ∷ [])
+  more : waitingOf (set (set ws (PREDS + h .waiting) p) (RELATIONS + h .waiting) w) (record { edges = h .edges; entries = h .entries; waiting = h .waiting + 1; nodes = h .nodes }) ≡ waitingOf ws h ++ (record { predecessor = p; index = index; origin = from; into = into } ∷ [])
   unfolding waitingOf
   more = put-waiting ws p w (room .size) (h .waiting) k ∙ ap (λ (v : Waiting). operandsOf (slice PREDS (PREDS + h .waiting) ws) (slice RELATIONS (RELATIONS + h .waiting) ws) ++ (v ∷ [])) decoded
 
-  pub wait-waits : Waits (record { predecessor = p; index = index; origin = from; into = into }) ws h (set (set ws (PREDS + h .waiting) p) (RELATIONS + h .waiting) w) (record { edges = h .edges; entries = h .entries; waiting = h .waiting + 1 })
+  pub wait-waits : Waits (record { predecessor = p; index = index; origin = from; into = into }) ws h (set (set ws (PREDS + h .waiting) p) (RELATIONS + h .waiting) w) (record { edges = h .edges; entries = h .entries; waiting = h .waiting + 1; nodes = h .nodes })
   wait-waits = record {
-    graph = graph-low ws _ (h .edges) (h .entries) (h .waiting + 1) (h .waiting) e n (put-low ws p w (room .size) (h .waiting) k);
+    graph = graph-low ws _ (h .edges) (h .entries) (h .nodes) (h .waiting + 1) (h .waiting) e n (put-low ws p w (room .size) (h .waiting) k);
     operands = more;
-    clean = clean-low ws _ (h .edges) (h .entries) (h .waiting + 1) (h .waiting) e n (put-low ws p w (room .size) (h .waiting) k) (room .clean);
+    clean = clean-low ws _ (h .edges) (h .entries) (h .nodes) (h .waiting + 1) (h .waiting) e n (put-low ws p w (room .size) (h .waiting) k) (room .clean);
     low = take-less VALUE PREDS (set (set ws (PREDS + h .waiting) p) (RELATIONS + h .waiting) w) ws (omega arith) (put-low ws p w (room .size) (h .waiting) k);
     high = put-high ws p w (room .size) (h .waiting) k;
     same = put-same ws p w (room .size) (h .waiting) k;
@@ -117,12 +117,12 @@ ahead-none : (ws : List ℕ) (n i : ℕ) → i ≡ n → ahead ws n i ≡ []
 unfolding ahead operandsOf
 ahead-none ws n i q = rw (q, slice-empty (PREDS + n) ws)
 
-abbrev pub held : ℕ → ℕ → ℕ → Held
-held e m k = record { edges = e; entries = m; waiting = k }
+abbrev pub held : ℕ → ℕ → ℕ → ℕ → Held
+held e m v k = record { edges = e; entries = m; waiting = k; nodes = v }
 
-kept-all : (ws : List ℕ) (e m k : ℕ) → operandsOf (slice PREDS (PREDS + k) ws) (slice RELATIONS (RELATIONS + k) ws) ≡ waitingOf ws (held e m k)
+kept-all : (ws : List ℕ) (e m v k : ℕ) → operandsOf (slice PREDS (PREDS + k) ws) (slice RELATIONS (RELATIONS + k) ws) ≡ waitingOf ws (held e m v k)
 unfolding waitingOf
-kept-all ws e m k = refl
+kept-all ws e m v k = refl
 
 -- the others
 abbrev pub others : ℕ → Waiting → Bool
@@ -132,13 +132,13 @@ others n w = not (waitingFor n w)
 unfoldable pub wakeAll : ℕ → List Waiting → Graph → Graph
 wakeAll n l = each (λ (w : Waiting). relate intoAliases (w .index) (w .origin) (w .into)) (keep (waitingFor n) l)
 
-pub record Waking (ws₀ : List ℕ) (block n e₀ m₀ : ℕ) (ws : List ℕ) (e m i left : ℕ) : Type 0 where
-  pub room : Room 0 0 ws₀ (held e₀ m₀ n)
+pub record Waking (ws₀ : List ℕ) (block n e₀ m₀ v₀ : ℕ) (ws : List ℕ) (e m v i left : ℕ) : Type 0 where
+  pub room : Room 0 0 ws₀ (held e₀ m₀ v₀ n)
   pub mid : i ≤ n
   pub few : left ≤ i
-  pub graph : wakeAll block (ahead ws₀ n i) (graphOf ws (held e m 0)) ≡ wakeAll block (waitingOf ws₀ (held e₀ m₀ n)) (graphOf ws₀ (held e₀ m₀ n))
-  pub done : operandsOf (slice PREDS (PREDS + left) ws) (slice RELATIONS (RELATIONS + left) ws) ++ keep (others block) (ahead ws₀ n i) ≡ keep (others block) (waitingOf ws₀ (held e₀ m₀ n))
-  pub clean : Clean (logsOf ws (held e m 0))
+  pub graph : wakeAll block (ahead ws₀ n i) (graphOf ws (held e m v 0)) ≡ wakeAll block (waitingOf ws₀ (held e₀ m₀ v₀ n)) (graphOf ws₀ (held e₀ m₀ v₀ n))
+  pub done : operandsOf (slice PREDS (PREDS + left) ws) (slice RELATIONS (RELATIONS + left) ws) ++ keep (others block) (ahead ws₀ n i) ≡ keep (others block) (waitingOf ws₀ (held e₀ m₀ v₀ n))
+  pub clean : Clean (logsOf ws (held e m v 0))
   pub preds : slice (PREDS + i) RELATIONS ws ≡ slice (PREDS + i) RELATIONS ws₀
   pub rels : drop (RELATIONS + i) ws ≡ drop (RELATIONS + i) ws₀
   pub low : take VALUE ws ≡ take VALUE ws₀
@@ -275,7 +275,7 @@ move-end block from left n ws₀ ws i k c =
     subst (λ (r : ℕ). Moved block from left n ws₀ i r ws) q c
 
 -- ---- waking
-module _ (ws₀ : List ℕ) (block n e₀ m₀ : ℕ) (ws : List ℕ) (e m i left : ℕ) (c : Waking ws₀ block n e₀ m₀ ws e m i left) where
+module _ (ws₀ : List ℕ) (block n e₀ m₀ v₀ : ℕ) (ws : List ℕ) (e m v i left : ℕ) (c : Waking ws₀ block n e₀ m₀ v₀ ws e m v i left) where
   size : LEAST ≤ length ws
   size = omega (arith, c .room .size, c .same)
 
@@ -310,18 +310,18 @@ module _ (ws₀ : List ℕ) (block n e₀ m₀ : ℕ) (ws : List ℕ) (e m i lef
         ∙ operands-both (slice PREDS (PREDS + left) ws) (slice (PREDS + i) (PREDS + j) ws₀) (slice RELATIONS (RELATIONS + left) ws) (slice (RELATIONS + i) (RELATIONS + j) ws₀)
         (length-slice PREDS (PREDS + left) ws (omega (arith, size, few-n, c .few, c .mid)) ∙ omega arith ∙ sym (length-slice RELATIONS (RELATIONS + left) ws (omega (arith, size, few-n, c .few, c .mid))))
 
-    pub wake-move : Waking ws₀ block n e₀ m₀ ws′ e m j k
+    pub wake-move : Waking ws₀ block n e₀ m₀ v₀ ws′ e m v j k
     wake-move = record {
       room = c .room;
       mid = s .few;
       few = omega (arith, c .few, s .count);
-      graph = none-woken ws₀ block n i j (c .room .size) few-n (s .some) (s .few) none-waits (graphOf ws′ (held e m 0))
-          ∙ ap (wakeAll block (ahead ws₀ n i)) (graph-low ws ws′ e m 0 0 e-few m-few (s .low)) ∙ c .graph;
+      graph = none-woken ws₀ block n i j (c .room .size) few-n (s .some) (s .few) none-waits (graphOf ws′ (held e m v 0))
+          ∙ ap (wakeAll block (ahead ws₀ n i)) (graph-low ws ws′ e m v 0 0 e-few m-few (s .low)) ∙ c .graph;
       done =
           ap (λ (l : List Waiting). l ++ keep (others block) (ahead ws₀ n j)) waiting-now
           ∙ append-assoc (operandsOf (slice PREDS (PREDS + left) ws) (slice RELATIONS (RELATIONS + left) ws)) (operandsOf (slice (PREDS + i) (PREDS + j) ws₀) (slice (RELATIONS + i) (RELATIONS + j) ws₀)) (keep (others block) (ahead ws₀ n j))
           ∙ ap (λ (l : List Waiting). operandsOf (slice PREDS (PREDS + left) ws) (slice RELATIONS (RELATIONS + left) ws) ++ l) (sym (all-stay ws₀ block n i j (c .room .size) few-n (s .some) (s .few) none-waits)) ∙ c .done;
-      clean = clean-low ws ws′ e m 0 0 e-few m-few (s .low) (c .clean);
+      clean = clean-low ws ws′ e m v 0 0 e-few m-few (s .low) (c .clean);
       preds = s .later ∙ slice-less (PREDS + i) (PREDS + j) RELATIONS ws ws₀ (omega (arith, s .some)) (c .preds);
       rels = s .high ∙ drop-more (RELATIONS + i) (RELATIONS + j) ws ws₀ (omega (arith, s .some)) (c .rels);
       low = take-less VALUE PREDS ws′ ws (omega arith) (s .low) ∙ c .low;
@@ -344,20 +344,20 @@ module _ (ws₀ : List ℕ) (block n e₀ m₀ : ℕ) (ws : List ℕ) (e m i lef
     rels-on : drop (RELATIONS + (i + 1)) ws ≡ drop (RELATIONS + (i + 1)) ws₀
     rels-on = drop-more (RELATIONS + i) (RELATIONS + (i + 1)) ws ws₀ (omega arith) (c .rels)
 
-    pub wake-room : Room 1 1 ws (held e m 0)
+    pub wake-room : Room 1 1 ws (held e m v 0)
     wake-room = record { size = size; edges = omega (arith, c .edges, c .room .edges); entries = omega (arith, c .entries, c .room .entries); clean = c .clean }
 
-    module _ (w : ℕ) (is : w ≡ getD ws (RELATIONS + i) 0) (hit : getD ws (PREDS + i) 0 ≡ block) (ws′ : List ℕ) (r : Held) (s : Builds (relate intoAliases (w / 1048576) (w % 512) (w / 512 % 512)) 1 1 ws (held e m 0) ws′ r) where
-      stored : wakeAll block (ahead ws₀ n (i + 1)) (graphOf ws′ (held (r .edges) (r .entries) 0)) ≡ wakeAll block (ahead ws₀ n i) (graphOf ws (held e m 0))
+    module _ (w : ℕ) (is : w ≡ getD ws (RELATIONS + i) 0) (hit : getD ws (PREDS + i) 0 ≡ block) (ws′ : List ℕ) (r : Held) (s : Builds (relate intoAliases (w / 1048576) (w % 512) (w / 512 % 512)) 1 1 ws (held e m v 0) ws′ r) where
+      stored : wakeAll block (ahead ws₀ n (i + 1)) (graphOf ws′ (held (r .edges) (r .entries) (r .nodes) 0)) ≡ wakeAll block (ahead ws₀ n i) (graphOf ws (held e m v 0))
       stored =
-          ap (wakeAll block (ahead ws₀ n (i + 1))) (graph-low ws′ ws′ (r .edges) (r .entries) 0 (r .waiting) (omega (arith, s .edges, wake-room .edges)) (omega (arith, s .entries, wake-room .entries)) refl
-          ∙ s .graph ∙ ap (λ (v : ℕ). relate intoAliases (v / 1048576) (v % 512) (v / 512 % 512) (graphOf ws (held e m 0))) is)
-          ∙ sym (ap (λ (l : List Waiting). wakeAll block l (graphOf ws (held e m 0))) front ∙ wake-hit block (getD ws (PREDS + i) 0) (getD ws (RELATIONS + i) 0) (ahead ws₀ n (i + 1)) (graphOf ws (held e m 0)) hit)
+          ap (wakeAll block (ahead ws₀ n (i + 1))) (graph-low ws′ ws′ (r .edges) (r .entries) (r .nodes) 0 (r .waiting) (omega (arith, s .edges, wake-room .edges)) (omega (arith, s .entries, wake-room .entries)) refl
+          ∙ s .graph ∙ ap (λ (u : ℕ). relate intoAliases (u / 1048576) (u % 512) (u / 512 % 512) (graphOf ws (held e m v 0))) is)
+          ∙ sym (ap (λ (l : List Waiting). wakeAll block l (graphOf ws (held e m v 0))) front ∙ wake-hit block (getD ws (PREDS + i) 0) (getD ws (RELATIONS + i) 0) (ahead ws₀ n (i + 1)) (graphOf ws (held e m v 0)) hit)
 
       gone : keep (others block) (ahead ws₀ n i) ≡ keep (others block) (ahead ws₀ n (i + 1))
       gone = ap (keep (others block)) front ∙ others-hit block (getD ws (PREDS + i) 0) (getD ws (RELATIONS + i) 0) (ahead ws₀ n (i + 1)) hit
 
-      pub wake-store : Waking ws₀ block n e₀ m₀ ws′ (r .edges) (r .entries) (i + 1) left
+      pub wake-store : Waking ws₀ block n e₀ m₀ v₀ ws′ (r .edges) (r .entries) (r .nodes) (i + 1) left
       wake-store = record {
         room = c .room;
         mid = omega arith;
@@ -377,8 +377,8 @@ module _ (ws₀ : List ℕ) (block n e₀ m₀ : ℕ) (ws : List ℕ) (e m i lef
         entries = omega (arith, s .entries, c .entries);
       }
 
-module _ (ws : List ℕ) (block n e m : ℕ) (room : Room 0 0 ws (held e m n)) where
-  all-ahead : waitingOf ws (held e m n) ≡ ahead ws n 0
+module _ (ws : List ℕ) (block n e m v : ℕ) (room : Room 0 0 ws (held e m v n)) where
+  all-ahead : waitingOf ws (held e m v n) ≡ ahead ws n 0
   unfolding waitingOf ahead
   all-ahead = refl
 
@@ -386,13 +386,13 @@ module _ (ws : List ℕ) (block n e m : ℕ) (room : Room 0 0 ws (held e m n)) w
   unfolding operandsOf
   nothing-kept = rw (slice-empty PREDS ws)
 
-  waking : Waking ws block n e m ws e m 0 0
+  waking : Waking ws block n e m v ws e m v 0 0
   waking = record {
     room = room;
     mid = omega arith;
     few = omega arith;
-    graph = ap (λ (l : List Waiting). wakeAll block l (graphOf ws (held e m 0))) (sym all-ahead)
-        ∙ ap (wakeAll block (waitingOf ws (held e m n))) (graph-low ws ws e m 0 n (omega (arith, room .edges)) (omega (arith, room .entries)) refl);
+    graph = ap (λ (l : List Waiting). wakeAll block l (graphOf ws (held e m v 0))) (sym all-ahead)
+        ∙ ap (wakeAll block (waitingOf ws (held e m v n))) (graph-low ws ws e m v 0 n (omega (arith, room .edges)) (omega (arith, room .entries)) refl);
     done = ap (λ (l : List Waiting). l ++ keep (others block) (ahead ws n 0)) nothing-kept ∙ ap (keep (others block)) (sym all-ahead);
     clean = room .clean;
     preds = refl;
@@ -419,24 +419,24 @@ module _ (ws : List ℕ) (block n e m : ℕ) (room : Room 0 0 ws (held e m n)) w
     same = refl;
   }
 
-  pub wake-start : (r : ℕ) → Others (eqb block) PREDS n ws r → Waking ws block n e m ws e m r r
-  wake-start r o = wake-move ws block n e m ws e m 0 0 waking r r ws (in-place r o)
+  pub wake-start : (r : ℕ) → Others (eqb block) PREDS n ws r → Waking ws block n e m v ws e m v r r
+  wake-start r o = wake-move ws block n e m v ws e m v 0 0 waking r r ws (in-place r o)
 
-module _ (ws₀ : List ℕ) (block n e₀ m₀ : ℕ) (ws : List ℕ) (e m i left : ℕ) (c : Waking ws₀ block n e₀ m₀ ws e m i left) (h : n ≤ i) where
+module _ (ws₀ : List ℕ) (block n e₀ m₀ v₀ : ℕ) (ws : List ℕ) (e m v i left : ℕ) (c : Waking ws₀ block n e₀ m₀ v₀ ws e m v i left) (h : n ≤ i) where
   over : i ≡ n
   over = omega (arith, c .mid)
 
-  all-stored : graphOf ws (held e m 0) ≡ wakeAll block (waitingOf ws₀ (held e₀ m₀ n)) (graphOf ws₀ (held e₀ m₀ n))
+  all-stored : graphOf ws (held e m v 0) ≡ wakeAll block (waitingOf ws₀ (held e₀ m₀ v₀ n)) (graphOf ws₀ (held e₀ m₀ v₀ n))
   unfolding wakeAll
   all-stored = rw (ahead-none ws₀ n i over) at (c .graph)
 
-  all-kept : waitingOf ws (held e m left) ≡ keep (others block) (waitingOf ws₀ (held e₀ m₀ n))
-  all-kept = sym (kept-all ws e m left) ∙ sym (append-nil (operandsOf (slice PREDS (PREDS + left) ws) (slice RELATIONS (RELATIONS + left) ws))) ∙ (rw (ahead-none ws₀ n i over) at (c .done))
+  all-kept : waitingOf ws (held e m v left) ≡ keep (others block) (waitingOf ws₀ (held e₀ m₀ v₀ n))
+  all-kept = sym (kept-all ws e m v left) ∙ sym (append-nil (operandsOf (slice PREDS (PREDS + left) ws) (slice RELATIONS (RELATIONS + left) ws))) ∙ (rw (ahead-none ws₀ n i over) at (c .done))
 
-  pub wake-end : Wakes block ws₀ (held e₀ m₀ n) ws (held e m left)
+  pub wake-end : Wakes block ws₀ (held e₀ m₀ v₀ n) ws (held e m v left)
   unfolding wakeAll
   wake-end = record {
-    graph = graph-low ws ws e m left 0 (omega (arith, c .edges, c .room .edges)) (omega (arith, c .entries, c .room .entries)) refl ∙ all-stored;
+    graph = graph-low ws ws e m v left 0 (omega (arith, c .edges, c .room .edges)) (omega (arith, c .entries, c .room .entries)) refl ∙ all-stored;
     operands = all-kept;
     clean = c .clean;
     low = c .low;

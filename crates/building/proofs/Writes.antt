@@ -14,12 +14,12 @@ use Rattle.rows.specs.Rows.{Kept}
 use Rattle.rows.specs.Graph.{valueOf}
 use Rattle.rows.proofs.Parts.{drop-more, take-less, slice-at, slice-take, slice-drop, slice-set-in, slice-push, slice-before, slice-after}
 use Rattle.building.specs.declared.Held.{Held}
-use Rattle.building.specs.Logs.{Logs, graphOfLogs, ownerW, without, Clean, anyW, onceW, createL, edgeL, entryL, edgeG, entryG}
+use Rattle.building.specs.Logs.{Logs, graphOfLogs, ownerW, without, Clean, anyW, onceW, raised, createL, edgeL, entryL, edgeG, entryG}
 use Rattle.building.specs.Held.{logsOf, graphOf, operandsOf, waitingOf, Room, Builds, Left}
 use Rattle.building.proofs.Graphs.{there, missing, create-step, edge-step, entry-step}
 use Rattle.building.proofs.Clean.{clean-edge, clean-entry, clean-create, create-missing}
 
-pub logs-eq : {v v′ e e′ n n′ : List ℕ} → v ≡ v′ → e ≡ e′ → n ≡ n′ → _≡_ {A = Logs} (record { values = v; edges = e; entries = n }) (record { values = v′; edges = e′; entries = n′ })
+pub logs-eq : {v v′ e e′ n n′ : List ℕ} {k : ℕ} → v ≡ v′ → e ≡ e′ → n ≡ n′ → _≡_ {A = Logs} (record { values = v; edges = e; entries = n; nodes = k }) (record { values = v′; edges = e′; entries = n′; nodes = k })
 logs-eq p q r = cc
 
 -- ---- a node by its word
@@ -77,14 +77,14 @@ unfolding ownerW
 own-entry w = refl
 
 module _ (ws : List ℕ) (h : Held) (w : ℕ) (room : Room 1 0 ws h) (held : hasNode (graphOf ws h) (w % 512) ≡ true) where
-  edge-logs : logsOf (set ws (EDGES + h .edges) w) (record { edges = h .edges + 1; entries = h .entries; waiting = h .waiting }) ≡ edgeL w (logsOf ws h)
+  edge-logs : logsOf (set ws (EDGES + h .edges) w) (record { edges = h .edges + 1; entries = h .entries; waiting = h .waiting; nodes = h .nodes }) ≡ edgeL w (logsOf ws h)
   unfolding edgeL
   edge-logs =
       logs-eq (slice-after VALUE FBOUND (EDGES + h .edges) w ws (omega arith))
       (slice-push EDGES (h .edges) w ws (omega (arith, room .size, room .edges)))
       (slice-before ENTRIES (ENTRIES + h .entries) (EDGES + h .edges) w ws (omega (arith, room .edges)) (omega arith))
 
-  pub edge-builds : Builds (edgeG w) 1 0 ws h (set ws (EDGES + h .edges) w) (record { edges = h .edges + 1; entries = h .entries; waiting = h .waiting })
+  pub edge-builds : Builds (edgeG w) 1 0 ws h (set ws (EDGES + h .edges) w) (record { edges = h .edges + 1; entries = h .entries; waiting = h .waiting; nodes = h .nodes })
   edge-builds =
       builds-from (edgeL w) (edgeG w) ws h _ _ edge-logs 1 0 (edge-step w (logsOf ws h))
       (clean-edge w (logsOf ws h) (room .clean) (λ e. value-there ws h (w % 512) (omega arith) held (ap (λ (x : ℕ). getD (slice VALUE FBOUND ws) x 0) (sym (own-edge w)) ∙ e)))
@@ -103,7 +103,7 @@ module _ (ws : List ℕ) (h : Held) (w : ℕ) (room : Room 0 1 ws h) (held : has
   still-clean : Clean (entryL w (logsOf ws h))
   still-clean = clean-entry w (logsOf ws h) (room .clean) (λ e. value-there ws h (w / 512 % 512) (omega arith) held (ap (λ (x : ℕ). getD (slice VALUE FBOUND ws) x 0) (sym (own-entry w)) ∙ e))
 
-  entry-logs : anyW w (slice ENTRIES (ENTRIES + h .entries) ws) ≡ false → logsOf (set ws (ENTRIES + h .entries) w) (record { edges = h .edges; entries = h .entries + 1; waiting = h .waiting }) ≡ entryL w (logsOf ws h)
+  entry-logs : anyW w (slice ENTRIES (ENTRIES + h .entries) ws) ≡ false → logsOf (set ws (ENTRIES + h .entries) w) (record { edges = h .edges; entries = h .entries + 1; waiting = h .waiting; nodes = h .nodes }) ≡ entryL w (logsOf ws h)
   unfolding entryL
   entry-logs e =
       logs-eq (slice-after VALUE FBOUND (ENTRIES + h .entries) w ws (omega arith))
@@ -111,7 +111,7 @@ module _ (ws : List ℕ) (h : Held) (w : ℕ) (room : Room 0 1 ws h) (held : has
       (slice-push ENTRIES (h .entries) w ws (omega (arith, room .size, room .entries)) ∙ sym (once-new e))
 
   pub entry-builds : anyW w (slice ENTRIES (ENTRIES + h .entries) ws) ≡ false
-      → Builds (entryG w) 0 1 ws h (set ws (ENTRIES + h .entries) w) (record { edges = h .edges; entries = h .entries + 1; waiting = h .waiting })
+      → Builds (entryG w) 0 1 ws h (set ws (ENTRIES + h .entries) w) (record { edges = h .edges; entries = h .entries + 1; waiting = h .waiting; nodes = h .nodes })
   entry-builds e =
       builds-from (entryL w) (entryG w) ws h _ _ (entry-logs e) 0 1 (entry-step w (logsOf ws h)) still-clean
       (omega arith) (omega arith) refl (take-set-le VALUE ws (ENTRIES + h .entries) w (omega arith)) (drop-set-lt PREDS ws (ENTRIES + h .entries) w (omega (arith, room .entries))) (length-set ws (ENTRIES + h .entries) w)
@@ -132,20 +132,21 @@ module _ (ws : List ℕ) (h : Held) (x v : ℕ) (room : Room 0 0 ws h) (below : 
   step = create-step x v (logsOf ws h) wide (omega arith)
 
   cleaned : Clean (createL x v (logsOf ws h))
-  cleaned = clean-create x v (logsOf ws h) (room .clean) wide (omega arith)
+  cleaned = clean-create x v (logsOf ws h) (room .clean) below wide (omega arith)
 
   -- of a missing node: one write
-  new-logs : getD ws (VALUE + x) 0 ≡ 0 → logsOf (set ws (VALUE + x) v) h ≡ createL x v (logsOf ws h)
+  new-logs : getD ws (VALUE + x) 0 ≡ 0 → logsOf (set ws (VALUE + x) v) (record { edges = h .edges; entries = h .entries; waiting = h .waiting; nodes = raised (h .nodes) x }) ≡ createL x v (logsOf ws h)
   new-logs e =
       logs-eq (slice-set-in VALUE FBOUND x ws v (omega arith))
       (slice-before EDGES (EDGES + h .edges) (VALUE + x) v ws (omega arith) (omega arith))
       (slice-before ENTRIES (ENTRIES + h .entries) (VALUE + x) v ws (omega arith) (omega arith))
       ∙ sym (create-missing x v (logsOf ws h) (room .clean) below (value-word ws h x below ∙ e))
 
-  pub new-builds : getD ws (VALUE + x) 0 ≡ 0 → Builds (create x (valueOf v)) 0 0 ws h (set ws (VALUE + x) v) h
-  new-builds e =
-      builds-from (createL x v) (create x (valueOf v)) ws h _ h (new-logs e) 0 0 step cleaned (omega arith) (omega arith) refl
-      (take-set-le VALUE ws (VALUE + x) v (omega arith)) (drop-set-lt PREDS ws (VALUE + x) v (omega arith)) (length-set ws (VALUE + x) v)
+  pub new-builds : (k : ℕ) → k ≡ raised (h .nodes) x → getD ws (VALUE + x) 0 ≡ 0 → Builds (create x (valueOf v)) 0 0 ws h (set ws (VALUE + x) v) (record { edges = h .edges; entries = h .entries; waiting = h .waiting; nodes = k })
+  new-builds k is e =
+      subst (λ (k : ℕ). Builds (create x (valueOf v)) 0 0 ws h (set ws (VALUE + x) v) (record { edges = h .edges; entries = h .entries; waiting = h .waiting; nodes = k })) (sym is)
+      (builds-from (createL x v) (create x (valueOf v)) ws h _ _ (new-logs e) 0 0 step cleaned (omega arith) (omega arith) refl
+      (take-set-le VALUE ws (VALUE + x) v (omega arith)) (drop-set-lt PREDS ws (VALUE + x) v (omega arith)) (length-set ws (VALUE + x) v))
 
   module _ (ws₁ : List ℕ) (e : ℕ) (l₁ : Left 0 EDGES (h .edges) x ws ws₁ e) (ws₂ : List ℕ) (n : ℕ) (l₂ : Left 1 ENTRIES (h .entries) x ws₁ ws₂ n) where
     values₂ : slice VALUE FBOUND ws₂ ≡ slice VALUE FBOUND ws
@@ -157,21 +158,22 @@ module _ (ws : List ℕ) (h : Held) (x v : ℕ) (room : Room 0 0 ws h) (below : 
     entries₁ : slice ENTRIES (ENTRIES + h .entries) ws₁ ≡ slice ENTRIES (ENTRIES + h .entries) ws
     entries₁ = slice-drop (EDGES + h .edges) ENTRIES (ENTRIES + h .entries) ws₁ ws (omega (arith, room .edges)) (omega arith) (l₁ .kept .high)
 
-    again-logs : logsOf (set ws₂ (VALUE + x) v) (record { edges = e; entries = n; waiting = h .waiting }) ≡ createL x v (logsOf ws h)
+    again-logs : logsOf (set ws₂ (VALUE + x) v) (record { edges = e; entries = n; waiting = h .waiting; nodes = raised (h .nodes) x }) ≡ createL x v (logsOf ws h)
     unfolding createL
     again-logs =
         logs-eq (slice-set-in VALUE FBOUND x ws₂ v (omega arith) ∙ ap (λ (l : List ℕ). set l x v) values₂)
         (slice-before EDGES (EDGES + e) (VALUE + x) v ws₂ (omega arith) (omega arith) ∙ edges₂)
         (slice-before ENTRIES (ENTRIES + n) (VALUE + x) v ws₂ (omega arith) (omega arith) ∙ l₂ .log ∙ ap (without 1 x) entries₁)
 
-    pub again-builds : Builds (create x (valueOf v)) 0 0 ws h (set ws₂ (VALUE + x) v) (record { edges = e; entries = n; waiting = h .waiting })
-    again-builds =
-        builds-from (createL x v) (create x (valueOf v)) ws h _ _ again-logs 0 0 step cleaned (omega (arith, l₁ .few)) (omega (arith, l₂ .few)) refl
+    pub again-builds : (k : ℕ) → k ≡ raised (h .nodes) x → Builds (create x (valueOf v)) 0 0 ws h (set ws₂ (VALUE + x) v) (record { edges = e; entries = n; waiting = h .waiting; nodes = k })
+    again-builds k is =
+        subst (λ (k : ℕ). Builds (create x (valueOf v)) 0 0 ws h (set ws₂ (VALUE + x) v) (record { edges = e; entries = n; waiting = h .waiting; nodes = k })) (sym is)
+        (builds-from (createL x v) (create x (valueOf v)) ws h _ _ again-logs 0 0 step cleaned (omega (arith, l₁ .few)) (omega (arith, l₂ .few)) refl
         (take-set-le VALUE ws₂ (VALUE + x) v (omega arith) ∙ take-less VALUE ENTRIES ws₂ ws₁ (omega arith) (l₂ .kept .low) ∙ take-less VALUE EDGES ws₁ ws (omega arith) (l₁ .kept .low))
         (drop-set-lt PREDS ws₂ (VALUE + x) v (omega arith)
         ∙ drop-more (ENTRIES + h .entries) PREDS ws₂ ws₁ (omega (arith, room .entries)) (l₂ .kept .high)
         ∙ drop-more (EDGES + h .edges) PREDS ws₁ ws (omega (arith, room .edges)) (l₁ .kept .high))
-        (length-set ws₂ (VALUE + x) v ∙ l₂ .kept .same ∙ l₁ .kept .same)
+        (length-set ws₂ (VALUE + x) v ∙ l₂ .kept .same ∙ l₁ .kept .same))
 
 -- ---- one after the other
 pub builds-then : {F G : Graph → Graph} {a b c d : ℕ} {ws : List ℕ} {h : Held} {ws₁ : List ℕ} {r₁ : Held} {ws₂ : List ℕ} {r₂ : Held} (a′ b′ : ℕ) → a + c ≤ a′ → b + d ≤ b′

@@ -1,4 +1,4 @@
--- The alias graph and the waiting phi operands in the lent workspace, by three counts; and what each step of building promises.
+-- The alias graph and the waiting phi operands in the lent workspace, by their counts; and what each step of building promises.
 use Prim.Native.Nat.{ℕ, _+_, _*_, _/_, _%_, _≤_, _<_}
 use mathlib.Core.Bool.{Bool, false, not}
 use mathlib.Core.List.{List, [], _∷_, _++_}
@@ -18,7 +18,7 @@ use Rattle.building.specs.Logs.{Logs, graphOfLogs, without, anyP, Clean}
 
 -- the logs
 abbrev pub logsOf : List ℕ → Held → Logs
-logsOf ws h = record { values = slice VALUE FBOUND ws; edges = slice EDGES (EDGES + h .edges) ws; entries = slice ENTRIES (ENTRIES + h .entries) ws }
+logsOf ws h = record { values = slice VALUE FBOUND ws; edges = slice EDGES (EDGES + h .edges) ws; entries = slice ENTRIES (ENTRIES + h .entries) ws; nodes = h .nodes }
 
 -- the graph so far
 unfoldable pub graphOf : List ℕ → Held → Graph
@@ -38,7 +38,7 @@ operandsOf (p ∷ preds) (w ∷ rels) = operandOf p w ∷ operandsOf preds rels
 unfoldable pub waitingOf : List ℕ → Held → List Waiting
 waitingOf ws h = operandsOf (slice PREDS (PREDS + h .waiting) ws) (slice RELATIONS (RELATIONS + h .waiting) ws)
 
--- room for a edges and b entries more, when all that waits is stored too; and a missing node holds no word
+-- room for a edges and b entries more, when all that waits is stored too; a missing node holds no word, and no node stands from `nodes` on
 pub record Room (a b : ℕ) (ws : List ℕ) (h : Held) : Type 0 where
   pub size : LEAST ≤ length ws
   pub edges : h .edges + h .waiting + a ≤ 1024

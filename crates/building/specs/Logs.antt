@@ -1,11 +1,11 @@
 -- The alias graph while it is built, as word lists: the values, a log of forward edges and a log of entries.
 -- A log word: from + 512 * into + 2^18 * list (0 created-from, 1 alias, 2 maybe-alias, 3 capture) + 2^20 * index. A log is what is held: no word of it is dead.
-use Prim.Native.Nat.{ℕ, _+_, _*_, _/_, _%_, _<_}
+use Prim.Native.Nat.{ℕ, _+_, _*_, _/_, _%_, _≤_, _<_}
 use mathlib.Core.Bool.{Bool, true, false}
 use mathlib.Core.List.{List, [], _∷_, _++_}
 use mathlib.Core.Path.{_≡_}
 use lib.ListN.{getD, set}
-use lib.Dec.{eqb}
+use lib.Dec.{ltb, eqb}
 use Rattle.model.specs.Lists.{pick}
 use Rattle.model.specs.Graph.{Graph, Relation, change, withEdge, withEntry}
 use Rattle.rows.specs.Sort.{sel}
@@ -15,11 +15,12 @@ use Rattle.rows.specs.Graph.{relationOf, nodeOf, tab}
 abbrev pub packW : ℕ → ℕ → ℕ → ℕ → ℕ
 packW from into list index = from + 512 * into + 262144 * list + 1048576 * index
 
--- the three lists
+-- the three lists, and what every identifier with a node is below
 pub record Logs : Type 0 where
   pub values : List ℕ
   pub edges : List ℕ
   pub entries : List ℕ
+  pub nodes : ℕ
 
 -- the graph that they hold: a node's edges and entries are the words with its number, in the log's order
 unfoldable pub graphOfLogs : Logs → Graph
@@ -38,10 +39,12 @@ unfoldable pub without : ℕ → ℕ → List ℕ → List ℕ
 without t x [] = []
 without t x (w ∷ l) = pick (ownsW t x w) (without t x l) (w ∷ without t x l)
 
--- a missing node holds no word
+-- a missing node holds no word, and no identifier from `nodes` on has a node
 pub record Clean (s : Logs) : Type 0 where
   pub edges : (x : ℕ) → x < 512 → getD (s .values) x 0 ≡ 0 → without 0 x (s .edges) ≡ s .edges
   pub entries : (x : ℕ) → x < 512 → getD (s .values) x 0 ≡ 0 → without 1 x (s .entries) ≡ s .entries
+  pub above : (x : ℕ) → s .nodes ≤ x → x < 512 → getD (s .values) x 0 ≡ 0
+  pub few : s .nodes ≤ 512
 
 -- does a word pass the test?
 unfoldable pub anyP : (ℕ → Bool) → List ℕ → Bool
@@ -61,17 +64,21 @@ anyW w l = anyP (sameW w) l
 unfoldable pub onceW : ℕ → List ℕ → List ℕ
 onceW w l = pick (anyW w l) l (l ++ (w ∷ []))
 
+-- raised above x
+unfoldable pub raised : ℕ → ℕ → ℕ
+raised nodes x = pick (ltb x nodes) nodes (x + 1)
+
 -- the node of x with the value of number v, in place of the one that was there
 unfoldable pub createL : ℕ → ℕ → Logs → Logs
-createL x v s = record { values = set (s .values) x v; edges = without 0 x (s .edges); entries = without 1 x (s .entries) }
+createL x v s = record { values = set (s .values) x v; edges = without 0 x (s .edges); entries = without 1 x (s .entries); nodes = raised (s .nodes) x }
 
 -- an edge
 unfoldable pub edgeL : ℕ → Logs → Logs
-edgeL w s = record { values = s .values; edges = s .edges ++ (w ∷ []); entries = s .entries }
+edgeL w s = record { values = s .values; edges = s .edges ++ (w ∷ []); entries = s .entries; nodes = s .nodes }
 
 -- an entry
 unfoldable pub entryL : ℕ → Logs → Logs
-entryL w s = record { values = s .values; edges = s .edges; entries = onceW w (s .entries) }
+entryL w s = record { values = s .values; edges = s .edges; entries = onceW w (s .entries); nodes = s .nodes }
 
 -- what the word of an edge stores in the graph
 abbrev pub edgeG : ℕ → Graph → Graph

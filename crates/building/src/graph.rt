@@ -5,9 +5,11 @@ use crate::logs::add_entry;
 use crate::logs::leave;
 use crate::logs::pack;
 use rows::BBOUND;
+use rows::BENTRY;
 use rows::EDGES;
 use rows::ENTRIES;
 use rows::FBOUND;
+use rows::FEDGE;
 use rows::VALUE;
 ghost use mathlib.Core.Path.{_≡_};
 ghost use Prim.Native.Nat.{ℕ, _+_, _*_, _≤_, _<_};
@@ -15,7 +17,20 @@ ghost use lib.ListN.{length, getD, set};
 ghost use Rattle.model.specs.Graph.{create, relate, createFrom};
 ghost use Rattle.model.specs.Graph.{assign as assignEffect};
 ghost use Rattle.rows.specs.Graph.{valueOf, relationOf};
+ghost use Rattle.building.specs.Logs.{raised};
 ghost use Rattle.building.specs.Held.{Room, Builds, Laid};
+
+// `nodes`, raised above x.
+fn raise(nodes: usize, x: u32) -> usize
+    requires { ⌜ x < 512 ⌝ }
+    ensures { λ r. ⌜ r ≡ raised nodes x ⌝ }
+{
+    if (x as usize) < nodes {
+        nodes
+    } else {
+        x as usize + 1
+    }
+}
 
 // Creates the node of x, in place of the one that was there: that one's own words leave the logs. A missing node holds none.
 pub fn create(ws: &mut [u32], h: Held, x: u32, value: u32) -> Held
@@ -23,18 +38,25 @@ pub fn create(ws: &mut [u32], h: Held, x: u32, value: u32) -> Held
     requires { ⌜ (x < 512) × (0 < value) ⌝ }
     ensures { λ r. ⌜ Builds (create x (valueOf value)) 0 0 (now (ws .entry)) h (now (ws .exit)) r ⌝ }
 {
+    let waiting = h.waiting;
+    let nodes = raise(h.nodes, x);
     if ws[VALUE + x as usize] == 0 {
         ws[VALUE + x as usize] = value;
-        return h;
+        return Held {
+            edges: h.edges,
+            entries: h.entries,
+            waiting,
+            nodes,
+        };
     }
     let edges = leave(ws, 0, EDGES, h.edges, x);
     let entries = leave(ws, 1, ENTRIES, h.entries, x);
     ws[VALUE + x as usize] = value;
-    let waiting = h.waiting;
     Held {
         edges,
         entries,
         waiting,
+        nodes,
     }
 }
 
@@ -83,13 +105,14 @@ pub fn create_from(ws: &mut [u32], h: Held, index: u32, from: u32, into: u32) ->
     add_entry(ws, k, w)
 }
 
-// Lays the two logs out in rows, for the walks.
+// Lays the two logs out in rows, for the walks: rows of identifiers that can have a node.
 pub fn lay_out(ws: &mut [u32], h: Held)
     requires { ⌜ Room 0 0 (now ws) h ⌝ }
     ensures { λ _. ⌜ Laid (now (ws .entry)) h (now (ws .exit)) ⌝ }
 {
     let edges = h.edges;
     let entries = h.entries;
-    rows::sort(ws, 0, FBOUND, 512, EDGES, edges);
-    rows::sort(ws, 1, BBOUND, 2048, ENTRIES, entries);
+    let nodes = h.nodes;
+    rows::sort(ws, 0, FBOUND, nodes, FEDGE, EDGES, edges);
+    rows::sort(ws, 1, BBOUND, 4 * nodes, BENTRY, ENTRIES, entries);
 }

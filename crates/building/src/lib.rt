@@ -27,11 +27,12 @@ mod logs;
 mod pending;
 mod waiting;
 
-// How many forward edges and entries are held, and how many phi operands wait.
+// How many forward edges and entries are held, how many phi operands wait, and what every identifier with a node is below.
 pub struct Held {
     pub edges: usize,
     pub entries: usize,
     pub waiting: usize,
+    pub nodes: usize,
 }
 
 // The counts of the building so far: also the blocks that have come, and the relation effects, mutations and renders.
@@ -296,6 +297,7 @@ pub fn start(ws: &mut [u32]) -> Building
             edges: 0,
             entries: 0,
             waiting: 0,
+            nodes: 0,
         },
         come: 0,
         relations: 0,

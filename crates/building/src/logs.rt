@@ -105,11 +105,13 @@ pub fn add_edge(ws: &mut [u32], h: Held, w: u32) -> Held
     let edges = h.edges;
     let entries = h.entries;
     let waiting = h.waiting;
+    let nodes = h.nodes;
     ws[EDGES + edges] = w;
     Held {
         edges: edges + 1,
         entries,
         waiting,
+        nodes,
     }
 }
 
@@ -122,6 +124,7 @@ pub fn add_entry(ws: &mut [u32], h: Held, w: u32) -> Held
     let edges = h.edges;
     let entries = h.entries;
     let waiting = h.waiting;
+    let nodes = h.nodes;
     if has_entry(ws, entries, w) {
         return h;
     }
@@ -130,5 +133,6 @@ pub fn add_entry(ws: &mut [u32], h: Held, w: u32) -> Held
         edges,
         entries: entries + 1,
         waiting,
+        nodes,
     }
 }

@@ -22,6 +22,7 @@ pub fn wait(ws: &mut [u32], h: Held, predecessor: u32, index: u32, from: u32, in
     let edges = h.edges;
     let entries = h.entries;
     let waiting = h.waiting;
+    let nodes = h.nodes;
     let w = pack(from, into, 1, index);
     ws[PREDS + waiting] = predecessor;
     ws[RELATIONS + waiting] = w;
@@ -29,6 +30,7 @@ pub fn wait(ws: &mut [u32], h: Held, predecessor: u32, index: u32, from: u32, in
         edges,
         entries,
         waiting: waiting + 1,
+        nodes,
     }
 }
 
@@ -137,6 +139,7 @@ pub fn wake(ws: &mut [u32], h: Held, block: u32) -> Held
     let n = h.waiting;
     let mut edges = h.edges;
     let mut entries = h.entries;
+    let mut nodes = h.nodes;
     let first = others(ws, n, block);
     let mut i = first;
     let mut left = first;
@@ -152,6 +155,7 @@ pub fn wake(ws: &mut [u32], h: Held, block: u32) -> Held
                     edges,
                     entries,
                     waiting: 0,
+                    nodes,
                 },
                 1,
                 w / 1048576,
@@ -160,6 +164,7 @@ pub fn wake(ws: &mut [u32], h: Held, block: u32) -> Held
             );
             edges = g.edges;
             entries = g.entries;
+            nodes = g.nodes;
             i += 1;
         }
     }
@@ -167,5 +172,6 @@ pub fn wake(ws: &mut [u32], h: Held, block: u32) -> Held
         edges,
         entries,
         waiting: left,
+        nodes,
     }
 }

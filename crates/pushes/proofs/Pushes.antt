@@ -7,7 +7,7 @@ use mathlib.Core.Path.{_≡_, refl, sym, ap, subst, _∙_}
 use lib.ListN.{length, take, drop, length-append}
 use lib.Seq.{slice, sets, sets-eq, length-sets, length-take-le, take-at, drop-append-le}
 use borrow.Author.Tests.{eq-eqb, ne-eqb}
-use Rattle.rows.specs.Rows.{rowsOf, value, rowF, rowB, Good, Kept}
+use Rattle.rows.specs.Rows.{rowsOf, used, value, rowF, rowB, Good, Kept}
 use Rattle.pushes.specs.Pushes.{Room, Pushed, wordsF, wordsB, deg, forwardW, entriesW, blockedW, aliasesW, capturesW, pushedW}
 use Rattle.rows.proofs.Parts.{slice-take, take-sets, drop-sets, sets-append}
 use Rattle.rows.proofs.Rows.{rows-length}
@@ -31,6 +31,9 @@ pushed-below {ws} {top} {vs} p h = ap (take 9218) (p .words) ∙ take-sets 9218 
 pub pushed-graph : {ws : List ℕ} {top : ℕ} {vs ws′ : List ℕ} {r : ℕ} → Pushed ws top vs ws′ r → 9218 ≤ top → rowsOf ws′ ≡ rowsOf ws
 unfolding rowsOf
 pushed-graph {ws} {top} {vs} {ws′} p h = slice-take 9218 4096 9218 ws′ ws (omega arith) (pushed-below p h)
+
+pub pushed-used : {ws : List ℕ} {top : ℕ} {vs ws′ : List ℕ} {r : ℕ} → Pushed ws top vs ws′ r → 9218 ≤ top → used (rowsOf ws′) ≡ used (rowsOf ws)
+pushed-used p h = ap used (pushed-graph p h)
 
 -- the part of the words that the push makes longer
 pub pushed-part : (base : ℕ) {ws : List ℕ} {top : ℕ} {vs ws′ : List ℕ} {r : ℕ} → Pushed ws top vs ws′ r → base ≤ top → r ≤ length ws → slice base r ws′ ≡ slice base top ws ++ vs
@@ -98,6 +101,9 @@ module _ (ws : List ℕ) (top x direction index transitive kind : ℕ) (room : R
   room-edges = room-less _ _ (omega (arith, is)) room
 
   module _ (ws₁ : List ℕ) (t₁ : ℕ) (p₁ : Pushed ws top (forwardW index transitive kind (rowF (rowsOf ws) x)) ws₁ t₁) where
+    pub used-created : used (rowsOf ws₁) ≡ used (rowsOf ws)
+    used-created = pushed-used p₁ (room .low)
+
     pub room-created : Room ws₁ t₁ (wordsB (rowsOf ws₁) (4 * x))
     room-created = room-then (λ g. wordsB g (4 * x)) (wordsF (rowsOf ws) x) (room-less _ _ (omega (arith, is)) room) p₁ F-le
 
@@ -108,6 +114,9 @@ module _ (ws : List ℕ) (top x direction index transitive kind : ℕ) (room : R
       two-le : length (forwardW index transitive kind (rowF (rowsOf ws) x) ++ entriesW index 1 kind (rowB (rowsOf ws) (4 * x))) ≤ wordsF (rowsOf ws) x + wordsB (rowsOf ws) (4 * x)
       two-le = omega (arith, F-le, list-le (rowsOf ws) size (room .good) index 1 kind (4 * x) (omega arith), length-append (forwardW index transitive kind (rowF (rowsOf ws) x)) (entriesW index 1 kind (rowB (rowsOf ws) (4 * x))))
 
+      pub used-aliases : used (rowsOf ws₂) ≡ used (rowsOf ws)
+      used-aliases = pushed-used two (room .low)
+
       pub room-aliases : Room ws₂ t₂ (wordsB (rowsOf ws₂) (4 * x + 1) + wordsB (rowsOf ws₂) (4 * x + 2))
       room-aliases =
           room-then (λ g. wordsB g (4 * x + 1) + wordsB g (4 * x + 2)) (wordsF (rowsOf ws) x + wordsB (rowsOf ws) (4 * x)) (room-less _ _ (omega (arith, is)) room) two two-le
@@ -115,6 +124,9 @@ module _ (ws : List ℕ) (top x direction index transitive kind : ℕ) (room : R
       module _ (ws₃ : List ℕ) (t₃ : ℕ) (p₃ : Pushed ws₂ t₂ (aliasesW (rowsOf ws₂) x direction index transitive kind) ws₃ t₃) where
         three : Pushed ws top ((forwardW index transitive kind (rowF (rowsOf ws) x) ++ entriesW index 1 kind (rowB (rowsOf ws) (4 * x))) ++ aliasesW (rowsOf ws) x direction index transitive kind) ws₃ t₃
         three = pushed-on (λ g. aliasesW g x direction index transitive kind) (room .low) two p₃
+
+        pub used-captures : used (rowsOf ws₃) ≡ used (rowsOf ws)
+        used-captures = pushed-used three (room .low)
 
         pub room-captures : Room ws₃ t₃ (wordsB (rowsOf ws₃) (4 * x + 3))
         room-captures =

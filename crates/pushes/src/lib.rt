@@ -3,7 +3,7 @@ ghost use mathlib.Core.Path.{_≡_};
 ghost use Prim.Native.Nat.{_+_, _-_, _*_, _≤_, _<_};
 ghost use lib.ListN.{length};
 ghost use lib.Seq.{slice};
-ghost use Rattle.rows.specs.Rows.{rowsOf, rowF, rowB};
+ghost use Rattle.rows.specs.Rows.{rowsOf, used, rowF, rowB};
 ghost use Rattle.pushes.specs.Pushes.{entryW, edgeLevel, forwardW, entriesW, blockedW, aliasesW, capturesW, pushedW, Pushed, Room, wordsF, wordsB, deg};
 use rows::BBOUND;
 use rows::BENTRY;
@@ -88,7 +88,7 @@ fn push_entries(
     len
 }
 
-// One list of entries: list l of node x is row 4 * x + l. A bound counts the words from its row on, so the first counts all.
+// One list of entries: list l of node x is row 4 * x + l. A bound counts the words from its row on, so the first counts all. Rows above the last node have no bounds.
 pub fn push_list(
     ws: &mut [u32],
     k: usize,
@@ -98,7 +98,7 @@ pub fn push_list(
     top: usize,
 ) -> usize
     requires { ⌜ Room (now ws) top (wordsB (rowsOf (now ws)) k) ⌝ }
-    requires { ⌜ (k < 2048) × ((transitive < 2) × (kind < 2)) ⌝ }
+    requires { ⌜ (k < 2048) × ((transitive < 2) × ((kind < 2) × (k < 4 * used (rowsOf (now ws))))) ⌝ }
     ensures { λ r. ⌜ Pushed (now (ws .entry)) top (entriesW index transitive kind (rowB (rowsOf (now (ws .entry))) k)) (now (ws .exit)) r ⌝ }
 {
     let all = wide(ws[BBOUND]);
@@ -110,7 +110,7 @@ pub fn push_list(
 // Forward edges: Capture a -> b, Alias a -> b: mutate(a) => mutate(b).
 fn push_edges(ws: &mut [u32], x: usize, index: u32, transitive: u32, kind: u32, top: usize) -> usize
     requires { ⌜ Room (now ws) top (wordsF (rowsOf (now ws)) x) ⌝ }
-    requires { ⌜ (x < 512) × ((transitive < 2) × (kind < 2)) ⌝ }
+    requires { ⌜ (x < 512) × ((transitive < 2) × ((kind < 2) × (x < used (rowsOf (now ws))))) ⌝ }
     ensures { λ r. ⌜ Pushed (now (ws .entry)) top (forwardW index transitive kind (rowF (rowsOf (now (ws .entry))) x)) (now (ws .exit)) r ⌝ }
 {
     let all = wide(ws[FBOUND]);
@@ -137,7 +137,7 @@ fn push_aliases(
     top: usize,
 ) -> usize
     requires { ⌜ Room (now ws) top (wordsB (rowsOf (now ws)) (4 * x + 1) + wordsB (rowsOf (now ws)) (4 * x + 2)) ⌝ }
-    requires { ⌜ (x < 512) × ((transitive < 2) × (kind < 2)) ⌝ }
+    requires { ⌜ (x < 512) × ((transitive < 2) × ((kind < 2) × (x < used (rowsOf (now ws))))) ⌝ }
     ensures { λ r. ⌜ Pushed (now (ws .entry)) top (aliasesW (rowsOf (now (ws .entry))) x direction index transitive kind) (now (ws .exit)) r ⌝ }
 {
     if blocked(ws[VALUE + x], direction) {
@@ -157,7 +157,7 @@ fn push_captures(
     top: usize,
 ) -> usize
     requires { ⌜ Room (now ws) top (wordsB (rowsOf (now ws)) (4 * x + 3)) ⌝ }
-    requires { ⌜ (x < 512) × ((transitive < 2) × (kind < 2)) ⌝ }
+    requires { ⌜ (x < 512) × ((transitive < 2) × ((kind < 2) × (x < used (rowsOf (now ws))))) ⌝ }
     ensures { λ r. ⌜ Pushed (now (ws .entry)) top (capturesW (rowsOf (now (ws .entry))) x index transitive kind) (now (ws .exit)) r ⌝ }
 {
     if transitive == 1 {
@@ -178,7 +178,7 @@ pub fn push_all(
     top: usize,
 ) -> usize
     requires { ⌜ Room (now ws) top (deg (rowsOf (now ws)) x) ⌝ }
-    requires { ⌜ (x < 512) × ((transitive < 2) × (kind < 2)) ⌝ }
+    requires { ⌜ (x < 512) × ((transitive < 2) × ((kind < 2) × (x < used (rowsOf (now ws))))) ⌝ }
     ensures { λ r. ⌜ Pushed (now (ws .entry)) top (pushedW (rowsOf (now (ws .entry))) x direction index transitive kind) (now (ws .exit)) r ⌝ }
 {
     let a = push_edges(ws, x, index, transitive, kind, top);

@@ -12,9 +12,9 @@ use lib.Dec.{eqb}
 use Rattle.model.specs.Graph.{Node, nodeAt}
 use Rattle.model.specs.State.{noRecord, hasRecord, functionOf, State}
 use Rattle.model.specs.Renders.{RenderWalk, renderPushes, handOver, passBy, renderNode, renderStep}
-use Rattle.rows.specs.Rows.{rowsOf, value, rowF, rowB, Good, Kept}
+use Rattle.rows.specs.Rows.{rowsOf, used, value, rowF, rowB, Good, Kept}
 use Rattle.rows.specs.Graph.{valueOf, ownNode, graphOfRows}
-use Rattle.rows.proofs.Rows.{value-at, rows-length}
+use Rattle.rows.proofs.Rows.{used-below, value-at, rows-length}
 use Rattle.rows.proofs.Parts.{drop-more}
 use Rattle.pushes.specs.Pushes.{Pushed, Room, deg}
 use Rattle.pushes.proofs.Pushes.{pushed-part, pushed-kept}
@@ -173,6 +173,12 @@ module _ (index : ℕ) (ws : List ℕ) (top hand : ℕ) (ready : Ready ws top ha
         good = subst Good (sym rows₁) (ready .good);
         room = omega (arith, falls-by, ready .fits, ap (λ (g : List ℕ). deg g (placeAt ws top)) rows₁);
       }
+
+      -- its rows have bounds
+      pub step-used : passesW (getD marked (4096 + placeAt ws top) 0) (getD marked (0 + placeAt ws top) 0) ≡ false → placeAt ws top < used (rowsOf wsH)
+      step-used passed =
+          let there = passes-false (getD marked (4096 + placeAt ws top) 0) (getD marked (0 + placeAt ws top) 0) passed .0 in
+          subst (λ (g : List ℕ). placeAt ws top < used g) (sym rows₁) (used-below (rowsOf ws) (placeAt ws top) x-below (λ z. there (value-kept ∙ z)))
 
       module _ (passed : passesW (getD marked (4096 + placeAt ws top) 0) (getD marked (0 + placeAt ws top) 0) ≡ false)
           (ws₂ : List ℕ) (r : ℕ) (p : Pushed wsH (top - 1) (originsW (rowsOf wsH) (placeAt ws top) index) ws₂ r) where

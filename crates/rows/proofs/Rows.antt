@@ -2,14 +2,66 @@
 use Prim.Native.Nat.{ℕ, zero, suc, _+_, _-_, _*_, _≤_, _<_}
 use native.Mathlib.Omega.{arith}
 use native.Mathlib.Nat.{add-assoc}
+use native.Mathlib.Decide.{decLt, ℕ-discrete}
 use mathlib.Core.List.{List, [], _∷_, _++_}
 use mathlib.Core.Path.{_≡_, refl, sym, ap, subst, _∙_}
 use lib.ListN.{length, getD, take, drop}
 use lib.Seq.{slice, length-slice}
+use borrow.Author.Tests.{eq-eqb, ne-eqb, lt-ltb, le-ltb}
 use Rattle.rows.specs.Layout.{LEAST, VALUE, FBOUND, FEDGE, BBOUND, BENTRY, QUEUE}
-use Rattle.rows.specs.Rows.{rowsOf, value, fb, bb, rowF, rowB, Good, Indexed}
+use Rattle.rows.specs.Rows.{rowsOf, value, usedOf, used, fb, bb, rowF, rowB, Good, Indexed}
 use Rattle.rows.specs.Sort.{keyW}
 use Rattle.rows.proofs.Parts.{slice-at, slice-slice}
+
+-- ---- the identifiers that have a node
+of-some : (g : List ℕ) (k : ℕ) → (getD g k 0 ≡ 0 → ⊥) → usedOf g (suc k) ≡ suc k
+unfolding usedOf
+of-some g k e = rw (ne-eqb (getD g k 0) 0 e)
+
+of-none : (g : List ℕ) (k : ℕ) → getD g k 0 ≡ 0 → usedOf g (suc k) ≡ usedOf g k
+unfolding usedOf
+of-none g k e = rw (eq-eqb (getD g k 0) 0 e)
+
+-- no more than m, if none has a node from m on
+of-under : (g : List ℕ) (m k : ℕ) → ((x : ℕ) → m ≤ x → x < k → getD g x 0 ≡ 0) → usedOf g k ≤ m
+unfolding usedOf
+of-under g m zero none = omega arith
+of-under g m (suc k) none = go (of-under g m k (λ x h q. none x h (omega arith))) (ℕ-discrete (getD g k 0) 0) (decLt k m)
+  where
+    go : usedOf g k ≤ m → Dec (getD g k 0 ≡ 0) → Dec (k < m) → usedOf g (suc k) ≤ m
+    go ih (yes e) d = omega (arith, ih, of-none g k e)
+    go ih (no e) (yes d) = omega (arith, of-some g k e)
+    go ih (no e) (no d) = absurd (e (none k (omega (arith, d)) (omega arith)))
+
+-- from there on none has a node
+of-above : (g : List ℕ) (k x : ℕ) → usedOf g k ≤ x → x < k → getD g x 0 ≡ 0
+of-above g zero x h q = absurd (omega arith)
+of-above g (suc k) x h q = go (of-above g k x) (ℕ-discrete (getD g k 0) 0) (ℕ-discrete x k)
+  where
+    go : (usedOf g k ≤ x → x < k → getD g x 0 ≡ 0) → Dec (getD g k 0 ≡ 0) → Dec (x ≡ k) → getD g x 0 ≡ 0
+    go ih (no e) d = absurd (omega (arith, h, q, of-some g k e))
+    go ih (yes e) (yes d) = ap (λ (i : ℕ). getD g i 0) d ∙ e
+    go ih (yes e) (no d) = ih (omega (arith, h, of-none g k e)) (omega (arith, q, d))
+
+pub used-under : (g : List ℕ) (m : ℕ) → ((x : ℕ) → m ≤ x → x < 512 → getD g x 0 ≡ 0) → used g ≤ m
+unfolding used
+used-under g m none = of-under g m 512 none
+
+pub used-few : (g : List ℕ) → used g ≤ 512
+used-few g = used-under g 512 (λ x h q. absurd (omega arith))
+
+pub used-above : (g : List ℕ) (x : ℕ) → used g ≤ x → x < 512 → getD g x 0 ≡ 0
+unfolding used
+used-above g x h q = of-above g 512 x h q
+
+-- who has a node is below
+pub used-below : (g : List ℕ) (x : ℕ) → x < 512 → (value g x ≡ 0 → ⊥) → x < used g
+unfolding value
+used-below g x h e = go (decLt x (used g))
+  where
+    go : Dec (x < used g) → x < used g
+    go (yes p) = p
+    go (no p) = absurd (e (used-above g x (omega (arith, p)) h))
 
 -- ---- the graph, as the code reads it
 module _ (ws : List ℕ) (size : LEAST ≤ length ws) where
@@ -25,13 +77,22 @@ module _ (ws : List ℕ) (size : LEAST ≤ length ws) where
   unfolding rowsOf
   b-word k h = slice-at VALUE QUEUE (2049 + k) ws (omega arith) ∙ ap (λ (n : ℕ). getD ws n 0) (omega arith)
 
-  pub fb-at : (k : ℕ) → k ≤ 512 → fb (rowsOf ws) k ≡ getD ws FBOUND 0 - getD ws (FBOUND + k) 0
+  pub fb-at : (k : ℕ) → k ≤ used (rowsOf ws) → fb (rowsOf ws) k ≡ getD ws FBOUND 0 - getD ws (FBOUND + k) 0
   unfolding fb
-  fb-at k h = omega (arith, f-word 0 (omega arith), f-word k h)
+  fb-at k h = rw (le-ltb (used (rowsOf ws)) k h) (omega (arith, f-word 0 (omega arith), f-word k (omega (arith, used-few (rowsOf ws)))))
 
-  pub bb-at : (k : ℕ) → k ≤ 2048 → bb (rowsOf ws) k ≡ getD ws BBOUND 0 - getD ws (BBOUND + k) 0
+  pub bb-at : (k : ℕ) → k ≤ 4 * used (rowsOf ws) → bb (rowsOf ws) k ≡ getD ws BBOUND 0 - getD ws (BBOUND + k) 0
   unfolding bb
-  bb-at k h = omega (arith, b-word 0 (omega arith), b-word k h)
+  bb-at k h = rw (le-ltb (4 * used (rowsOf ws)) k h) (omega (arith, b-word 0 (omega arith), b-word k (omega (arith, used-few (rowsOf ws)))))
+
+  -- behind the last node
+  pub fb-behind : (k : ℕ) → used (rowsOf ws) < k → fb (rowsOf ws) k ≡ getD ws FBOUND 0
+  unfolding fb
+  fb-behind k h = rw (lt-ltb (used (rowsOf ws)) k h) (omega (arith, f-word 0 (omega arith)))
+
+  pub bb-behind : (k : ℕ) → 4 * used (rowsOf ws) < k → bb (rowsOf ws) k ≡ getD ws BBOUND 0
+  unfolding bb
+  bb-behind k h = rw (lt-ltb (4 * used (rowsOf ws)) k h) (omega (arith, b-word 0 (omega arith)))
 
   pub rowF-at : (x lo hi : ℕ) → lo ≡ fb (rowsOf ws) x → hi ≡ fb (rowsOf ws) (x + 1) → hi ≤ 1024 → slice (FEDGE + lo) (FEDGE + hi) ws ≡ rowF (rowsOf ws) x
   unfolding rowF rowsOf
@@ -61,30 +122,32 @@ pub record Bounds (ws : List ℕ) (o k b b′ : ℕ) : Type 0 where
   pub few : b′ ≤ 1024
 
 module _ (ws : List ℕ) (size : LEAST ≤ length ws) (good : Good (rowsOf ws)) (k : ℕ) where
-  pub list-bounds : k < 2048 → Bounds ws BBOUND k (bb (rowsOf ws) k) (bb (rowsOf ws) (k + 1))
+  pub list-bounds : k < 4 * used (rowsOf ws) → Bounds ws BBOUND k (bb (rowsOf ws) k) (bb (rowsOf ws) (k + 1))
   list-bounds h =
+      let few = used-few (rowsOf ws) in
       let all = b-word ws size 0 (omega arith) in
       let n : getD ws (BBOUND + k + 1) 0 ≡ getD ws (BBOUND + (k + 1)) 0 = ap (λ (i : ℕ). getD ws i 0) (add-assoc BBOUND k 1) in
       record {
-        in-lo = omega (arith, all, b-word ws size k (omega arith), good .b-in k (omega arith));
-        in-hi = omega (arith, all, n, b-word ws size (k + 1) (omega arith), good .b-in (k + 1) (omega arith));
+        in-lo = omega (arith, all, b-word ws size k (omega (arith, few)), good .b-in k (omega arith));
+        in-hi = omega (arith, all, n, b-word ws size (k + 1) (omega (arith, few)), good .b-in (k + 1) (omega arith));
         is-lo = sym (bb-at ws size k (omega arith));
         is-hi = omega (arith, n, bb-at ws size (k + 1) (omega arith));
-        up = good .b-up k h;
-        few = good .b-top (k + 1) (omega arith);
+        up = good .b-up k (omega (arith, few));
+        few = good .b-top (k + 1) (omega (arith, few));
       }
 
-  pub edge-bounds : k < 512 → Bounds ws FBOUND k (fb (rowsOf ws) k) (fb (rowsOf ws) (k + 1))
+  pub edge-bounds : k < used (rowsOf ws) → Bounds ws FBOUND k (fb (rowsOf ws) k) (fb (rowsOf ws) (k + 1))
   edge-bounds h =
+      let few = used-few (rowsOf ws) in
       let all = f-word ws size 0 (omega arith) in
       let n : getD ws (FBOUND + k + 1) 0 ≡ getD ws (FBOUND + (k + 1)) 0 = ap (λ (i : ℕ). getD ws i 0) (add-assoc FBOUND k 1) in
       record {
-        in-lo = omega (arith, all, f-word ws size k (omega arith), good .f-in k (omega arith));
-        in-hi = omega (arith, all, n, f-word ws size (k + 1) (omega arith), good .f-in (k + 1) (omega arith));
+        in-lo = omega (arith, all, f-word ws size k (omega (arith, few)), good .f-in k (omega arith));
+        in-hi = omega (arith, all, n, f-word ws size (k + 1) (omega (arith, few)), good .f-in (k + 1) (omega arith));
         is-lo = sym (fb-at ws size k (omega arith));
         is-hi = omega (arith, n, fb-at ws size (k + 1) (omega arith));
-        up = good .f-up k h;
-        few = good .f-top (k + 1) (omega arith);
+        up = good .f-up k (omega (arith, few));
+        few = good .f-top (k + 1) (omega (arith, few));
       }
 
 pub rows-length : (ws : List ℕ) → LEAST ≤ length ws → length (rowsOf ws) ≡ 5122

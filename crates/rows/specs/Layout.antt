@@ -30,7 +30,7 @@ SEEN = 3584
 abbrev pub VALUE : ℕ
 VALUE = 4096
 
--- the bounds of each node's forward edges, 513 words: how many edges there are from this node on
+-- the bounds of each node's forward edges, 513 words, written up to the last node's: how many edges there are from this node on
 abbrev pub FBOUND : ℕ
 FBOUND = 4608
 
@@ -38,7 +38,7 @@ FBOUND = 4608
 abbrev pub FEDGE : ℕ
 FEDGE = 5121
 
--- the bounds of each node's four lists of entries, 2,049 words: how many entries there are from this list on
+-- the bounds of each node's four lists of entries, 2,049 words, written up to the last node's: how many entries there are from this list on
 abbrev pub BBOUND : ℕ
 BBOUND = 6145
 

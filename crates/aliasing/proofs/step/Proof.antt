@@ -1,4 +1,4 @@
-use Rattle.aliasing.proofs.Steps.{step-seen, step-missing, step-room, step-accepted}
+use Rattle.aliasing.proofs.Steps.{step-seen, step-missing, step-room, step-used, step-accepted}
 use lib.ListN.{length-set}
 use mathlib.Core.Path.{_∙_}
 use native.Mathlib.Omega.{arith}
@@ -95,9 +95,10 @@ push-all-requires : tie.Need-push-all-requires
 push-all-requires c κs =
     let b3 = c .before .before .before in
     let b7 = b3 .before .before .before .before in
-    let b11 = b7 .before .before .before .before in
+    let b9 = b7 .before .before in
+    let b11 = b9 .before .before in
     let b15 = b11 .before .before .before .before in
-    (step-room (b15 .args .m) (b15 .args .base) (b15 .args .ws .now) (b15 .args .top) (b15 .args .hand) (b15 .pre .0) (b15 .pre .1 .0) (b15 .pre .1 .1) (b11 .if1 .left) (b7 .record-errors .last .0) (b7 .record-errors .result) (b7 .record-errors .ensures) (b3 .accept .last .0) (b3 .accept .ensures), (omega arith, (omega arith, omega arith)))
+    (step-room (b15 .args .m) (b15 .args .base) (b15 .args .ws .now) (b15 .args .top) (b15 .args .hand) (b15 .pre .0) (b15 .pre .1 .0) (b15 .pre .1 .1) (b11 .if1 .left) (b7 .record-errors .last .0) (b7 .record-errors .result) (b7 .record-errors .ensures) (b3 .accept .last .0) (b3 .accept .ensures), (omega arith, (omega arith, (omega arith, step-used (b15 .args .m) (b15 .args .base) (b15 .args .ws .now) (b15 .args .top) (b15 .args .hand) (b15 .pre .0) (b15 .pre .1 .0) (b15 .pre .1 .1) (b11 .if1 .left) (b7 .record-errors .last .0) (b7 .record-errors .result) (b7 .record-errors .ensures) (b3 .accept .last .0) (b3 .accept .ensures) (b9 .if2 .left)))))
 
 same-length-2 : tie.Need-same-length-2
 same-length-2 c =

@@ -5,7 +5,7 @@ use mathlib.Core.Path.{sym, ap, subst, _∙_}
 use Rattle.rows.specs.Rows.{rowB, rowsOf}
 use Rattle.pushes.specs.Pushes.{entriesW, Pushed, wordsB, blockedW}
 use Rattle.rows.proofs.Rows.{value-at, rows-length}
-use Rattle.pushes.proofs.Pushes.{room-then, room-less, pushed-on, pushed-none, aliases-open, aliases-shut}
+use Rattle.pushes.proofs.Pushes.{room-then, room-less, pushed-used, pushed-on, pushed-none, aliases-open, aliases-shut}
 use Rattle.pushes.proofs.Sizes.{list-le}
 use borrow.Author.Needs.{needs}
 use Rattle.pushes.proofs.push_aliases.Statement.{statement}
@@ -43,7 +43,7 @@ push-list-requires : tie.Need-push-list-requires
 push-list-requires c κs =
     let b4 = c .before .before .before .before in
     let s = b4 .before in
-    (room-less _ _ (omega arith) (s .pre .0), (omega (arith, s .pre), (s .pre .1 .1 .0, s .pre .1 .1 .1)))
+    (room-less _ _ (omega arith) (s .pre .0), (omega (arith, s .pre), (s .pre .1 .1 .0, (s .pre .1 .1 .1 .0, omega (arith, s .pre)))))
 
 mul-push-list-2 : tie.Need-mul-push-list-2
 mul-push-list-2 c = omega arith
@@ -58,7 +58,7 @@ push-list-requires-2 c κs =
     let s = b8 .before in
     let a = s .args in
     let g = rowsOf (a .ws .now) in
-    (room-then (λ g. wordsB g (4 * a .x + 2)) (wordsB g (4 * a .x + 1)) (s .pre .0) (b3 .push-list .ensures) (list-le g (rows-length (a .ws .now) (s .pre .0 .size)) (s .pre .0 .good) (a .index) (a .transitive) (a .kind) (4 * a .x + 1) (omega (arith, s .pre))), (omega (arith, s .pre), (s .pre .1 .1 .0, omega arith)))
+    (room-then (λ g. wordsB g (4 * a .x + 2)) (wordsB g (4 * a .x + 1)) (s .pre .0) (b3 .push-list .ensures) (list-le g (rows-length (a .ws .now) (s .pre .0 .size)) (s .pre .0 .good) (a .index) (a .transitive) (a .kind) (4 * a .x + 1) (omega (arith, s .pre))), (omega (arith, s .pre), (s .pre .1 .1 .0, (omega arith, omega (arith, s .pre, pushed-used (b3 .push-list .ensures) (s .pre .0 .low))))))
 
 same-length : tie.Need-same-length
 same-length c = omega arith

@@ -1,4 +1,4 @@
-use Rattle.pushes.proofs.Pushes.{room-edges, room-created, room-aliases, room-captures, all-pushed}
+use Rattle.pushes.proofs.Pushes.{room-edges, used-created, used-aliases, used-captures, room-created, room-aliases, room-captures, all-pushed}
 use Prim.Native.Nat.{_-_}
 use native.Mathlib.Omega.{arith}
 use mathlib.Core.Path.{_∙_}
@@ -29,7 +29,7 @@ push-list-requires c κs =
     let b5 = b3 .before .before in
     let s = b5 .before in
     let a = s .args in
-    (room-created (a .ws .now) (a .top) (a .x) (a .direction) (a .index) (a .transitive) (a .kind) (s .pre .0) (s .pre .1 .0) (b3 .push-edges .last .0) (b3 .push-edges .result) (b3 .push-edges .ensures), (omega (arith, s .pre), (omega arith, s .pre .1 .1 .1)))
+    (room-created (a .ws .now) (a .top) (a .x) (a .direction) (a .index) (a .transitive) (a .kind) (s .pre .0) (s .pre .1 .0) (b3 .push-edges .last .0) (b3 .push-edges .result) (b3 .push-edges .ensures), (omega (arith, s .pre), (omega arith, (s .pre .1 .1 .1 .0, omega (arith, s .pre, used-created (a .ws .now) (a .top) (a .x) (a .direction) (a .index) (a .transitive) (a .kind) (s .pre .0) (s .pre .1 .0) (b3 .push-edges .last .0) (b3 .push-edges .result) (b3 .push-edges .ensures))))))
 
 push-aliases-requires : tie.Need-push-aliases-requires
 push-aliases-requires c κs =
@@ -38,7 +38,7 @@ push-aliases-requires c κs =
     let b9 = b7 .before .before in
     let s = b9 .before in
     let a = s .args in
-    (room-aliases (a .ws .now) (a .top) (a .x) (a .direction) (a .index) (a .transitive) (a .kind) (s .pre .0) (s .pre .1 .0) (b7 .push-edges .last .0) (b7 .push-edges .result) (b7 .push-edges .ensures) (b3 .push-list .last .0) (b3 .push-list .result) (b3 .push-list .ensures), s .pre .1)
+    (room-aliases (a .ws .now) (a .top) (a .x) (a .direction) (a .index) (a .transitive) (a .kind) (s .pre .0) (s .pre .1 .0) (b7 .push-edges .last .0) (b7 .push-edges .result) (b7 .push-edges .ensures) (b3 .push-list .last .0) (b3 .push-list .result) (b3 .push-list .ensures), (s .pre .1 .0, (s .pre .1 .1 .0, (s .pre .1 .1 .1 .0, omega (arith, s .pre, used-aliases (a .ws .now) (a .top) (a .x) (a .direction) (a .index) (a .transitive) (a .kind) (s .pre .0) (s .pre .1 .0) (b7 .push-edges .last .0) (b7 .push-edges .result) (b7 .push-edges .ensures) (b3 .push-list .last .0) (b3 .push-list .result) (b3 .push-list .ensures))))))
 
 push-captures-requires : tie.Need-push-captures-requires
 push-captures-requires c κs =
@@ -48,7 +48,7 @@ push-captures-requires c κs =
     let b13 = b11 .before .before in
     let s = b13 .before in
     let a = s .args in
-    (room-captures (a .ws .now) (a .top) (a .x) (a .direction) (a .index) (a .transitive) (a .kind) (s .pre .0) (s .pre .1 .0) (b11 .push-edges .last .0) (b11 .push-edges .result) (b11 .push-edges .ensures) (b7 .push-list .last .0) (b7 .push-list .result) (b7 .push-list .ensures) (b3 .push-aliases .last .0) (b3 .push-aliases .result) (b3 .push-aliases .ensures), s .pre .1)
+    (room-captures (a .ws .now) (a .top) (a .x) (a .direction) (a .index) (a .transitive) (a .kind) (s .pre .0) (s .pre .1 .0) (b11 .push-edges .last .0) (b11 .push-edges .result) (b11 .push-edges .ensures) (b7 .push-list .last .0) (b7 .push-list .result) (b7 .push-list .ensures) (b3 .push-aliases .last .0) (b3 .push-aliases .result) (b3 .push-aliases .ensures), (s .pre .1 .0, (s .pre .1 .1 .0, (s .pre .1 .1 .1 .0, omega (arith, s .pre, used-captures (a .ws .now) (a .top) (a .x) (a .direction) (a .index) (a .transitive) (a .kind) (s .pre .0) (s .pre .1 .0) (b11 .push-edges .last .0) (b11 .push-edges .result) (b11 .push-edges .ensures) (b7 .push-list .last .0) (b7 .push-list .result) (b7 .push-list .ensures) (b3 .push-aliases .last .0) (b3 .push-aliases .result) (b3 .push-aliases .ensures))))))
 
 same-length : tie.Need-same-length
 same-length c =

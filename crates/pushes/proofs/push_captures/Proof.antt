@@ -21,7 +21,7 @@ add-push-list c = search needs
 push-list-requires : tie.Need-push-list-requires
 push-list-requires c κs =
     let s = c .before .before .before in
-    (s .pre .0, (omega (arith, s .pre), (s .pre .1 .1 .0, s .pre .1 .1 .1)))
+    (s .pre .0, (omega (arith, s .pre), (s .pre .1 .1 .0, (s .pre .1 .1 .1 .0, omega (arith, s .pre)))))
 
 same-length : tie.Need-same-length
 same-length c = search needs

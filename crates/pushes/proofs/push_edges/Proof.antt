@@ -14,7 +14,7 @@ use Rattle.pushes.proofs.push_forward.Reads as push-forward-reads
 use Rattle.pushes.proofs.wide.Reads as wide-reads
 
 bounds : (s : tie.Start) → Bounds (s .args .ws .now) FBOUND (s .args .x) (fb (rowsOf (s .args .ws .now)) (s .args .x)) (fb (rowsOf (s .args .ws .now)) (s .args .x + 1))
-bounds s = edge-bounds (s .args .ws .now) (s .pre .0 .size) (s .pre .0 .good) (s .args .x) (s .pre .1 .0)
+bounds s = edge-bounds (s .args .ws .now) (s .pre .0 .size) (s .pre .0 .good) (s .args .x) (s .pre .1 .1 .1 .1)
 
 slice-read-wide : tie.Need-slice-read-wide
 slice-read-wide c = omega arith

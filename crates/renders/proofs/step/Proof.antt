@@ -1,4 +1,4 @@
-use Rattle.renders.proofs.Steps.{step-seen, step-passed, step-room, step-rendered}
+use Rattle.renders.proofs.Steps.{step-seen, step-passed, step-room, step-used, step-rendered}
 use lib.ListN.{length-set}
 use mathlib.Core.Path.{sym, _∙_}
 use native.Mathlib.Omega.{arith}
@@ -85,9 +85,11 @@ append-function-errors-requires c κs =
 push-origins-requires : tie.Need-push-origins-requires
 push-origins-requires c κs =
     let b3 = c .before .before .before in
-    let b9 = b3 .before .before .before .before .before .before in
+    let b5 = b3 .before .before in
+    let b6 = b5 .before in
+    let b9 = b6 .before .before .before in
     let b13 = b9 .before .before .before .before in
-    (step-room (b13 .args .index) (b13 .args .ws .now) (b13 .args .top) (b13 .args .hand) (b13 .pre .0) (b13 .pre .1) (b9 .if1 .left) (b3 .append-function-errors .last .0) (b3 .append-function-errors .result) (b3 .append-function-errors .ensures), omega arith)
+    (step-room (b13 .args .index) (b13 .args .ws .now) (b13 .args .top) (b13 .args .hand) (b13 .pre .0) (b13 .pre .1) (b9 .if1 .left) (b3 .append-function-errors .last .0) (b3 .append-function-errors .result) (b3 .append-function-errors .ensures), (omega arith, step-used (b13 .args .index) (b13 .args .ws .now) (b13 .args .top) (b13 .args .hand) (b13 .pre .0) (b13 .pre .1) (b9 .if1 .left) (b3 .append-function-errors .last .0) (b3 .append-function-errors .result) (b3 .append-function-errors .ensures) (sym (b6 .passes-by .ensures) ∙ b5 .if2 .left)))
 
 same-length-2 : tie.Need-same-length-2
 same-length-2 c =

@@ -8,7 +8,11 @@ use Rattle.building.proofs.graph.create.Statement.{statement}
 use Rattle.building.proofs.graph.create.Tie as tie
 use Rattle.building.proofs.graph.create.Reads as reads
 use Rattle.building.proofs.graph.create.Lts as lts
+use Rattle.building.proofs.graph.raise.Reads as raise-reads
 use Rattle.building.proofs.logs.leave.Reads as leave-reads
+
+raise-requires : tie.Need-raise-requires
+raise-requires c κs = search needs
 
 add-if1 : tie.Need-add-if1
 add-if1 c = omega arith
@@ -33,8 +37,9 @@ same-length c = search needs
 
 returns : tie.Need-returns
 returns c =
-    let b3 = c .before .before .before in
-    new-builds _ _ _ _ (b3 .pre .0) (b3 .pre .1 .0) (b3 .pre .1 .1) (c .if1 .taken)
+    let b2 = c .before .before in
+    let b4 = b2 .before .before in
+    new-builds _ _ _ _ (b4 .pre .0) (b4 .pre .1 .0) (b4 .pre .1 .1) _ (b2 .raise .ensures) (c .if1 .taken)
 
 leave-requires : tie.Need-leave-requires
 leave-requires c κs = search needs
@@ -54,19 +59,21 @@ slice-write-ws-2 c = omega arith
 same-length-2 : tie.Need-same-length-2
 same-length-2 c =
     let b6 = c .before .before .before .before .before .before in
-    let b11 = b6 .before .before .before .before .before in
-    omega (arith, length-set (c .before .before .leave2 .last .0) (VALUE + b11 .args .x) (b11 .args .value), c .before .before .leave2 .kept .0, b6 .leave .kept .0)
+    let b12 = b6 .before .before .before .before .before .before in
+    omega (arith, length-set (c .before .before .leave2 .last .0) (VALUE + b12 .args .x) (b12 .args .value), c .before .before .leave2 .kept .0, b6 .leave .kept .0)
 
 returns-2 : tie.Need-returns-2
 returns-2 c =
     let b6 = c .before .before .before .before .before .before in
-    let b11 = b6 .before .before .before .before .before in
-    again-builds _ _ _ _ (b11 .pre .0) (b11 .pre .1 .0) (b11 .pre .1 .1) _ _ (b6 .leave .ensures) _ _ (c .before .before .leave2 .ensures)
+    let b10 = b6 .before .before .before .before in
+    let b12 = b10 .before .before in
+    again-builds _ _ _ _ (b12 .pre .0) (b12 .pre .1 .0) (b12 .pre .1 .1) _ _ (b6 .leave .ensures) _ _ (c .before .before .leave2 .ensures) _ (b10 .raise .ensures)
 
 pub create-spec : {M : Type 1} → statement M
 create-spec =
     tie.close
     (tie.spec
+    raise-requires
     add-if1
     mul-if1
     slice-read-if1

@@ -9,6 +9,11 @@ use Rattle.rows.proofs.sort.Reads as sort-reads
 sort-requires : tie.Need-sort-requires
 sort-requires c κs = lay-edges _ _ (c .before .before .pre)
 
+mul-sort : tie.Need-mul-sort
+mul-sort c =
+    let b6 = c .before .before .before .before .before .before in
+    omega (arith, b6 .pre .clean .few)
+
 sort-requires-2 : tie.Need-sort-requires-2
 sort-requires-2 c κs =
     let b3 = c .before .before .before in
@@ -25,4 +30,4 @@ returns c =
     laid _ _ (b9 .pre) _ (b6 .sort .ensures) _ (c .before .before .sort2 .ensures)
 
 pub lay-out-spec : {M : Type 1} → statement M
-lay-out-spec = tie.close (tie.spec sort-requires sort-requires-2 same-length returns)
+lay-out-spec = tie.close (tie.spec sort-requires mul-sort sort-requires-2 same-length returns)

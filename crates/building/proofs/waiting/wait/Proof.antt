@@ -31,8 +31,8 @@ mul-ws-2 c = omega arith
 slice-write-ws-2 : tie.Need-slice-write-ws-2
 slice-write-ws-2 c = omega (arith, length-set (c .before .before .args .ws .now) (PREDS + c .before .before .args .h .waiting) (c .before .before .args .predecessor))
 
-add-t11 : tie.Need-add-t11
-add-t11 c = omega arith
+add-t12 : tie.Need-add-t12
+add-t12 c = omega arith
 
 same-length : tie.Need-same-length
 same-length c = search needs
@@ -51,6 +51,6 @@ wait-spec =
     add-ws-2
     mul-ws-2
     slice-write-ws-2
-    add-t11
+    add-t12
     same-length
     returns)
