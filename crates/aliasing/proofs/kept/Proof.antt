@@ -1,6 +1,4 @@
-use Rattle.aliasing.specs.Accepts.{keptWord}
-use borrow.Author.Tests.{eq-eqb, ne-eqb}
-use native.Mathlib.Omega.{arith}
+use Rattle.aliasing.proofs.Packed.{kept-transitive, kept-local}
 use borrow.Author.Needs.{needs}
 use Rattle.aliasing.proofs.kept.Statement.{statement}
 use Rattle.aliasing.proofs.kept.Tie as tie
@@ -48,12 +46,16 @@ add-result-4 : tie.Need-add-result-4
 add-result-4 c = search needs
 
 returns : tie.Need-returns
-unfolding keptWord
-returns c = simp (eq-eqb _ 1 (c .before .if1 .taken)) (omega (arith, c .larger3 .ensures, c .before .before .larger2 .ensures, c .before .before .before .larger .ensures))
+returns c =
+    let b3 = c .before .before .before in
+    let b4 = b3 .before in
+    kept-transitive (b4 .args .w) (b4 .args .transitive) (b4 .args .level) (b4 .args .reason) (b4 .args .index) (b3 .larger .ensures) (c .before .before .larger2 .ensures) (c .before .if1 .taken) (c .larger3 .ensures)
 
 returns-2 : tie.Need-returns-2
-unfolding keptWord
-returns-2 c = simp (ne-eqb _ 1 (c .before .if1 .left)) (omega (arith, c .larger4 .ensures, c .before .before .larger2 .ensures, c .before .before .before .larger .ensures))
+returns-2 c =
+    let b3 = c .before .before .before in
+    let b4 = b3 .before in
+    kept-local (b4 .args .w) (b4 .args .transitive) (b4 .args .level) (b4 .args .reason) (b4 .args .index) (b3 .larger .ensures) (c .before .before .larger2 .ensures) (c .before .if1 .left) (c .larger4 .ensures)
 
 pub kept-spec : {M : Type 1} → statement M
 kept-spec =
