@@ -84,39 +84,48 @@ struct Subject {
     sheet: Sheet,
     words: Vec<u32>,
     lent: usize,
-    /// The first call of a side in a round: after the other side's, on other sheets.
+    /// The sides one after the other on this sheet, in all rounds.
+    turns: Sides,
+    /// The first call of a side on this sheet after calls of all sides on other sheets.
     first: Sides,
-    /// The third call of a side in a row, where there is one.
+    /// The third call of a side in a row.
     again: Sides,
 }
 
 impl Subject {
-    fn new(sheet: Sheet) -> Subject {
+    /// Fails if the two sides disagree on the sheet.
+    fn new(ours: &mut Ours, sheet: Sheet) -> Subject {
         let words = sheet.words();
         let answer = plain::answer(&sheet).words().len();
         let lent = first_lent(words.len()).max(answer);
-        Subject { sheet, words, lent, first: Sides::default(), again: Sides::default() }
+        ours.lend(lent);
+        compare(ours, &words);
+        let [turns, first, again] = [(); 3].map(|()| Sides::default());
+        Subject { sheet, words, lent, turns, first, again }
     }
 
-    /// Each side once, or three times in a row.
-    fn round(&mut self, ours: &mut Ours, again: bool) {
+    /// One call of a side, by its number in `Sides`.
+    fn call(&self, ours: &mut Ours, side: usize) -> f64 {
         ours.lend(self.lent);
-        if self.first.0[0].0.is_empty() {
-            compare(ours, &self.words);
+        match side {
+            0 => time(|| ours.call(&self.words)).0,
+            1 => time(|| ours.refused_at_once()).0,
+            2 => time(|| same_job(&self.words)).0,
+            _ => analysis(&self.sheet),
         }
-        let mut sides: [&mut dyn FnMut(&mut Ours) -> f64; 4] = [
-            &mut |ours| time(|| ours.call(&self.words)).0,
-            &mut |ours| time(|| ours.refused_at_once()).0,
-            &mut |_| time(|| same_job(&self.words)).0,
-            &mut |_| analysis(&self.sheet),
-        ];
-        for (i, side) in sides.iter_mut().enumerate() {
-            self.first.0[i].0.push(side(ours));
-            if again {
-                side(ours);
-                self.again.0[i].0.push(side(ours));
-            }
+    }
+
+    fn turn(&mut self, ours: &mut Ours) {
+        for side in 0..4 {
+            let taken = self.call(ours, side);
+            self.turns.0[side].0.push(taken);
         }
+    }
+
+    fn in_a_row(&mut self, ours: &mut Ours, side: usize) {
+        let [first, _, third] = [(); 3].map(|()| self.call(ours, side));
+        self.first.0[side].0.push(first);
+        self.again.0[side].0.push(third);
     }
 }
 
@@ -126,29 +135,44 @@ struct Bench {
 }
 
 impl Bench {
-    /// For at most three seconds but at least five rounds.
+    /// In turns, for at most three seconds but at least five rounds.
     fn measure(&mut self, sheet: &Sheet) -> Row {
-        let mut subject = Subject::new(sheet.clone());
+        let mut subject = Subject::new(&mut self.ours, sheet.clone());
         let start = Instant::now();
         for round in 0..self.rounds {
             if round >= 5 && start.elapsed() > Duration::from_secs(3) {
                 break;
             }
-            subject.round(&mut self.ours, false);
+            subject.turn(&mut self.ours);
         }
-        subject.first.row()
+        subject.turns.row()
     }
 
-    /// The same for many sheets, a round over all of them at a time: the first calls, and those
-    /// that follow on the same sheet.
-    fn measure_all(&mut self, sheets: Vec<Sheet>, rounds: usize) -> [Vec<Row>; 2] {
-        let mut subjects: Vec<Subject> = sheets.into_iter().map(Subject::new).collect();
+    /// The rows of many sheets by each way: in turns, first, again. For the last two a round goes
+    /// over all sheets, and the sides are a quarter of the sheets apart, so that no side's first
+    /// call on a sheet follows another side's on the same one.
+    fn measure_all(&mut self, sheets: Vec<Sheet>, rounds: usize) -> [(&'static str, Vec<Row>); 3] {
+        let ours = &mut self.ours;
+        let mut subjects: Vec<Subject> =
+            sheets.into_iter().map(|sheet| Subject::new(ours, sheet)).collect();
+        for subject in &mut subjects {
+            (0..rounds).for_each(|_| subject.turn(ours));
+        }
+        let count = subjects.len();
         for _ in 0..rounds {
-            subjects.iter_mut().for_each(|subject| subject.round(&mut self.ours, true));
+            for i in 0..count {
+                for side in 0..4 {
+                    subjects[(i + side * count / 4) % count].in_a_row(ours, side);
+                }
+            }
         }
         let rows =
             |sides: fn(&Subject) -> &Sides| subjects.iter().map(|s| sides(s).row()).collect();
-        [rows(|s| &s.first), rows(|s| &s.again)]
+        [
+            ("in turns", rows(|s| &s.turns)),
+            ("first", rows(|s| &s.first)),
+            ("again", rows(|s| &s.again)),
+        ]
     }
 }
 
@@ -164,15 +188,21 @@ fn ratio(r: f64) -> String {
     if r < 9.95 { format!("{r:.2}") } else { format!("{r:.1}") }
 }
 
-/// Whether what is asked holds.
-struct Demand {
-    what: String,
-    measured: f64,
-    holds: bool,
+/// What was measured where something is asked, a line each.
+#[derive(Default)]
+struct Asked {
+    corpora: Vec<String>,
+    others: Vec<String>,
+}
+
+/// A ratio of which at least so much is asked.
+fn held(measured: f64, least: f64) -> String {
+    let holds = if measured >= least { "holds" } else { "does not hold" };
+    format!("{}, {holds}", ratio(measured))
 }
 
 /// A line of the corpora's table, and what is asked of it.
-fn corpus(name: &str, rows: &[Row], demands: &mut Vec<Demand>) {
+fn corpus(name: &str, rows: &[Row], asked: &mut Asked) {
     let median =
         |value: &dyn Fn(&Row) -> f64| quantile(&sorted(rows.iter().map(value).collect()), 0.5);
     let ratios = |value: &dyn Fn(&Row) -> f64| {
@@ -192,29 +222,23 @@ fn corpus(name: &str, rows: &[Row], demands: &mut Vec<Demand>) {
         ratios(&|r| r.job / r.less_clearing()),
         ratios(&|r| r.analysis / r.less_clearing()),
     );
-    for (side, least, whole, less) in [
-        ("same job", 5.0, median(&|r| r.job / r.ours), median(&|r| r.job / r.less_clearing())),
-        (
-            "analysis alone",
-            3.0,
-            median(&|r| r.analysis / r.ours),
-            median(&|r| r.analysis / r.less_clearing()),
-        ),
-    ] {
-        for (measured, how) in [(whole, "whole call"), (less, "less clearing")] {
-            let what = format!("{name}, {how}: at the median at least {least} times the {side}");
-            demands.push(Demand { what, measured, holds: measured >= least });
-        }
-    }
+    asked.corpora.push(format!(
+        "| {name} | {} | {} | {} | {} |",
+        held(median(&|r| r.job / r.less_clearing()), 5.0),
+        held(median(&|r| r.analysis / r.less_clearing()), 3.0),
+        held(median(&|r| r.job / r.ours), 5.0),
+        held(median(&|r| r.analysis / r.ours), 3.0),
+    ));
 }
 
-fn corpora(bench: &mut Bench, demands: &mut Vec<Demand>) {
+fn corpora(bench: &mut Bench, asked: &mut Asked) {
     println!("## Corpora\n");
     println!(
         "Ratios are taken sheet by sheet; the median over the sheets, in brackets the lower and \
-         upper tenth. In every round each side is called three times in a row on a sheet. The \
-         first call follows the other side's work and other sheets (\"first\"); the third finds \
-         caches and branches as the same call left them (\"again\").\n"
+         upper tenth. \"In turns\": the sides one after the other on one sheet, in all rounds, as \
+         for the shapes below. \"First\" and \"again\": in every round each side is called three \
+         times in a row on a sheet, after all sides on other sheets; the first call finds caches \
+         and branches as those left them, the third as the same call did.\n"
     );
     println!(
         "| corpus | sheets | ours µs | of it clearing | same job µs | analysis µs | same job / ours | analysis / ours | same job / ours less clearing | analysis / ours less clearing |"
@@ -236,9 +260,9 @@ fn corpora(bench: &mut Bench, demands: &mut Vec<Demand>) {
         ("generated sheets", generated),
     ];
     for (name, sheets) in corpora {
-        let [first, again] = bench.measure_all(sheets, (bench.rounds / 5).max(5));
-        corpus(&format!("{name}, first"), &first, demands);
-        corpus(&format!("{name}, again"), &again, demands);
+        for (way, rows) in bench.measure_all(sheets, (bench.rounds / 5).max(5)) {
+            corpus(&format!("{name}, {way}"), &rows, asked);
+        }
     }
     println!();
 }
@@ -259,7 +283,7 @@ fn shape_row(name: &str, words: usize, row: &Row) {
     );
 }
 
-fn worst(bench: &mut Bench, demands: &mut Vec<Demand>) {
+fn worst(bench: &mut Bench, asked: &mut Asked) {
     let mut sheets = shapes::worst();
     let mut random = Random::new(3);
     sheets.extend(
@@ -268,20 +292,22 @@ fn worst(bench: &mut Bench, demands: &mut Vec<Demand>) {
             .map(|limit| (format!("limit: {limit:?}"), generate::at_limit(&mut random, limit))),
     );
     println!("## Worst shapes and limits\n\n{SHAPES_HEAD}");
-    let mut least: Option<(f64, String)> = None;
+    let mut all = Vec::new();
     for (name, sheet) in sheets {
         let row = bench.measure(&sheet);
         shape_row(&name, sheet.words().len(), &row);
-        let r = row.analysis / row.less_clearing();
-        if least.as_ref().is_none_or(|(least, _)| r < *least) {
-            least = Some((r, name));
-        }
+        all.push((row.analysis / row.less_clearing(), name));
     }
     println!();
-    if let Some((measured, name)) = least {
-        let what = format!("on no shape slower than the analysis alone, clearing aside ({name})");
-        demands.push(Demand { what, measured, holds: measured >= 1.0 });
-    }
+    all.sort_by(|(a, _), (b, _)| a.total_cmp(b));
+    let slower = all.iter().take_while(|(r, _)| *r < 1.0).count();
+    asked.others.push(format!(
+        "- On no shape slower than the analysis alone, clearing aside: slower on {slower} of {}.",
+        all.len()
+    ));
+    let lowest = all.iter().take(slower.max(3)).map(|(r, name)| format!("{name} {}", ratio(*r)));
+    let lowest: Vec<String> = lowest.collect();
+    asked.others.push(format!("- The lowest of these ratios: {}.", lowest.join("; ")));
 }
 
 fn doublings(bench: &mut Bench) {
@@ -313,7 +339,7 @@ fn doublings(bench: &mut Bench) {
 
 /// The whole call beside clearing and one reading: the same sheet with one word more is read
 /// whole, refused 7, and both buffers are cleared.
-fn tiny(bench: &mut Bench, demands: &mut Vec<Demand>) {
+fn tiny(bench: &mut Bench, asked: &mut Asked) {
     println!("## Tiny sheets\n");
     println!(
         "| sheet | words | whole call µs | clearing and one reading µs | ratio | through `Service` µs |"
@@ -354,8 +380,12 @@ fn tiny(bench: &mut Bench, demands: &mut Vec<Demand>) {
         );
     }
     println!();
-    let what = "tiny sheets, under 10 identifiers: the whole call within 1.3 times clearing and one reading".to_string();
-    demands.push(Demand { what, measured: largest, holds: largest <= 1.3 });
+    let holds = if largest <= 1.3 { "holds" } else { "does not hold on all" };
+    asked.others.push(format!(
+        "- Tiny sheets, under 10 identifiers: the whole call within 1.3 times clearing and one \
+         reading: at most {}, {holds}.",
+        ratio(largest)
+    ));
 }
 
 fn clearing(bench: &mut Bench) {
@@ -389,7 +419,7 @@ fn load(when: &str) -> String {
 fn main() {
     let rounds = std::env::args().nth(1).map_or(101, |r| r.parse().expect("ROUNDS is a number"));
     let mut bench = Bench { ours: Ours::new(), rounds };
-    let mut demands = Vec::new();
+    let mut asked = Asked::default();
     println!(
         "Medians of {rounds} rounds (fewer where a round takes long, at least 5; a fifth of them \
          for corpora). Every call of ours is lent {} words of workspace, and of answer buffer what \
@@ -401,14 +431,15 @@ fn main() {
     );
     println!("{}", load("begins"));
     clearing(&mut bench);
-    tiny(&mut bench, &mut demands);
-    corpora(&mut bench, &mut demands);
-    worst(&mut bench, &mut demands);
+    tiny(&mut bench, &mut asked);
+    corpora(&mut bench, &mut asked);
+    worst(&mut bench, &mut asked);
     doublings(&mut bench);
     println!("{}", load("ends"));
-    println!("## What is asked\n\n| | measured | |\n|---|---|---|");
-    for demand in &demands {
-        let holds = if demand.holds { "holds" } else { "does not hold" };
-        println!("| {} | {} | {holds} |", demand.what, ratio(demand.measured));
-    }
+    println!("## What is asked\n");
+    println!(
+        "| at the median | less clearing: same job (5) | analysis alone (3) | whole call: same job (5) | analysis alone (3) |"
+    );
+    println!("|---|---|---|---|---|\n{}\n", asked.corpora.join("\n"));
+    println!("{}", asked.others.join("\n"));
 }
