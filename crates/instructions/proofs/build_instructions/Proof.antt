@@ -51,8 +51,9 @@ loop-holds c =
 
 build-instruction-requires : tie.Need-build-instruction-requires Inv-loop μ-loop
 build-instruction-requires c κs =
+    let b5 = c .before .before .before .before .before in
     let l = c .before .before .loop in
-    let b = c .before .before .before .before .before .before in
+    let b = b5 .before in
     let a = b .args in
     (b .pre .0, times-ready instructionStep instructionCost (instruction (a .n) (a .m)) (a .s .now) (l .left) (l .c) (l .inv) (c .before .loop-test .taken))
 
@@ -79,46 +80,52 @@ mul-t24 c = omega arith
 
 add-t25 : tie.Need-add-t25 Inv-loop μ-loop
 add-t25 c =
-    let d = c .before .before .before .t .given .0 .1 .0 .at in
+    let b3 = c .before .before .before in
+    let b14 = b3 .before .before .before .before .before .before .before .before .before .before .before in
+    let d = b3 .t .given .0 .1 .0 .at in
     let r = c .before .without-effects .result in
-    let ends : d + 2 * r ≤ 18446744073709551615 = run-ends noEffect _ r _ d 18446744073709551615 (c .before .without-effects .ensures) (omega (arith, c .struct-known .given)) (omega arith) in
-    omega (arith, ends)
+    let ends : d + 2 * r ≤ 18446744073709551615 = run-ends noEffect _ r _ d 18446744073709551615 (c .before .without-effects .ensures) (omega (arith, c .struct-known .given)) (omega (arith, b14 .good .1 .0)) in omega (arith, ends)
 
 loop-less : tie.Need-loop-less Inv-loop μ-loop
 loop-less c = omega (arith, c .before .without-effects .ensures .most)
 
 loop-again : tie.Need-loop-again Inv-loop μ-loop
 loop-again c =
-    let b7 = c .before .before .before .before .before .before .before in
+    let b3 = c .before .before .before in
+    let b6 = b3 .before .before .before in
+    let b7 = b6 .before in
     let b9 = b7 .before .before in
     let l = b9 .before .loop in
-    let a = b9 .before .before .before .before .before .args in
-    empty-run (a .n) (a .m) (a .s .now) _ _ _ (c .before .without-effects .ensures)
-    (times-turn instructionStep instructionCost (instruction (a .n) (a .m)) (a .s .now) (l .left) (l .c) (l .inv) _ (b9 .loop-test .taken) (found-builds (c .before .before .before .t .given .1) (b7 .build-instruction .ensures)))
+    let a = b9 .before .before .before .before .before .args in empty-run (a .n) (a .m) (a .s .now) _ _ _ (c .before .without-effects .ensures) (times-turn instructionStep instructionCost (instruction (a .n) (a .m)) (a .s .now) (l .left) (l .c) (l .inv) _ (b9 .loop-test .taken) (found-builds (b3 .t .given .1) (b7 .build-instruction .ensures)))
 
 enum-known-k : tie.Need-enum-known-k Inv-loop μ-loop
 enum-known-k c = search needs
 
 same-length : tie.Need-same-length Inv-loop μ-loop
 same-length c =
-    c .before .before .before .before .before .build-instruction .kept .1 .1 .1 .1 .0 ∙ c .before .before .before .before .before .before .before .before .loop .inv .same
+    let b5 = c .before .before .before .before .before in
+    let b8 = b5 .before .before .before in
+    b5 .build-instruction .kept .1 .1 .1 .1 .0 ∙ b8 .loop .inv .same
 
 returns : tie.Need-returns Inv-loop μ-loop
 returns c =
-    let l = c .before .before .before .before .before .before .before .before .loop in
-    let b = c .before .before .before .before .before .before .before .before .before .before .before .before in
-    let a = b .args in
-    absurd (not-built (times-ready instructionStep instructionCost (instruction (a .n) (a .m)) (a .s .now) (l .left) (l .c) (l .inv) (c .before .before .before .before .before .before .before .loop-test .taken)) (found-builds (c .before .k .given .1) (c .before .before .before .before .before .build-instruction .ensures)))
+    let b5 = c .before .before .before .before .before in
+    let b7 = b5 .before .before in
+    let b8 = b7 .before in
+    let b11 = b8 .before .before .before in
+    let l = b8 .loop in
+    let b = b11 .before in
+    let a = b .args in absurd (not-built (times-ready instructionStep instructionCost (instruction (a .n) (a .m)) (a .s .now) (l .left) (l .c) (l .inv) (b7 .loop-test .taken)) (found-builds (c .before .k .given .1) (b5 .build-instruction .ensures)))
 
 same-length-2 : tie.Need-same-length-2 Inv-loop μ-loop
 same-length-2 c = c .before .loop .inv .same
 
 returns-2 : tie.Need-returns-2 Inv-loop μ-loop
 returns-2 c =
+    let b4 = c .before .before .before .before in
     let l = c .before .loop in
-    let b = c .before .before .before .before .before in
-    let a = b .args in
-    builds-as (counted-here mostCount (instruction (a .n) (a .m)) (a .s .now) (a .start .at) (b .pre .1 .reads)) (times-done instructionStep instructionCost (instruction (a .n) (a .m)) (a .s .now) (l .left) (l .c) (l .inv) (c .loop-test .left))
+    let b = b4 .before in
+    let a = b .args in builds-as (counted-here mostCount (instruction (a .n) (a .m)) (a .s .now) (a .start .at) (b .pre .1 .reads)) (times-done instructionStep instructionCost (instruction (a .n) (a .m)) (a .s .now) (l .left) (l .c) (l .inv) (c .loop-test .left))
 
 pub build-instructions-spec : {M : Type 1} → statement M
 build-instructions-spec =
