@@ -46,13 +46,13 @@ has-word w ts ls = kinds-some (w % 4) (w / 4 % 4) ts ls (w % 16) (omega arith)
 parts-word : (l t r i : ℕ) → l + 4 * t + (16 * r + 32 * i) ≡ recordWord l t r i
 parts-word l t r i = omega arith
 
-module _ (w t k r i : ℕ) {a b c : ℕ} (reason : b ≡ max (w / 16 % 2) r) (last : c ≡ max (w / 32) i) where
-  pub kept-transitive : t ≡ 1 → a ≡ max (w / 4 % 4) k → w % 4 + 4 * a + (16 * b + 32 * c) ≡ keptWord w t k r i
+module _ (w t k r i : ℕ) {b c : ℕ} (reason : b ≡ max (w / 16 % 2) r) (last : c ≡ max (w / 32) i) where
+  pub kept-transitive : t ≡ 1 → (a : ℕ) → a ≡ max (w / 4 % 4) k → w % 4 + 4 * a + (16 * b + 32 * c) ≡ keptWord w t k r i
   unfolding keptWord
-  kept-transitive e h =
+  kept-transitive e a h =
       parts-word (w % 4) a b c ∙ (λ j. recordWord (pick (sym (eq-eqb t 1 e) j) (w % 4) (max (w % 4) k)) (pick (sym (eq-eqb t 1 e) j) (h j) (w / 4 % 4)) (reason j) (last j))
 
-  pub kept-local : (t ≡ 1 → ⊥) → a ≡ max (w % 4) k → a + 4 * (w / 4 % 4) + (16 * b + 32 * c) ≡ keptWord w t k r i
+  pub kept-local : (t ≡ 1 → ⊥) → (a : ℕ) → a ≡ max (w % 4) k → a + 4 * (w / 4 % 4) + (16 * b + 32 * c) ≡ keptWord w t k r i
   unfolding keptWord
-  kept-local n h =
+  kept-local n a h =
       parts-word a (w / 4 % 4) b c ∙ (λ j. recordWord (pick (sym (ne-eqb t 1 n) j) (w % 4) (h j)) (pick (sym (ne-eqb t 1 n) j) (max (w / 4 % 4) k) (w / 4 % 4)) (reason j) (last j))

@@ -15,13 +15,13 @@ use Rattle.model.specs.State.{Info, noRecord, moves, firstReason, highest, touc
 use Rattle.rows.specs.Pending.{kindOf}
 use Rattle.rows.specs.Graph.{tab}
 use Rattle.rows.proofs.Parts.{slice-at, slice-before, slice-set-in}
-use Rattle.rows.proofs.Tables.{tab-at, tab-set}
+use Rattle.rows.proofs.Tables.{tab-at, tab-set, tab-same}
 use Rattle.aliasing.specs.declared.Mutation.{Mutation as CodeMutation}
 use Rattle.aliasing.specs.Says.{modeOf, modeSays, mutationSays}
 use Rattle.aliasing.specs.State.{infoOf, recordIn, recordAt, recordsOf, endsOf}
-use Rattle.aliasing.specs.Accepts.{raiseW, recordWord, keptWord, spanW, writeW, acceptW}
+use Rattle.aliasing.specs.Accepts.{raiseW, recordWord, keptWord, spanW, writeW, recordW, acceptW}
 use Rattle.aliasing.proofs.Packed.{word-record}
-use Rattle.aliasing.proofs.Writes.{raise-length, raise-other, span-other, span-same, span-below}
+use Rattle.aliasing.proofs.Writes.{raise-other, span-other, span-same, span-below}
 
 -- ---- field by field
 reason-is : (a v : ℕ) → reasonOf (max a v) ≡ firstReason (reasonOf a) (reasonOf v)
@@ -61,6 +61,14 @@ info-is : (a sp k s : ℕ) → k < 2 → infoOf (max a (k + 1)) (pick (ltb a (k 
 info-is a sp k s h = ap (λ (n : ℕ). infoOf n (pick (ltb a (k + 1)) s sp)) (max-pick a (k + 1)) ∙ picked-is a sp k s h
 
 -- ---- all records
+-- the write of an end is above them
+records-end : (l : List ℕ) (x v : ℕ) → recordsOf (raiseW l (3072 + x) v) ≡ recordsOf l
+unfolding recordsOf recordAt
+records-end l x v = tab-same 512 (recordAt (raiseW l (3072 + x) v)) (recordAt l) (λ y h. λ j. recordIn (same y 0 h (omega arith) j) (same y 1536 h (omega arith) j) (same y 512 h (omega arith) j))
+  where
+    same : (y f : ℕ) → y < 512 → f < 2560 → getD (raiseW l (3072 + x) v) (f + y) 0 ≡ getD l (f + y) 0
+    same y f hy hf = raise-other l (3072 + x) v (f + y) (λ p. omega (arith, p))
+
 module _ (ns : List ℕ) (size : length ns ≡ 3584) (x k : ℕ) (hx : x < 512) (hk : k < 2) (m : CodeMutation) (hr : m .reason < 2) where
   abbrev w : ℕ
   w = getD ns (0 + x) 0
@@ -79,29 +87,23 @@ module _ (ns : List ℕ) (size : length ns ≡ 3584) (x k : ℕ) (hx : x < 512) 
   kindAt b = pick b (w / 4 % 4) (w % 4)
 
   abbrev worded : Bool → List ℕ
-  worded b = set (raiseW ns (3072 + x) (m .end .0)) (0 + x) (word b)
+  worded b = set ns (0 + x) (word b)
 
   abbrev after : Bool → List ℕ
   after b = spanW (worded b) (spanAt b) (kindAt b) (k + 1) (m .span)
 
-  same-length : (b : Bool) → length (worded b) ≡ 3584
-  same-length b = length-set (raiseW ns (3072 + x) (m .end .0)) (0 + x) (word b) ∙ raise-length ns (3072 + x) (m .end .0) ∙ size
-
-  worded-other : (b : Bool) (j : ℕ) → (j ≡ 0 + x → ⊥) → (j ≡ 3072 + x → ⊥) → getD (worded b) j 0 ≡ getD ns j 0
-  worded-other b j p q = getD-set-other (raiseW ns (3072 + x) (m .end .0)) (0 + x) j (word b) 0 p ∙ raise-other ns (3072 + x) (m .end .0) j q
-
-  after-other : (b : Bool) (j : ℕ) → (j ≡ 0 + x → ⊥) → (j ≡ spanAt b → ⊥) → (j ≡ 3072 + x → ⊥) → getD (after b) j 0 ≡ getD ns j 0
-  after-other b j p q r = span-other (worded b) (spanAt b) (kindAt b) (k + 1) (m .span) j q ∙ worded-other b j p r
+  after-other : (b : Bool) (j : ℕ) → (j ≡ 0 + x → ⊥) → (j ≡ spanAt b → ⊥) → getD (after b) j 0 ≡ getD ns j 0
+  after-other b j p q = span-other (worded b) (spanAt b) (kindAt b) (k + 1) (m .span) j q ∙ getD-set-other ns (0 + x) j (word b) 0 p
 
   after-word : (b : Bool) → (0 + x ≡ spanAt b → ⊥) → getD (after b) (0 + x) 0 ≡ word b
   after-word b p =
       span-other (worded b) (spanAt b) (kindAt b) (k + 1) (m .span) (0 + x) p
-      ∙ getD-set-same (raiseW ns (3072 + x) (m .end .0)) (0 + x) (word b) 0 (omega (arith, raise-length ns (3072 + x) (m .end .0), size, hx))
+      ∙ getD-set-same ns (0 + x) (word b) 0 (omega (arith, size, hx))
 
   after-span : (b : Bool) → (spanAt b ≡ 0 + x → ⊥) → getD (after b) (spanAt b) 0 ≡ pick (ltb (kindAt b) (k + 1)) (m .span) (getD ns (spanAt b) 0)
   after-span b p =
-      span-same (worded b) (spanAt b) (kindAt b) (k + 1) (m .span) (omega (arith, same-length b, span-below b x hx))
-      ∙ ap (pick (ltb (kindAt b) (k + 1)) (m .span)) (worded-other b (spanAt b) p (λ q. omega (arith, q, span-below b x hx)))
+      span-same (worded b) (spanAt b) (kindAt b) (k + 1) (m .span) (omega (arith, length-set ns (0 + x) (word b), size, span-below b x hx))
+      ∙ ap (pick (ltb (kindAt b) (k + 1)) (m .span)) (getD-set-other ns (0 + x) (spanAt b) (word b) 0 p)
 
   -- the record of x
   written : (b : Bool) → recordAt (after b) x ≡ touch b (mutationSays m) info (recordAt ns x)
@@ -111,7 +113,7 @@ module _ (ns : List ℕ) (size : length ns ≡ 3584) (x k : ℕ) (hx : x < 512) 
       let t : ℕ = getD ns (1536 + x) 0 in
       let t′ : ℕ = pick (ltb (w / 4 % 4) (k + 1)) (m .span) t in
       (λ j. recordIn (after-word true (λ p. omega (arith, p)) j) (after-span true (λ p. omega (arith, p)) j)
-      (after-other true (512 + x) (λ p. omega (arith, p)) (λ p. omega (arith, p)) (λ p. omega (arith, p)) j))
+      (after-other true (512 + x) (λ p. omega (arith, p)) (λ p. omega (arith, p)) j))
       ∙ word-record (w % 4) (max (w / 4 % 4) (k + 1)) (max (w / 16 % 2) (m .reason)) (max (w / 32) (m .index)) (omega arith) (omega (arith, hk)) (omega (arith, hr)) t′ l
       ∙ (λ j. record {
         reason = reason-is (w / 16 % 2) (m .reason) j;
@@ -124,7 +126,7 @@ module _ (ns : List ℕ) (size : length ns ≡ 3584) (x k : ℕ) (hx : x < 512) 
       let t : ℕ = getD ns (1536 + x) 0 in
       let l′ : ℕ = pick (ltb (w % 4) (k + 1)) (m .span) l in
       (λ j. recordIn (after-word false (λ p. omega (arith, p)) j)
-      (after-other false (1536 + x) (λ p. omega (arith, p)) (λ p. omega (arith, p)) (λ p. omega (arith, p)) j) (after-span false (λ p. omega (arith, p)) j))
+      (after-other false (1536 + x) (λ p. omega (arith, p)) (λ p. omega (arith, p)) j) (after-span false (λ p. omega (arith, p)) j))
       ∙ word-record (max (w % 4) (k + 1)) (w / 4 % 4) (max (w / 16 % 2) (m .reason)) (max (w / 32) (m .index)) (omega (arith, hk)) (omega arith) (omega (arith, hr)) t l′
       ∙ (λ j. record {
         reason = reason-is (w / 16 % 2) (m .reason) j;
@@ -139,15 +141,19 @@ module _ (ns : List ℕ) (size : length ns ≡ 3584) (x k : ℕ) (hx : x < 512) 
   written-other b y hy ne = λ j. recordIn (kept b 0 (omega arith) (omega arith) j) (kept b 1536 (omega arith) (omega arith) j) (kept b 512 (omega arith) (omega arith) j)
     where
       kept : (b : Bool) (f : ℕ) → f < 3072 → f % 512 ≡ 0 → getD (after b) (f + y) 0 ≡ getD ns (f + y) 0
-      kept true f hf e = after-other true (f + y) (λ p. ne (omega (arith, p))) (λ p. ne (omega (arith, p))) (λ p. omega (arith, p))
-      kept false f hf e = after-other false (f + y) (λ p. ne (omega (arith, p))) (λ p. ne (omega (arith, p))) (λ p. omega (arith, p))
+      kept true f hf e = after-other true (f + y) (λ p. ne (omega (arith, p))) (λ p. ne (omega (arith, p)))
+      kept false f hf e = after-other false (f + y) (λ p. ne (omega (arith, p))) (λ p. ne (omega (arith, p)))
 
-  pub accept-records : (t : ℕ) → recordsOf (acceptW ns x t (k + 1) m) ≡ set (recordsOf ns) x (touch (eqb t 1) (mutationSays m) info (getD (recordsOf ns) x noRecord))
-  unfolding recordsOf acceptW writeW keptWord
-  accept-records t =
+  record-records : (t : ℕ) → recordsOf (recordW ns x t (k + 1) m) ≡ set (recordsOf ns) x (touch (eqb t 1) (mutationSays m) info (getD (recordsOf ns) x noRecord))
+  unfolding recordsOf recordW writeW keptWord
+  record-records t =
       tab-set 512 x (recordAt ns) (recordAt (after (eqb t 1))) (touch (eqb t 1) (mutationSays m) info (getD (tab 512 (recordAt ns)) x noRecord))
       (written (eqb t 1) ∙ ap (touch (eqb t 1) (mutationSays m) info) (sym (tab-at 512 (recordAt ns) x noRecord hx)))
       (written-other (eqb t 1))
+
+  pub accept-records : (t : ℕ) → recordsOf (acceptW ns x t (k + 1) m) ≡ set (recordsOf ns) x (touch (eqb t 1) (mutationSays m) info (getD (recordsOf ns) x noRecord))
+  unfolding acceptW
+  accept-records t = records-end (recordW ns x t (k + 1) m) x (m .end .0) ∙ record-records t
 
 -- ---- all ends
 pick-slice : (b : Bool) (l m : List ℕ) → slice 3072 3584 m ≡ slice 3072 3584 l → slice 3072 3584 (pick b m l) ≡ slice 3072 3584 l
@@ -182,13 +188,18 @@ raised-is ends x (suc o) errors = go (ltb (getD ends x 0) (suc o)) refl
         let p : getD ends x 0 ≡ max (getD ends x 0) (suc (suc o - 1)) = omega (arith, ltb-false (getD ends x 0) (suc o) h) in
         sym (set-getD ends x 0) ∙ ap (set ends x) p
 
+ends-record : (ns : List ℕ) (x t k : ℕ) (m : CodeMutation) → x < 512 → slice 3072 3584 (recordW ns x t k m) ≡ slice 3072 3584 ns
+unfolding recordW writeW
+ends-record ns x t k m hx =
+    let w : ℕ = getD ns (0 + x) 0 in
+    let v : ℕ = keptWord w t k (m .reason) (m .index) in
+    ends-span (set ns (0 + x) v) (pick (eqb t 1) (1536 + x) (512 + x)) (pick (eqb t 1) (w / 4 % 4) (w % 4)) k (m .span) (span-below (eqb t 1) x hx)
+    ∙ slice-before 3072 3584 (0 + x) v ns (omega arith) (omega arith)
+
 pub accept-ends : (ns : List ℕ) (x t k : ℕ) (m : CodeMutation) → x < 512
     → endsOf (acceptW ns x t k m) ≡ raised (moves (modeSays m)) x (mutationSays m .order) (endsOf ns)
-unfolding endsOf acceptW writeW modeSays mutationSays
+unfolding endsOf acceptW modeSays mutationSays
 accept-ends ns x t k m hx =
-    let w : ℕ = getD ns (0 + x) 0 in
-    let ended : List ℕ = raiseW ns (3072 + x) (m .end .0) in
-    ends-span (set ended (0 + x) (keptWord w t k (m .reason) (m .index))) (pick (eqb t 1) (1536 + x) (512 + x)) (pick (eqb t 1) (w / 4 % 4) (w % 4)) k (m .span) (span-below (eqb t 1) x hx)
-    ∙ slice-before 3072 3584 (0 + x) (keptWord w t k (m .reason) (m .index)) ended (omega arith) (omega arith)
-    ∙ ends-end ns x (m .end .0) hx
+    ends-end (recordW ns x t k m) x (m .end .0) hx
+    ∙ ap (λ (l : List ℕ). raiseW l x (m .end .0)) (ends-record ns x t k m hx)
     ∙ raised-is (slice 3072 3584 ns) x (m .end .0) (m .«should_record_errors»)

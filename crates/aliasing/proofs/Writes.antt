@@ -1,21 +1,18 @@
 -- The words after one conditional write, and such writes as they stay below a bound.
-use Prim.Native.Nat.{ℕ, _+_, _/_, _%_, _<_}
+use Prim.Native.Nat.{ℕ, _+_, _*_, _/_, _%_, _≤_, _<_, max}
 use native.Mathlib.Omega.{arith}
 use mathlib.Core.Bool.{Bool, true, false}
 use mathlib.Core.List.{List}
 use mathlib.Core.Path.{_≡_, refl, sym, ap, _∙_}
-use lib.ListN.{length, getD, set, take, length-set}
+use lib.ListN.{length, getD, set, take}
 use lib.Seq.{getD-take, getD-set-same, getD-set-other}
 use lib.Dec.{ltb, eqb}
-use borrow.Author.Tests.{ltb-true, eqb-true, eq-eqb, ne-eqb}
+use borrow.Author.Tests.{ltb-true, eqb-true, lt-ltb, le-ltb, eq-eqb, ne-eqb}
 use Rattle.model.specs.Lists.{pick}
 use Rattle.rows.proofs.Parts.{Local, local-id, local-set, local-then, local-test}
-use Rattle.aliasing.specs.Accepts.{raiseW, keptWord, spanW, writeW, acceptW}
+use Rattle.aliasing.specs.Accepts.{raiseW, keptWord, spanW, writeW, recordW, acceptW}
 use Rattle.aliasing.specs.declared.Mutation.{Mutation}
-
-pick-length : (b : Bool) (l m : List ℕ) → length m ≡ length l → length (pick b m l) ≡ length l
-pick-length true l m h = h
-pick-length false l m h = refl
+use Rattle.aliasing.proofs.Packed.{kept-transitive, kept-local}
 
 pick-other : (b : Bool) (l m : List ℕ) (j : ℕ) → getD m j 0 ≡ getD l j 0 → getD (pick b m l) j 0 ≡ getD l j 0
 pick-other true l m j h = h
@@ -26,14 +23,9 @@ pick-at true l m j v h = h
 pick-at false l m j v h = refl
 
 -- ---- the larger
-module _ (l : List ℕ) (i v : ℕ) where
-  pub raise-length : length (raiseW l i v) ≡ length l
-  unfolding raiseW
-  raise-length = pick-length (ltb (getD l i 0) v) l (set l i v) (length-set l i v)
-
-  pub raise-other : (j : ℕ) → (j ≡ i → ⊥) → getD (raiseW l i v) j 0 ≡ getD l j 0
-  unfolding raiseW
-  raise-other j h = pick-other (ltb (getD l i 0) v) l (set l i v) j (getD-set-other l i j v 0 h)
+pub raise-other : (l : List ℕ) (i v j : ℕ) → (j ≡ i → ⊥) → getD (raiseW l i v) j 0 ≡ getD l j 0
+unfolding raiseW
+raise-other l i v j h = pick-other (ltb (getD l i 0) v) l (set l i v) j (getD-set-other l i j v 0 h)
 
 -- nothing is below 0, and so an unset end moves none
 pub raise-unset : (l : List ℕ) (i v : ℕ) (t : Bool) → t ≡ eqb v 0 → t ≡ true → l ≡ raiseW l i v
@@ -82,22 +74,47 @@ span-below false x h = omega arith
 local-write : (w x t k : ℕ) (m : Mutation) → x < 512 → Local 3584 (λ (l : List ℕ). writeW w l x t k m)
 unfolding writeW
 local-write w x t k m h =
-    local-then (local-then (local-raise 3584 (3072 + x) (m .end .0) (omega arith)) (local-set 3584 (0 + x) (keptWord w t k (m .reason) (m .index)) (omega arith)))
+    local-then (local-set 3584 (0 + x) (keptWord w t k (m .reason) (m .index)) (omega arith))
     (local-span 3584 (pick (eqb t 1) (1536 + x) (512 + x)) (pick (eqb t 1) (w / 4 % 4) (w % 4)) k (m .span) (omega (arith, span-below (eqb t 1) x h)))
+
+local-record : (x t k : ℕ) (m : Mutation) → x < 512 → Local 3584 (λ (l : List ℕ). recordW l x t k m)
+unfolding recordW
+local-record x t k m h = local-word 3584 (0 + x) (λ w l. writeW w l x t k m) (omega arith) (λ w. local-write w x t k m h)
 
 pub local-accept : (x t k : ℕ) (m : Mutation) → x < 512 → Local 3584 (λ (l : List ℕ). acceptW l x t k m)
 unfolding acceptW
-local-accept x t k m h = local-word 3584 (0 + x) (λ w l. writeW w l x t k m) (omega arith) (λ w. local-write w x t k m h)
+local-accept x t k m h = local-then (local-record x t k m h) (local-raise 3584 (3072 + x) (m .end .0) (omega arith))
 
--- ---- the writes of `accept` one after another: the end, the word, the span
-module _ (ws : List ℕ) (x t k : ℕ) (m : Mutation) {ws₁ ws₂ : List ℕ} {v : ℕ} (ended : ws₁ ≡ raiseW ws (3072 + x) (m .end .0)) (word : v ≡ keptWord (getD ws (0 + x) 0) t k (m .reason) (m .index)) where
-  accepted : (b : Bool) → b ≡ eqb t 1 → ws₂ ≡ spanW (set ws₁ (0 + x) v) (pick b (1536 + x) (512 + x)) (pick b (getD ws (0 + x) 0 / 4 % 4) (getD ws (0 + x) 0 % 4)) k (m .span) → ws₂ ≡ acceptW ws x t k m
-  unfolding acceptW writeW
-  accepted b e h =
-      h ∙ (λ j. spanW (set (ended j) (0 + x) (word j)) (pick (e j) (1536 + x) (512 + x)) (pick (e j) (getD ws (0 + x) 0 / 4 % 4) (getD ws (0 + x) 0 % 4)) k (m .span))
+-- ---- the arms of `record`: the word, and the span where the kind is below the level
+module _ (ws : List ℕ) (x t k : ℕ) (m : Mutation) where
+  abbrev w : ℕ
+  w = getD ws (0 + x) 0
 
-  pub accepted-transitive : t ≡ 1 → ws₂ ≡ spanW (set ws₁ (0 + x) v) (1536 + x) (getD ws (0 + x) 0 / 4 % 4) k (m .span) → ws₂ ≡ acceptW ws x t k m
-  accepted-transitive e = accepted true (sym (eq-eqb t 1 e))
+  recorded : {v : ℕ} (b c : Bool) → b ≡ eqb t 1 → c ≡ ltb (pick b (w / 4 % 4) (w % 4)) k → v ≡ keptWord w t k (m .reason) (m .index)
+      → pick c (set (set ws (0 + x) v) (pick b (1536 + x) (512 + x)) (m .span)) (set ws (0 + x) v) ≡ recordW ws x t k m
+  unfolding recordW writeW spanW
+  recorded {v} b c e f h =
+      ap (λ (d : Bool). pick d (set (set ws (0 + x) v) (pick b (1536 + x) (512 + x)) (m .span)) (set ws (0 + x) v)) f
+      ∙ (λ j. spanW (set ws (0 + x) (h j)) (pick (e j) (1536 + x) (512 + x)) (pick (e j) (w / 4 % 4) (w % 4)) k (m .span))
 
-  pub accepted-local : (t ≡ 1 → ⊥) → ws₂ ≡ spanW (set ws₁ (0 + x) v) (512 + x) (getD ws (0 + x) 0 % 4) k (m .span) → ws₂ ≡ acceptW ws x t k m
-  accepted-local e = accepted false (sym (ne-eqb t 1 e))
+  module _ {r i : ℕ} (reason : r ≡ max (w / 16 % 2) (m .reason)) (last : i ≡ max (w / 32) (m .index)) where
+    pub transitive-higher : t ≡ 1 → w / 4 % 4 < k → set (set ws (0 + x) (w % 4 + 4 * k + (16 * r + 32 * i))) (1536 + x) (m .span) ≡ recordW ws x t k m
+    transitive-higher e h =
+        recorded true true (sym (eq-eqb t 1 e)) (sym (lt-ltb (w / 4 % 4) k h)) (kept-transitive w t k (m .reason) (m .index) reason last e k (omega (arith, h)))
+
+    pub transitive-stays : t ≡ 1 → k ≤ w / 4 % 4 → set ws (0 + x) (w % 4 + 4 * (w / 4 % 4) + (16 * r + 32 * i)) ≡ recordW ws x t k m
+    transitive-stays e h =
+        recorded true false (sym (eq-eqb t 1 e)) (sym (le-ltb (w / 4 % 4) k h)) (kept-transitive w t k (m .reason) (m .index) reason last e (w / 4 % 4) (omega (arith, h)))
+
+    pub local-higher : (t ≡ 1 → ⊥) → w % 4 < k → set (set ws (0 + x) (k + 4 * (w / 4 % 4) + (16 * r + 32 * i))) (512 + x) (m .span) ≡ recordW ws x t k m
+    local-higher n h =
+        recorded false true (sym (ne-eqb t 1 n)) (sym (lt-ltb (w % 4) k h)) (kept-local w t k (m .reason) (m .index) reason last n k (omega (arith, h)))
+
+    pub local-stays : (t ≡ 1 → ⊥) → k ≤ w % 4 → set ws (0 + x) (w % 4 + 4 * (w / 4 % 4) + (16 * r + 32 * i)) ≡ recordW ws x t k m
+    local-stays n h =
+        recorded false false (sym (ne-eqb t 1 n)) (sym (le-ltb (w % 4) k h)) (kept-local w t k (m .reason) (m .index) reason last n (w % 4) (omega (arith, h)))
+
+-- ---- the writes of `accept` one after another: the record, the end
+pub accepted : (ws : List ℕ) (x t k : ℕ) (m : Mutation) {ws₁ ws₂ : List ℕ} → ws₁ ≡ recordW ws x t k m → ws₂ ≡ raiseW ws₁ (3072 + x) (m .end .0) → ws₂ ≡ acceptW ws x t k m
+unfolding acceptW
+accepted ws x t k m written ended = ended ∙ ap (λ (l : List ℕ). raiseW l (3072 + x) (m .end .0)) written

@@ -25,15 +25,19 @@ keptWord w transitive level reason index =
 unfoldable pub spanW : List ℕ → ℕ → ℕ → ℕ → ℕ → List ℕ
 spanW ws at kind level span = pick (ltb kind level) (set ws at span) ws
 
--- an accepted node x whose record's word is w: the largest end, the word, the span of the transitive or local record
+-- the record of an accepted node x, where its word is w: the word, the span of the transitive or local record
 unfoldable pub writeW : ℕ → List ℕ → ℕ → ℕ → ℕ → Mutation → List ℕ
 writeW w ws x transitive level m =
-    spanW (set (raiseW ws (END + x) (m .end .0)) (RECORD + x) (keptWord w transitive level (m .reason) (m .index)))
+    spanW (set ws (RECORD + x) (keptWord w transitive level (m .reason) (m .index)))
     (pick (eqb transitive 1) (TSPAN + x) (LSPAN + x)) (pick (eqb transitive 1) (w / 4 % 4) (w % 4)) level (m .span)
 
--- an accepted node x
+-- the record of an accepted node x
+unfoldable pub recordW : List ℕ → ℕ → ℕ → ℕ → Mutation → List ℕ
+recordW ws x transitive level m = writeW (getD ws (RECORD + x) 0) ws x transitive level m
+
+-- an accepted node x: its record, the largest end
 unfoldable pub acceptW : List ℕ → ℕ → ℕ → ℕ → Mutation → List ℕ
-acceptW ws x transitive level m = writeW (getD ws (RECORD + x) 0) ws x transitive level m
+acceptW ws x transitive level m = raiseW (recordW ws x transitive level m) (END + x) (m .end .0)
 
 -- the function of a node whose value is v, if it is a function node
 unfoldable pub functionW : ℕ → List ℕ

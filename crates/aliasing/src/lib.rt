@@ -9,7 +9,7 @@ ghost use Rattle.pushes.specs.Pushes.{Pushed};
 ghost use Rattle.rows.specs.Pending.{kindOf};
 ghost use Rattle.aliasing.specs.Says.{bit, kindBit, kindSays};
 ghost use Rattle.aliasing.specs.State.{Handing, NoneAbove};
-ghost use Rattle.aliasing.specs.Accepts.{raiseW, keptWord, spanW, acceptW, functionW, handW};
+ghost use Rattle.aliasing.specs.Accepts.{raiseW, recordW, acceptW, functionW, handW};
 ghost use Rattle.aliasing.specs.Walks.{Ready, Callable, Stepped, Walked, Mutated};
 ghost use Rattle.aliasing.specs.Pending.{Pending, Made, Processed};
 use hir::EvaluationOrder;
@@ -85,26 +85,30 @@ fn larger(a: u32, b: u32) -> u32
     if a < b { b } else { a }
 }
 
-// The word of a record: the higher kind of the transitive or local one, the first reason and the largest index.
-fn kept(w: u32, transitive: u32, level: u32, reason: u32, index: u32) -> u32
-    requires { ⌜ (level < 4) × ((reason < 2) × (index < 134217728)) ⌝ }
-    ensures { λ r. ⌜ r ≡ keptWord w transitive level reason index ⌝ }
+// The record of an accepted node x: the higher kind of the transitive or local one with its span, the first reason, the largest index. The word is written in each arm, so that the kind is compared once.
+fn record(ws: &mut [u32], x: usize, transitive: u32, level: u32, m: Mutation)
+    requires { ⌜ (x < 512) × ((LEAST ≤ length (now ws)) × (level < 4)) ⌝ }
+    requires { ⌜ Callable m ⌝ }
+    ensures { λ _. ⌜ now (ws .exit) ≡ recordW (now (ws .entry)) x transitive level m ⌝ }
 {
-    let rest = 16 * larger(w / 16 % 2, reason) + 32 * larger(w / 32, index);
+    let w = ws[RECORD + x];
+    let rest = 16 * larger(w / 16 % 2, m.reason) + 32 * larger(w / 32, m.index);
+    let local = w % 4;
+    let kind = w / 4 % 4;
     if transitive == 1 {
-        w % 4 + 4 * larger(w / 4 % 4, level) + rest
+        if kind < level {
+            ws[RECORD + x] = local + 4 * level + rest;
+            ws[TSPAN + x] = m.span;
+        } else {
+            ws[RECORD + x] = local + 4 * kind + rest;
+        }
     } else {
-        larger(w % 4, level) + 4 * (w / 4 % 4) + rest
-    }
-}
-
-// The span of a record whose kind was below the level.
-fn record_span(ws: &mut [u32], at: usize, kind: u32, level: u32, span: u32)
-    requires { ⌜ at < length (now ws) ⌝ }
-    ensures { λ _. ⌜ now (ws .exit) ≡ spanW (now (ws .entry)) at kind level span ⌝ }
-{
-    if kind < level {
-        ws[at] = span;
+        if local < level {
+            ws[RECORD + x] = level + 4 * kind + rest;
+            ws[LSPAN + x] = m.span;
+        } else {
+            ws[RECORD + x] = local + 4 * kind + rest;
+        }
     }
 }
 
@@ -114,15 +118,9 @@ fn accept(ws: &mut [u32], x: usize, transitive: u32, level: u32, m: Mutation)
     requires { ⌜ Callable m ⌝ }
     ensures { λ _. ⌜ now (ws .exit) ≡ acceptW (now (ws .entry)) x transitive level m ⌝ }
 {
+    record(ws, x, transitive, level, m);
     let end = m.end;
-    let w = ws[RECORD + x];
     raise_end(ws, END + x, end);
-    ws[RECORD + x] = kept(w, transitive, level, m.reason, m.index);
-    if transitive == 1 {
-        record_span(ws, TSPAN + x, w / 4 % 4, level, m.span);
-    } else {
-        record_span(ws, LSPAN + x, w % 4, level, m.span);
-    }
 }
 
 // A function node hands over its function, whose diagnostics the caller appends.

@@ -80,6 +80,10 @@ pub record Steps (f : Built → Built) (d m n k : ℕ) (ws : List ℕ) (b : Buil
   pub high : drop FUNCTIONS ws′ ≡ drop FUNCTIONS ws
   pub same : length ws′ ≡ length ws
 
+-- the building that has nodes and nothing else, each of them below `nodes`
+abbrev pub begun : ℕ → Building
+begun nodes = record { held = record { edges = 0; entries = 0; waiting = 0; nodes = nodes }; come = 0; relations = 0; mutations = 0; renders = 0 }
+
 -- nothing is built: no identifier has a node
 abbrev pub nothing : Built
 nothing = record { graph = noNodes mostIdentifiers; index = 0; come = []; waiting = []; mutations = []; renders = [] }

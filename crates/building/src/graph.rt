@@ -21,7 +21,7 @@ ghost use Rattle.building.specs.Logs.{raised};
 ghost use Rattle.building.specs.Held.{Room, Builds, Laid};
 
 // `nodes`, raised above x.
-fn raise(nodes: usize, x: u32) -> usize
+pub fn raise(nodes: usize, x: u32) -> usize
     requires { ⌜ x < 512 ⌝ }
     ensures { λ r. ⌜ r ≡ raised nodes x ⌝ }
 {

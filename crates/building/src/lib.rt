@@ -12,7 +12,7 @@ ghost use lib.ListN.{length};
 ghost use lib.Dec.{eqb};
 ghost use Rattle.model.specs.Lists.{among};
 ghost use Rattle.model.specs.Mutation.{reasonOf};
-ghost use Rattle.model.specs.Graph.{create, relate, createFrom, intoAliases, intoMaybeAliases, intoCaptures};
+ghost use Rattle.model.specs.Graph.{object, create, relate, createFrom, intoAliases, intoMaybeAliases, intoCaptures};
 ghost use Rattle.model.specs.Graph.{assign as assignEffect};
 ghost use Rattle.model.specs.Built.{changed, related, waits, mutates, comes};
 ghost use Rattle.model.specs.Built.{renders as rendersPlace};
@@ -20,7 +20,7 @@ ghost use Rattle.model.specs.Building.{operand, wake};
 ghost use Rattle.rows.specs.Layout.{LEAST};
 ghost use Rattle.rows.specs.Graph.{valueOf, relationOf};
 ghost use Rattle.rows.specs.Pending.{kindOf};
-ghost use Rattle.building.specs.Built.{valueIs, FunctionBelow, placeAt, indexOf, builtOf, Sound, Steps, LaysOut, Starts};
+ghost use Rattle.building.specs.Built.{valueIs, FunctionBelow, placeAt, indexOf, builtOf, Sound, Steps, LaysOut, begun, Starts};
 
 mod graph;
 mod logs;
@@ -286,18 +286,35 @@ impl Building {
     }
 }
 
-// The start of building: no identifier has a node.
-pub fn start(ws: &mut [u32]) -> Building
+// The start of building: no identifier has a node. Returned is what those with a node are below, never less than 15: where fewer than 64 bytes of bounds are cleared, that is by a store from which no load is served, and the first one waits.
+pub fn start(ws: &mut [u32]) -> usize
     requires { ⌜ LEAST ≤ length (now ws) ⌝ }
-    ensures { λ r. ⌜ Starts (now (ws .entry)) (now (ws .exit)) r ⌝ }
+    ensures { λ r. ⌜ Starts (now (ws .entry)) (now (ws .exit)) (begun r) ⌝ }
 {
     rows::clear(ws, VALUE, 512);
+    15
+}
+
+// A node for `place` while there are only nodes, so that no relation is dropped.
+pub fn create_first(ws: &mut [u32], nodes: usize, place: IdentifierId) -> usize
+    requires { ⌜ Sound (now ws) (begun nodes) ⌝ }
+    requires { ⌜ place .0 < 512 ⌝ }
+    ensures { λ r. ⌜ Steps (changed (create (place .0) object)) 0 0 0 0 (now (ws .entry)) (begun nodes) (now (ws .exit)) (begun r) ⌝ }
+{
+    ws[VALUE + place.0 as usize] = 1;
+    graph::raise(nodes, place.0)
+}
+
+// The building that has nodes and nothing else.
+pub fn begun(nodes: usize) -> Building
+    ensures { λ r. ⌜ r ≡ begun nodes ⌝ }
+{
     Building {
         held: Held {
             edges: 0,
             entries: 0,
             waiting: 0,
-            nodes: 0,
+            nodes,
         },
         come: 0,
         relations: 0,

@@ -17,7 +17,7 @@ use Rattle.rows.specs.Layout.{END, SEEN, VALUE, FBOUND, FUNCTIONS}
 use Rattle.rows.specs.Graph.{tab}
 use Rattle.rows.proofs.Parts.{take-less, drop-word, slice-at}
 use Rattle.building.specs.declared.Building.{Building}
-use Rattle.building.specs.Built.{Starts}
+use Rattle.building.specs.Built.{begun, Starts}
 use Rattle.dataflow.specs.Whole.{createdFor, First}
 use Rattle.dataflow.proofs.Sheet.{sheet-sections, first-nodes}
 use Rattle.header.specs.declared.Top.{Top}
@@ -148,9 +148,9 @@ module _ {sheet ws ws₁ : List ℕ} {x : TopStep} (T : Topped sheet ws ws₁ x)
             subst (trackedIs s d sheet (t .n) ws₂ b ws₃) p (U .read s d (top .n) (top .rest));
       }
 
-      pub function-read : {u : Tracked} {r : Building} → y ≡ GotTracked u r → ReadsFunction sheet ws ws₃ (Got (functionOf t u) r)
-      function-read {u} {r} p = record {
+      pub function-read : {u : Tracked} {nodes : ℕ} → y ≡ GotTracked u nodes → {r : Building} → r ≡ begun nodes → ReadsFunction sheet ws ws₃ (Got (functionOf t u) r)
+      function-read {u} {nodes} p is = record {
         read = λ s d e.
             let top : Tops s d sheet ws ws₁ t = subst (topIs s d sheet ws ws₁) q (T .read s d e) in
-            function-is sheet s d e top start (subst (trackedIs s d sheet (t .n) ws₂ b ws₃) p (U .read s d (top .n) (top .rest)));
+            subst (FunctionRead s sheet ws ws₃ (functionOf t u)) (sym is) (function-is sheet s d e top start (subst (trackedIs s d sheet (t .n) ws₂ b ws₃) p (U .read s d (top .n) (top .rest))));
       }

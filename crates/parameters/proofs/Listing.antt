@@ -12,9 +12,10 @@ use Rattle.model.proofs.Got.{not-both}
 use Rattle.model.proofs.ReadLaws.{times-length, counted-length}
 use Rattle.hir.specs.declared.Cursor.{Cursor}
 use Rattle.building.specs.declared.Building.{Building}
-use Rattle.instructions.specs.declared.BuildStep.{BuildStep}
-use Rattle.instructions.specs.declared.BuildStep.the-variants.{Got, Refused}
+use Rattle.building.specs.Built.{begun}
 use Rattle.instructions.proofs.Gots.{counted-is, counted-refused}
+use Rattle.parameters.specs.declared.PlacesStep.{PlacesStep}
+use Rattle.parameters.specs.declared.PlacesStep.the-variants.{Got, Refused}
 use Rattle.parameters.specs.declared.ListStep.{ListStep}
 use Rattle.parameters.specs.declared.ListStep.the-variants.{Got as GotList, Refused as NoList}
 use Rattle.parameters.specs.Places.{Places, placesAre, ReadsPlaces, ReadsList}
@@ -23,13 +24,13 @@ module _ (n : ℕ) (sheet : List ℕ) (c : Position) {first : ℕ} {ws : List �
   pub list-uncounted : {k : ℕ} → count mostParams sheet c ≡ refused k → ReadsList (counted mostParams (place n) sheet c) first ws b ws′ NoList
   list-uncounted e = record { read = λ ps d f. not-both f (counted-refused mostParams (place n) sheet c e); only = tt }
 
-  module _ {k : ℕ} {e : Position} (h : count mostParams sheet c ≡ got k e) {r : BuildStep} (p : ReadsPlaces (times k (place n) sheet e) first ws b ws′ r) where
+  module _ {k : ℕ} {e : Position} (h : count mostParams sheet c ≡ got k e) {r : PlacesStep} (p : ReadsPlaces (times k (place n) sheet e) first ws b ws′ r) where
     pub list-refused : {j : ℕ} → r ≡ Refused j → ReadsList (counted mostParams (place n) sheet c) first ws b ws′ NoList
     list-refused q = record { read = λ ps d f. subst (placesAre ps d first ws b ws′) q (p .read ps d (sym (counted-is mostParams (place n) sheet c h) ∙ f)); only = tt }
 
-    pub list-got : {b′ : Building} {c′ : Cursor} → r ≡ Got b′ c′ → ReadsList (counted mostParams (place n) sheet c) first ws b ws′ (GotList k b′ c′)
-    list-got {b′} {c′} q =
-        let t : ReadsPlaces (times k (place n) sheet e) first ws b ws′ (Got b′ c′) = subst (λ (r : BuildStep). ReadsPlaces (times k (place n) sheet e) first ws b ws′ r) q p in
+    pub list-got : {nodes : ℕ} {c′ : Cursor} → r ≡ Got nodes c′ → ReadsList (counted mostParams (place n) sheet c) first ws b ws′ (GotList k nodes c′)
+    list-got {nodes} {c′} q =
+        let t : ReadsPlaces (times k (place n) sheet e) first ws b ws′ (Got nodes c′) = subst (λ (r : PlacesStep). ReadsPlaces (times k (place n) sheet e) first ws b ws′ r) q p in
         let is : counted mostParams (place n) sheet c ≡ times k (place n) sheet e = counted-is mostParams (place n) sheet c h in
         record {
           read = λ ps d f.
@@ -48,9 +49,9 @@ pub record Listed (n : ℕ) (sheet : List ℕ) (c : Position) (first : ℕ) (ws 
   pub few : k ≤ 64
 
 pub list-listed : (n : ℕ) (sheet : List ℕ) (c : Position) {first : ℕ} {ws : List ℕ} {b : Building} {ws′ : List ℕ} {x : ListStep} → ReadsList (counted mostParams (place n) sheet c) first ws b ws′ x
-    → {k : ℕ} {r : Building} {d : Cursor} → x ≡ GotList k r d → Listed n sheet c first ws b ws′ k r (d .at)
-list-listed n sheet c {first} {ws} {b} {ws′} l {k} {r} {d} q =
-    let t : ReadsList (counted mostParams (place n) sheet c) first ws b ws′ (GotList k r d) = subst (λ (y : ListStep). ReadsList (counted mostParams (place n) sheet c) first ws b ws′ y) q l in
+    → {k nodes : ℕ} {d : Cursor} → x ≡ GotList k nodes d → Listed n sheet c first ws b ws′ k (begun nodes) (d .at)
+list-listed n sheet c {first} {ws} {b} {ws′} l {k} {nodes} {d} q =
+    let t : ReadsList (counted mostParams (place n) sheet c) first ws b ws′ (GotList k nodes d) = subst (λ (y : ListStep). ReadsList (counted mostParams (place n) sheet c) first ws b ws′ y) q l in
     let g = t .only .1 in
     let y = t .read (t .only .0) (d .at) g in
     record {

@@ -5,11 +5,10 @@ ghost use lib.ListN.{length};
 ghost use Rattle.model.specs.Limits.{mostParams};
 ghost use Rattle.model.specs.Reading.{times, counted};
 ghost use Rattle.model.specs.Sections.{place};
-ghost use Rattle.building.specs.Built.{Sound};
+ghost use Rattle.building.specs.Built.{begun, Sound};
 ghost use Rattle.parameters.specs.Function.{ReadsFunction};
 ghost use Rattle.parameters.specs.Places.{ReadsPlaces, ReadsList, ReadsTracked};
 use building::Building;
-use building::NodeValue;
 use function::HirFunction;
 use header::TopStep;
 use header::read_top;
@@ -17,7 +16,6 @@ use hir::Cursor;
 use hir::Place;
 use hir::PlaceStep;
 use hir::WordStep;
-use instructions::BuildStep;
 use summary::tracked::track;
 
 // The function and its building before the first block, or a refusal, which no accepted sheet gives.
@@ -26,21 +24,27 @@ pub enum FunctionStep {
     Refused,
 }
 
+// What the identifiers with a node are below, and the position after the places, or a refusal.
+pub enum PlacesStep {
+    Got(usize, Cursor),
+    Refused(u32),
+}
+
 // `count` places, tracked from number `first` on; each gets a node.
 pub fn read_places(
     sheet: &[u32],
     ws: &mut [u32],
-    b: Building,
+    nodes: usize,
     c: Cursor,
     n: u32,
     first: usize,
     count: u32,
-) -> BuildStep
+) -> PlacesStep
     requires { ⌜ (n ≤ 512) × ((first ≤ 64) × (count ≤ 64)) ⌝ }
-    requires { ⌜ Sound (now ws) b ⌝ }
-    ensures { λ r. ⌜ ReadsPlaces (times count (place n) (now (sheet .entry)) (c .at)) first (now (ws .entry)) b (now (ws .exit)) r ⌝ }
+    requires { ⌜ Sound (now ws) (begun nodes) ⌝ }
+    ensures { λ r. ⌜ ReadsPlaces (times count (place n) (now (sheet .entry)) (c .at)) first (now (ws .entry)) (begun nodes) (now (ws .exit)) r ⌝ }
 {
-    let mut built = b;
+    let mut built = nodes;
     let mut at = c;
     let mut left = count;
     let mut i = first;
@@ -48,17 +52,17 @@ pub fn read_places(
         match at.place(sheet, n) {
             PlaceStep::Got(p, next) => {
                 track(ws, i, p);
-                built = built.create(ws, p.identifier, NodeValue::Object);
+                built = building::create_first(ws, built, p.identifier);
                 at = next;
             }
             PlaceStep::Refused(k) => {
-                return BuildStep::Refused(k);
+                return PlacesStep::Refused(k);
             }
         }
         i += 1;
         left -= 1;
     }
-    BuildStep::Got(built, at)
+    PlacesStep::Got(built, at)
 }
 
 // Parameters, context, returns and the count of blocks.
@@ -71,46 +75,46 @@ pub struct Tracked {
 }
 
 pub enum TrackedStep {
-    Got(Tracked, Building),
+    Got(Tracked, usize),
     Refused,
 }
 
 // A count and as many places, tracked from number `first` on.
 pub enum ListStep {
-    Got(u32, Building, Cursor),
+    Got(u32, usize, Cursor),
     Refused,
 }
 
 pub fn read_list(
     sheet: &[u32],
     ws: &mut [u32],
-    b: Building,
+    nodes: usize,
     c: Cursor,
     n: u32,
     first: usize,
 ) -> ListStep
     requires { ⌜ (n ≤ 512) × (first ≤ 64) ⌝ }
-    requires { ⌜ Sound (now ws) b ⌝ }
-    ensures { λ r. ⌜ ReadsList (counted mostParams (place n) (now (sheet .entry)) (c .at)) first (now (ws .entry)) b (now (ws .exit)) r ⌝ }
+    requires { ⌜ Sound (now ws) (begun nodes) ⌝ }
+    ensures { λ r. ⌜ ReadsList (counted mostParams (place n) (now (sheet .entry)) (c .at)) first (now (ws .entry)) (begun nodes) (now (ws .exit)) r ⌝ }
 {
     let WordStep::Got(count, c1) = c.count(sheet, 64) else {
         return ListStep::Refused;
     };
-    let BuildStep::Got(built, next) = read_places(sheet, ws, b, c1, n, first, count) else {
+    let PlacesStep::Got(built, next) = read_places(sheet, ws, nodes, c1, n, first, count) else {
         return ListStep::Refused;
     };
     ListStep::Got(count, built, next)
 }
 
-pub fn read_tracked(sheet: &[u32], ws: &mut [u32], b: Building, c: Cursor, n: u32) -> TrackedStep
+pub fn read_tracked(sheet: &[u32], ws: &mut [u32], nodes: usize, c: Cursor, n: u32) -> TrackedStep
     requires { ⌜ n ≤ 512 ⌝ }
-    requires { ⌜ Sound (now ws) b ⌝ }
-    ensures { λ r. ⌜ ReadsTracked (now (sheet .entry)) (c .at) n (now (ws .entry)) b (now (ws .exit)) r ⌝ }
+    requires { ⌜ Sound (now ws) (begun nodes) ⌝ }
+    ensures { λ r. ⌜ ReadsTracked (now (sheet .entry)) (c .at) n (now (ws .entry)) (begun nodes) (now (ws .exit)) r ⌝ }
 {
-    let ListStep::Got(params, b1, c1) = read_list(sheet, ws, b, c, n, 0) else {
+    let ListStep::Got(params, n1, c1) = read_list(sheet, ws, nodes, c, n, 0) else {
         return TrackedStep::Refused;
     };
-    let ListStep::Got(context, b2, c2) = read_list(sheet, ws, b1, c1, n, params as usize) else {
+    let ListStep::Got(context, n2, c2) = read_list(sheet, ws, n1, c1, n, params as usize) else {
         return TrackedStep::Refused;
     };
     let WordStep::Got(_, c3) = c2.fixed(sheet, 1) else {
@@ -123,7 +127,7 @@ pub fn read_tracked(sheet: &[u32], ws: &mut [u32], b: Building, c: Cursor, n: u3
         return TrackedStep::Refused;
     };
     track(ws, (params + context) as usize, returns);
-    let b3 = b2.create(ws, returns.identifier, NodeValue::Object);
+    let n3 = building::create_first(ws, n2, returns.identifier);
     let t = Tracked {
         params,
         context,
@@ -131,7 +135,7 @@ pub fn read_tracked(sheet: &[u32], ws: &mut [u32], b: Building, c: Cursor, n: u3
         count,
         next: c5,
     };
-    TrackedStep::Got(t, b3)
+    TrackedStep::Got(t, n3)
 }
 
 // The sections before the blocks.
@@ -146,9 +150,9 @@ pub fn read_function(sheet: &[u32], ws: &mut [u32]) -> FunctionStep
     if 512 < top.n {
         return FunctionStep::Refused;
     }
-    let b = building::start(ws);
+    let none = building::start(ws);
     let next = top.next;
-    let TrackedStep::Got(t, built) = read_tracked(sheet, ws, b, next, top.n) else {
+    let TrackedStep::Got(t, nodes) = read_tracked(sheet, ws, none, next, top.n) else {
         return FunctionStep::Refused;
     };
     let identifiers = top.identifiers;
@@ -165,5 +169,5 @@ pub fn read_function(sheet: &[u32], ws: &mut [u32]) -> FunctionStep
         blocks,
         count: t.count,
     };
-    FunctionStep::Got(f, built)
+    FunctionStep::Got(f, building::begun(nodes))
 }

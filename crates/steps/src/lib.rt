@@ -148,7 +148,7 @@ pub fn run_steps(steps: &[u32], ws: &mut [u32]) -> Building
     requires { ⌜ LEAST ≤ length (now ws) ⌝ }
     ensures { λ r. ⌜ Goes (now (ws .entry)) (now (ws .exit)) r ⌝ }
 {
-    let mut b = building::start(ws);
+    let mut b = building::begun(building::start(ws));
     let mut i = 0;
     while 4 <= steps.len() - i {
         b = step(b, ws, steps[i], steps[i + 1], steps[i + 2], steps[i + 3]);

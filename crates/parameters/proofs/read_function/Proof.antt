@@ -18,8 +18,8 @@ same-length c = search needs
 
 returns : tie.Need-returns
 returns c =
-    let b4 = c .before .before .before .before in
-    no-top (b4 .read-top .ensures) (c .enum-told .given .1)
+    let b3 = c .before .before .before in
+    let b4 = b3 .before in no-top (b4 .read-top .ensures) (c .enum-told .given .1)
 
 same-length-2 : tie.Need-same-length-2
 same-length-2 c = search needs
@@ -35,7 +35,8 @@ start-requires c κs = search needs
 
 read-tracked-requires : tie.Need-read-tracked-requires
 read-tracked-requires c κs =
-    let b4 = c .before .before .before .before in
+    let b3 = c .before .before .before in
+    let b4 = b3 .before in
     let b6 = b4 .before .before in
     (b6 .if1 .left, b4 .start .ensures .sound)
 
@@ -50,27 +51,30 @@ same-length-3 c = search needs
 
 returns-3 : tie.Need-returns-3
 returns-3 c =
-    let b4 = c .before .before .before .before in
+    let b3 = c .before .before .before in
+    let b4 = b3 .before in
     let b9 = b4 .before .before .before .before .before in
     let b14 = b9 .before .before .before .before .before in
-    let b18 = b14 .before .before .before .before in
-    no-tracked (b18 .read-top .ensures) (b14 .top .given .1) (b9 .start .ensures) (b4 .read-tracked .ensures) (c .enum-told2 .given .1)
+    let b18 = b14 .before .before .before .before in no-tracked (b18 .read-top .ensures) (b14 .top .given .1) (b9 .start .ensures) (b4 .read-tracked .ensures) (c .enum-told2 .given .1)
+
+begun-requires : tie.Need-begun-requires
+begun-requires c κs = tt
 
 same-length-4 : tie.Need-same-length-4
 same-length-4 c =
-    let b8 = c .before .before .before .before .before .before .before .before in
-    let b13 = b8 .before .before .before .before .before in
-    let b22 = b13 .before .before .before .before .before .before .before .before .before in
-    b8 .read-tracked .kept .1 .0 ∙ b13 .start .kept .0 ∙ b22 .read-top .kept .1 .0
+    let b9 = c .before .before .before .before .before .before .before .before .before in
+    let b14 = b9 .before .before .before .before .before in
+    let b23 = b14 .before .before .before .before .before .before .before .before .before in
+    b9 .read-tracked .kept .1 .0 ∙ b14 .start .kept .0 ∙ b23 .read-top .kept .1 .0
 
 returns-4 : tie.Need-returns-4
 returns-4 c =
-    let b4 = c .before .before .before .before in
-    let b8 = b4 .before .before .before .before in
-    let b13 = b8 .before .before .before .before .before in
-    let b18 = b13 .before .before .before .before .before in
-    let b22 = b18 .before .before .before .before in
-    function-read (b22 .read-top .ensures) (b18 .top .given .1) (b13 .start .ensures) (b8 .read-tracked .ensures) (b4 .t .given .1)
+    let b5 = c .before .before .before .before .before in
+    let b9 = b5 .before .before .before .before in
+    let b14 = b9 .before .before .before .before .before in
+    let b19 = b14 .before .before .before .before .before in
+    let b23 = b19 .before .before .before .before in
+    function-read (b23 .read-top .ensures) (b19 .top .given .1) (b14 .start .ensures) (b9 .read-tracked .ensures) (b5 .t .given .1) (c .begun .ensures)
 
 pub read-function-spec : {M : Type 1} → statement M
 read-function-spec =
@@ -89,5 +93,6 @@ read-function-spec =
     enum-told-2
     same-length-3
     returns-3
+    begun-requires
     same-length-4
     returns-4)
