@@ -286,7 +286,7 @@ impl Building {
     }
 }
 
-// The start of building: no identifier has a node. Returned is what those with a node are below, never less than 15: where fewer than 64 bytes of bounds are cleared, that is by a store from which no load is served, and the first one waits.
+// The start of building: no identifier has a node. Returned is what those with a node are below. Never less than 15: fewer than 64 bytes of bounds may be cleared by a masked store, and no load is served from one before it is done.
 pub fn start(ws: &mut [u32]) -> usize
     requires { ⌜ LEAST ≤ length (now ws) ⌝ }
     ensures { λ r. ⌜ Starts (now (ws .entry)) (now (ws .exit)) (begun r) ⌝ }
