@@ -13,12 +13,11 @@ use Rattle.model.specs.Lists.{each, among}
 use Rattle.model.specs.Sheet.{Place, Effect, EffectList, Operand, Phi, Instruction, Terminal, Other, Return, MaybeThrow, Block, BlockId, EvaluationOrder}
 use Rattle.model.specs.Reading.{Position, Result, got, refused, Read, andThen, _>>=_, pure, refuse, count, atMost, times, numbered, counted}
 use Rattle.model.specs.Sections.{place, effect, effects, operand, phi, instruction, terminalOf, terminal, block}
-use Rattle.model.specs.Totals.{Totals}
 use Rattle.hir.specs.Runs.{noEffect, Run}
 use Rattle.hir.proofs.WordLaws.{and-left, and-right}
 use Rattle.hir.proofs.RunLaws.{run-leaves, emptyFrom, empty-got}
 use Rattle.blocks.specs.Empty.{emptyFits}
-use Rattle.blocks.specs.Judging.{judge, withRelation, tellEffect, tellOperand, tellPhi, tellInstruction, tellTerminal, tellBlock, blocksOf}
+use Rattle.blocks.specs.Judging.{Told, judge, withRelation, tellEffect, tellOperand, tellPhi, tellInstruction, tellTerminal, tellBlock, blocksOf}
 use Rattle.blocks.proofs.JudgeLaws.{judge-got, judge-refused, got-judged, refused-judged, then-got, then-refused, then-made, times-next}
 
 -- a search: what is found or stands from here on, one number later
@@ -29,7 +28,7 @@ listed-next x l i found h = rw (drop-cons l i 0 h, add-one, or-comm (eqb x (getD
 pub listed-end : (x : ℕ) (l : List ℕ) (i : ℕ) (found : Bool) → i ≡ length l → found || among x (drop i l) ≡ found
 listed-end x l i found e = rw (e, drop-length l, or-false found)
 
-module _ (n : ℕ) (t : Totals) (ws : List ℕ) (c : Position) where
+module _ (n : ℕ) (t : Told) (ws : List ℕ) (c : Position) where
   pub operand-got : (x : BlockId) (p : Place) (d : Position) → place n ws c ≡ got p d → judge (operand n x) tellOperand t ws c ≡ got (withRelation t) d
   unfolding operand judge
   operand-got x p d e = rw e
@@ -55,13 +54,13 @@ module _ (n : ℕ) (t : Totals) (ws : List ℕ) (c : Position) where
   phi-count-refused p d k x y = then-got (place n) _ tellPhi t ws c p d x ∙ then-refused (count mostCount) _ tellPhi t ws d k y
 
 -- a block's totals: those of its phis, then of its instructions, then of its terminal
-block-told : (n m : ℕ) (x : BlockId) (t u v : Totals) (ws : List ℕ) (c : Position) (ps : List Phi) (is : List Instruction) → each tellPhi ps t ≡ u →
+block-told : (n m : ℕ) (x : BlockId) (t u v : Told) (ws : List ℕ) (c : Position) (ps : List Phi) (is : List Instruction) → each tellPhi ps t ≡ u →
     each tellInstruction is u ≡ v →
     judge (terminal n m) (λ (z : Terminal). tellBlock (record { number = x; phis = ps; instructions = is; terminal = z })) t ws c ≡ judge (terminal n m) tellTerminal v ws c
 unfolding judge tellBlock
 block-told n m x t u v ws c ps is g k = rw (g, k)
 
-module _ (n m : ℕ) (t : Totals) (ws : List ℕ) (c : Position) where
+module _ (n m : ℕ) (t : Told) (ws : List ℕ) (c : Position) where
   pub instruction-got : (o : EvaluationOrder) (d : Position) → atMost mostOrder ws c ≡ got o d →
       judge (instruction n m) tellInstruction t ws c ≡ judge (effects n m) (each (tellEffect false)) t ws d
   unfolding instruction
@@ -107,7 +106,7 @@ module _ (n m : ℕ) (t : Totals) (ws : List ℕ) (c : Position) where
   unfolding terminalOf judge
   throw-got o = then-made (effects n m) (λ (l : EffectList). MaybeThrow o l) tellTerminal t ws c
 
-  pub block-got : (x : BlockId) (u v : Totals) (d e : Position) → judge (counted mostCount (phi n)) (each tellPhi) t ws c ≡ got u d →
+  pub block-got : (x : BlockId) (u v : Told) (d e : Position) → judge (counted mostCount (phi n)) (each tellPhi) t ws c ≡ got u d →
       judge (counted mostCount (instruction n m)) (each tellInstruction) u ws d ≡ got v e →
       judge (block n m x) tellBlock t ws c ≡ judge (terminal n m) tellTerminal v ws e
   unfolding block
@@ -123,7 +122,7 @@ module _ (n m : ℕ) (t : Totals) (ws : List ℕ) (c : Position) where
   unfolding block
   block-phis-refused x r p = then-refused (counted mostCount (phi n)) _ tellBlock t ws c r (refused-judged (counted mostCount (phi n)) (each tellPhi) t ws c r p)
 
-  pub block-instructions-refused : (x : BlockId) (u : Totals) (d : Position) (r : ℕ) → judge (counted mostCount (phi n)) (each tellPhi) t ws c ≡ got u d →
+  pub block-instructions-refused : (x : BlockId) (u : Told) (d : Position) (r : ℕ) → judge (counted mostCount (phi n)) (each tellPhi) t ws c ≡ got u d →
       judge (counted mostCount (instruction n m)) (each tellInstruction) u ws d ≡ refused r → judge (block n m x) tellBlock t ws c ≡ refused r
   unfolding block
   block-instructions-refused x u d r p q =
@@ -142,7 +141,7 @@ module _ (n m : ℕ) (t : Totals) (ws : List ℕ) (c : Position) where
   blocks-refused r x = then-refused (count mostBlocks) (λ (k : ℕ). numbered k [] (block n m)) (each tellBlock) t ws c r x
 
 -- a run of instructions without effects: they are read, and nothing is told
-pub empty-run : (n m : ℕ) (t : Totals) (ws : List ℕ) (r left : ℕ) (c : Position) → Run emptyFits ws c left r →
+pub empty-run : (n m : ℕ) (t : Told) (ws : List ℕ) (r left : ℕ) (c : Position) → Run emptyFits ws c left r →
     judge (times left (instruction n m)) (each tellInstruction) t ws c ≡ judge (times (left - r) (instruction n m)) (each tellInstruction) t ws (c + 2 * r)
 empty-run n m t ws r left c x =
     run-leaves emptyFits ws

@@ -9,10 +9,9 @@ use Rattle.model.specs.Sheet.{EffectKind, Freeze, Mutate, MutateConditionally, 
 use Rattle.model.specs.Effects.{kinds, kindOf, rowOf}
 use Rattle.model.specs.Reading.{Position, Result, got, refused, andThen}
 use Rattle.model.specs.Sections.{effect}
-use Rattle.model.specs.Totals.{Totals}
 use Rattle.effects.specs.Fits.{effectKind}
 use Rattle.effects.proofs.LimitTable.{None, none-below}
-use Rattle.blocks.specs.Judging.{mapResult, judge, tellKind, tellEffect}
+use Rattle.blocks.specs.Judging.{Told, mapResult, judge, tellKind, tellEffect}
 
 -- a number above 17 has the first kind, as in the definitions
 pub kind-beyond : (number : ℕ) → None number 18 → Freeze ≡ kindOf number
@@ -41,7 +40,7 @@ kind-back MutateGlobal = refl
 kind-back Impure = refl
 kind-back Render = refl
 
-module _ (n m : ℕ) (terminal : Bool) (t : Totals) (ws : List ℕ) (c : Position) where
+module _ (n m : ℕ) (terminal : Bool) (t : Told) (ws : List ℕ) (c : Position) where
   pub kind-judged : (number : ℕ) (d : Position) → effectKind n m ws c ≡ got number d
       → judge (effect n m) (tellEffect terminal) t ws c ≡ got (tellKind terminal (kindOf number) t) d
   unfolding judge effectKind

@@ -1,5 +1,5 @@
 -- Reading that keeps no tree: what was read is told to running totals as it comes, and only they go on.
--- Refusal 8 asks whether a total is over its limit, so a total stops one above it.
+-- Refusal 8 asks whether a total is over its limit, so a total stops one above it; of diagnoses it is told only whether there is one.
 use Prim.Native.Nat.{ℕ, _+_}
 use mathlib.Core.Bool.{Bool, true, false}
 use mathlib.Core.List.{List, []}
@@ -10,7 +10,6 @@ use Rattle.model.specs.Effects.{Role, relation, mutation, render, diagnosis, no
 use Rattle.model.specs.Reading.{Position, Result, got, refused, Read, andThen, _>>=_, count, numbered}
 use Rattle.model.specs.Limits.{mostBlocks}
 use Rattle.model.specs.Sections.{block}
-use Rattle.model.specs.Totals.{Totals}
 
 module _ {A B : Type 0} where
   -- the same position or refusal, with another value
@@ -38,59 +37,70 @@ mutationStop = 513
 abbrev pub renderStop : ℕ
 renderStop = 257
 
+-- the three totals, and 1 if an instruction has an effect of kind 14 to 16
+pub record Told : Type 0 where
+  pub relations : ℕ
+  pub mutations : ℕ
+  pub renders : ℕ
+  pub diagnoses : ℕ
+
 -- one more relation effect
-unfoldable pub withRelation : Totals → Totals
-withRelation t = record { relations = bump relationStop (t .relations); mutations = t .mutations; renders = t .renders }
+unfoldable pub withRelation : Told → Told
+withRelation t = record { relations = bump relationStop (t .relations); mutations = t .mutations; renders = t .renders; diagnoses = t .diagnoses }
 
 -- one more mutation
-unfoldable pub withMutation : Totals → Totals
-withMutation t = record { relations = t .relations; mutations = bump mutationStop (t .mutations); renders = t .renders }
+unfoldable pub withMutation : Told → Told
+withMutation t = record { relations = t .relations; mutations = bump mutationStop (t .mutations); renders = t .renders; diagnoses = t .diagnoses }
 
 -- one more render
-unfoldable pub withRender : Totals → Totals
-withRender t = record { relations = t .relations; mutations = t .mutations; renders = bump renderStop (t .renders) }
+unfoldable pub withRender : Told → Told
+withRender t = record { relations = t .relations; mutations = t .mutations; renders = bump renderStop (t .renders); diagnoses = t .diagnoses }
+
+-- there is a diagnosis
+unfoldable pub withDiagnosis : Told → Told
+withDiagnosis t = record { relations = t .relations; mutations = t .mutations; renders = t .renders; diagnoses = 1 }
 
 -- an effect of an instruction, by what it is for
-abbrev pub tellRole : Role → Totals → Totals
+abbrev pub tellRole : Role → Told → Told
 tellRole relation t = withRelation t
 tellRole mutation t = withMutation t
 tellRole render t = withRender t
-tellRole diagnosis t = t
+tellRole diagnosis t = withDiagnosis t
 tellRole nothing t = t
 
 -- an effect of a terminal counts if it is an alias
-unfoldable pub tellKind : Bool → EffectKind → Totals → Totals
+unfoldable pub tellKind : Bool → EffectKind → Told → Told
 tellKind terminal k t = pick terminal (pick (isAlias k) (withRelation t) t) (tellRole (rowOf k .role) t)
 
 -- an effect, by its kind
-abbrev pub tellEffect : Bool → Effect → Totals → Totals
+abbrev pub tellEffect : Bool → Effect → Told → Told
 tellEffect terminal e t = tellKind terminal (e .kind) t
 
 -- a phi operand is a relation effect
-abbrev pub tellOperand : Operand → Totals → Totals
+abbrev pub tellOperand : Operand → Told → Told
 tellOperand o t = withRelation t
 
 -- a phi: its operands
-abbrev pub tellPhi : Phi → Totals → Totals
+abbrev pub tellPhi : Phi → Told → Told
 tellPhi p t = each tellOperand (p .operands) t
 
 -- an instruction: its effects
-abbrev pub tellInstruction : Instruction → Totals → Totals
+abbrev pub tellInstruction : Instruction → Told → Told
 tellInstruction i t = each (tellEffect false) (i .effects) t
 
 -- a terminal: the Return value is a relation effect, then its effects
-abbrev pub tellTerminal : Terminal → Totals → Totals
+abbrev pub tellTerminal : Terminal → Told → Told
 tellTerminal (Other o) t = t
 tellTerminal (Return o p l) t = each (tellEffect true) l (withRelation t)
 tellTerminal (MaybeThrow o l) t = each (tellEffect true) l t
 
 -- a block: phis, instructions, terminal
-unfoldable pub tellBlock : Block → Totals → Totals
+unfoldable pub tellBlock : Block → Told → Told
 tellBlock b t = tellTerminal (b .terminal) (each tellInstruction (b .instructions) (each tellPhi (b .phis) t))
 
 -- before the first block
-abbrev pub noTotals : Totals
-noTotals = record { relations = 0; mutations = 0; renders = 0 }
+abbrev pub noTotals : Told
+noTotals = record { relations = 0; mutations = 0; renders = 0; diagnoses = 0 }
 
 -- "Blocks, at most 256"
 unfoldable pub blocksOf : ℕ → ℕ → Read (List Block)

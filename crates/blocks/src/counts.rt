@@ -3,7 +3,7 @@ ghost use mathlib.Core.Path.{_≡_};
 ghost use mathlib.Core.Bool.{Bool};
 ghost use Rattle.model.specs.Effects.{kindOf};
 ghost use Rattle.hir.specs.Numbers.{kindSays};
-ghost use Rattle.blocks.specs.Judging.{bump, withRelation, withMutation, withRender, tellKind};
+ghost use Rattle.blocks.specs.Judging.{bump, withRelation, withMutation, withRender, withDiagnosis, tellKind};
 ghost use Rattle.blocks.specs.Says.{totalsAre};
 use crate::Totals;
 use effects::Role;
@@ -50,25 +50,60 @@ impl Totals {
     pub fn relation(self) -> Totals
         ensures { λ r. ⌜ totalsAre r ≡ withRelation (totalsAre self) ⌝ }
     {
-        let mut t = self;
-        t.relations = bump(self.relations, 1025);
-        t
+        let mutations = self.mutations;
+        let renders = self.renders;
+        let diagnoses = self.diagnoses;
+        let relations = bump(self.relations, 1025);
+        Totals {
+            relations,
+            mutations,
+            renders,
+            diagnoses,
+        }
     }
 
     pub fn mutation(self) -> Totals
         ensures { λ r. ⌜ totalsAre r ≡ withMutation (totalsAre self) ⌝ }
     {
-        let mut t = self;
-        t.mutations = bump(self.mutations, 513);
-        t
+        let relations = self.relations;
+        let renders = self.renders;
+        let diagnoses = self.diagnoses;
+        let mutations = bump(self.mutations, 513);
+        Totals {
+            relations,
+            mutations,
+            renders,
+            diagnoses,
+        }
     }
 
     pub fn render(self) -> Totals
         ensures { λ r. ⌜ totalsAre r ≡ withRender (totalsAre self) ⌝ }
     {
-        let mut t = self;
-        t.renders = bump(self.renders, 257);
-        t
+        let relations = self.relations;
+        let mutations = self.mutations;
+        let diagnoses = self.diagnoses;
+        let renders = bump(self.renders, 257);
+        Totals {
+            relations,
+            mutations,
+            renders,
+            diagnoses,
+        }
+    }
+
+    pub fn diagnosis(self) -> Totals
+        ensures { λ r. ⌜ totalsAre r ≡ withDiagnosis (totalsAre self) ⌝ }
+    {
+        let relations = self.relations;
+        let mutations = self.mutations;
+        let renders = self.renders;
+        Totals {
+            relations,
+            mutations,
+            renders,
+            diagnoses: 1,
+        }
     }
 
     // An effect of this kind, of an instruction or of a terminal.
@@ -86,7 +121,7 @@ impl Totals {
             Role::Relation => self.relation(),
             Role::Mutation => self.mutation(),
             Role::Render => self.render(),
-            Role::Diagnosis => self,
+            Role::Diagnosis => self.diagnosis(),
             Role::Nothing => self,
         }
     }

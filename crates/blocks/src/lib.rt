@@ -18,11 +18,12 @@ mod counts;
 mod phis;
 mod runs;
 
-// The relation effects, mutations and renders so far, each no higher than one above its limit.
+// The relation effects, mutations and renders so far, each no higher than one above its limit; and 1 if an instruction had a diagnosis.
 pub struct Totals {
     pub relations: u32,
     pub mutations: u32,
     pub renders: u32,
+    pub diagnoses: u32,
 }
 
 // The totals and the position after a part of the sheet, or a refusal.
@@ -180,6 +181,7 @@ pub fn blocks(start: Cursor, s: &[u32], n: u32, m: u32) -> TotalsStep
         relations: 0,
         mutations: 0,
         renders: 0,
+        diagnoses: 0,
     };
     let mut used = [0u16; 256];
     let mut free: usize = 256;

@@ -1,24 +1,27 @@
 -- The section of diagnostics from its parts.
 use Prim.Native.Nat.{ℕ, _+_, _-_, _≤_}
 use native.Mathlib.Omega.{arith}
-use mathlib.Core.Path.{_≡_, sym, ap, subst, _∙_}
-use mathlib.Core.Bool.{Bool, true, false}
-use mathlib.Core.List.{List, [], _∷_, _++_}
+use mathlib.Core.Path.{_≡_, refl, sym, ap, subst, _∙_}
+use mathlib.Core.Bool.{Bool, true, false, _||_, _&&_}
+use mathlib.Core.List.{List, [], _∷_, _++_, map, cons≢nil}
 use lib.ListN.{length, set}
 use lib.Seq.{slice}
-use Rattle.model.specs.Lists.{gather, listIf}
-use Rattle.model.specs.Sheet.{Diagnostic, InnerFunction, Sheet}
+use Rattle.model.specs.Lists.{keep, consIf, gather, listIf}
+use Rattle.model.specs.Sheet.{Effect, Diagnostic, InnerFunction, Sheet}
+use Rattle.model.specs.Effects.{rowOf, isRender, isDiagnosis, diagnosticOf}
 use Rattle.model.specs.Reading.{Position, numbered}
 use Rattle.model.specs.Sections.{block}
+use Rattle.model.specs.Totals.{instructionEffects}
 use Rattle.model.specs.Mutation.{RenderOf}
 use Rattle.model.specs.State.{State}
 use Rattle.model.specs.Runs.{rendered}
 use Rattle.model.specs.Building.{build}
-use Rattle.model.specs.Summary.{errors, recorded, afterReal, afterRenders}
+use Rattle.model.specs.Summary.{errors, copied, recorded, afterReal, afterRenders}
 use Rattle.model.specs.Simulated.{simulate}
 use Rattle.model.specs.Answer.{functionErrors, diagnosticWords, section, diagnosed}
 use Rattle.model.proofs.Quiet.{quiet}
 use Rattle.model.proofs.Rendering.{rendered-handed}
+use Rattle.hir.proofs.WordLaws.{and-left}
 use Rattle.rows.specs.Layout.{HANDED}
 use Rattle.rows.specs.Pending.{rendersOf}
 use Rattle.aliasing.specs.State.{stateOf}
@@ -32,24 +35,50 @@ use Rattle.copies.specs.declared.effect_lists.Section.the-variants.{Diagnostics
 use Rattle.copies.proofs.Gathers.{gather-append}
 use Rattle.copies.proofs.Sections.{recorded-words, recorded-none, section-patched, diagnostics-count}
 use Rattle.function.specs.declared.HirFunction.{HirFunction}
-use Rattle.function.specs.Function.{Describes, Stands}
+use Rattle.function.specs.Function.{Describes, Stands, NoneUnless}
 use Rattle.diagnostics.specs.Diagnosed.{RendersPut, RecordedPut, DiagnosticsPut}
 use Rattle.diagnostics.proofs.Rendering.{unmoved-none, handed-words, rendered-words}
 
 -- ---- those recorded while building
-module _ (sheet : List ℕ) (f : HirFunction) (a : List ℕ) (at : ℕ) where
-  pub recorded-put : f .errors ≡ true → {a′ : List ℕ} {at′ : ℕ} {next : Position}
+module _ {A : Type 0} (p q : A → Bool) where
+  keep-less : (l : List A) → keep (λ (a : A). p a || q a) l ≡ [] → keep p l ≡ []
+  keep-less [] e = e
+  keep-less (a ∷ l) e = go (p a) (q a) (keep-less l) e
+    where
+      go : (b c : Bool) {r k : List A} → (r ≡ [] → k ≡ []) → consIf (b || c) a r ≡ [] → consIf b a k ≡ []
+      go true c h e = absurd (cons≢nil e)
+      go false true h e = absurd (cons≢nil e)
+      go false false h e = h e
+
+-- what is recorded is copied too
+copied-recorded : (s : Sheet) → copied s ≡ [] → recorded s ≡ []
+unfolding copied recorded
+copied-recorded s e =
+    ap (λ (l : List Effect). listIf (errors s) (map diagnosticOf l)) (keep-less (λ (e : Effect). isDiagnosis (rowOf (e .kind) .role)) (λ (e : Effect). isRender (rowOf (e .kind) .role)) (instructionEffects s) e)
+    ∙ none (errors s)
+  where
+    none : (b : Bool) → listIf {A = Diagnostic} b [] ≡ []
+    none true = refl
+    none false = refl
+
+module _ (sheet : List ℕ) (f : HirFunction) (copies : Bool) (a : List ℕ) (at : ℕ) where
+  pub recorded-put : f .errors && copies ≡ true → {a′ : List ℕ} {at′ : ℕ} {next : Position}
       → Copies (numbered (f .count) [] (block (f .n) (f .m)) sheet (f .blocks .at)) (gather (blockWords Diagnostics)) 2147483648 a at a′ at′ next → RecordedPut sheet f a at a′ at′
   recorded-put e p = record {
-    wrote = λ s d. wrote-as (p .wrote (s .blocks) (d .blocks .0) (d .blocks .1)) (recorded-words s (sym (d .errors) ∙ e));
+    wrote = λ s d. wrote-as (p .wrote (s .blocks) (d .blocks .0) (d .blocks .1)) (recorded-words s (sym (d .errors) ∙ and-left (f .errors) copies e));
     few = p .few;
   }
 
-  pub recorded-not : f .errors ≡ false → RecordedPut sheet f a at a at
-  recorded-not e = record {
-    wrote = λ s d. wrote-as (wrote-none a at) (ap (gather diagnosticWords) (sym (recorded-none s (sym (d .errors) ∙ e))));
+  pub recorded-not : f .errors && copies ≡ false → NoneUnless copies (λ (s : Sheet). Describes s sheet f) → RecordedPut sheet f a at a at
+  recorded-not e h = record {
+    wrote = λ s d. wrote-as (wrote-none a at) (ap (gather diagnosticWords) (sym (go (f .errors) copies e (λ g. recorded-none s (sym (d .errors) ∙ g)) (λ g. copied-recorded s (h g s d)))));
     few = omega arith;
   }
+    where
+      go : (b c : Bool) {l : List Diagnostic} → b && c ≡ false → (b ≡ false → l ≡ []) → (c ≡ false → l ≡ []) → l ≡ []
+      go b false e g h = h refl
+      go false true e g h = g refl
+      go true true e g h = g e
 
 -- ---- those handed over
 -- what renders hand over comes after what was handed over before, and is the same as on the bare state

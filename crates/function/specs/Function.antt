@@ -1,12 +1,13 @@
 -- The function of a sheet as the call keeps it, and what of the sheet stands in the workspace.
 use Prim.Native.Nat.{ℕ, _+_, _≤_, _<_}
 use mathlib.Core.Path.{_≡_}
+use mathlib.Core.Bool.{Bool, false}
 use mathlib.Core.List.{List, [], _∷_, _++_}
 use lib.ListN.{length}
 use Rattle.model.specs.Sheet.{Sheet}
 use Rattle.model.specs.Reading.{Position, Result, got, times, numbered}
 use Rattle.model.specs.Sections.{identifier, block}
-use Rattle.model.specs.Summary.{errors}
+use Rattle.model.specs.Summary.{errors, copied}
 use Rattle.hir.specs.Says.{placeIs}
 use Rattle.rows.specs.Layout.{LEAST}
 use Rattle.copies.specs.Functions.{Functions}
@@ -38,3 +39,7 @@ pub record Stands (s : Sheet) (sheet ws : List ℕ) : Type 0 where
   pub size : LEAST ≤ length ws
   pub functions : Functions sheet ws (s .functions)
   pub tracked : trackedOf ws (length (s .params) + length (s .context) + 1) ≡ s .params ++ (s .context ++ (s .returns ∷ []))
+
+-- unless `copies`, a sheet with this property has no effect to copy
+abbrev pub NoneUnless : Bool → (Sheet → Type 0) → Type 0
+NoneUnless copies P = copies ≡ false → (s : Sheet) → P s → copied s ≡ []

@@ -1,7 +1,8 @@
 -- The call by its verdict: refusal 1, a refusal of the reading, or the answer of the sheet.
 use Prim.Native.Nat.{ℕ, _≤_, _<_}
 use mathlib.Core.Path.{_≡_, refl, sym, subst, ap, _∙_}
-use mathlib.Core.Bool.{Bool, true, false, false≢true}
+use native.Mathlib.Omega.{arith}
+use mathlib.Core.Bool.{Bool, true, false, false≢true, _||_}
 use mathlib.Core.List.{List}
 use lib.ListN.{length}
 use lib.Dec.{ltb}
@@ -11,13 +12,17 @@ use Rattle.model.specs.Lists.{pick}
 use Rattle.model.specs.Sheet.{Sheet}
 use Rattle.model.specs.Reading.{Position, Result, got, refused}
 use Rattle.model.specs.Sections.{sheet as sheetReader}
-use Rattle.model.specs.Totals.{Totals, judged}
+use Rattle.model.specs.Totals.{judged}
 use Rattle.model.specs.Answer.{answer, answerWords}
 use Rattle.model.specs.Call.{Outcome as TheOutcome, refusal, ended, read, IsSheet, fits, answered, outcome}
 use Rattle.model.proofs.ReadLaws.{isGot}
+use Rattle.model.proofs.Either.{or-left, or-right}
+use Rattle.blocks.specs.Judging.{Told}
 use Rattle.reading.specs.Whole.{Judgement, acceptance, judgementOf}
 use Rattle.reading.specs.Whole.{refusal as noSheet}
 use Rattle.reading.proofs.Accepted.{accepted-sheet, refused-sheet}
+use Rattle.reading.proofs.CopiedLaws.{accepted-copies}
+use Rattle.function.specs.Function.{NoneUnless}
 use Rattle.inference.specs.declared.Outcome.{Outcome}
 use Rattle.inference.specs.Outcome.{Came, Inferred}
 use Rattle.inference.proofs.Ending.{came-as}
@@ -32,8 +37,15 @@ short-sheet sheet s h = go (ltb mostSheet (length sheet)) refl (h .1)
     go false e f = ltb-false mostSheet (length sheet) e
 
 -- the sheet behind an acceptance
-pub accepted-is : (sheet : List ℕ) {t : Totals} → judgementOf (read sheet) ≡ acceptance t → (s : Sheet) × IsSheet sheet s
+pub accepted-is : (sheet : List ℕ) {t : Told} → judgementOf (read sheet) ≡ acceptance t → (s : Sheet) × IsSheet sheet s
 accepted-is sheet {t} e = let a = accepted-sheet sheet t e in (a .sheet, a .is)
+
+-- where neither a diagnosis nor a render was told it has no effect to copy
+pub accepted-none : (sheet : List ℕ) {t : Told} → judgementOf (read sheet) ≡ acceptance t → NoneUnless (ltb 0 (t .diagnoses) || ltb 0 (t .renders)) (IsSheet sheet)
+accepted-none sheet {t} e h =
+    let d : t .diagnoses ≤ 0 = ltb-false 0 (t .diagnoses) (or-left (ltb 0 (t .diagnoses)) (ltb 0 (t .renders)) h) in
+    let r : t .renders ≤ 0 = ltb-false 0 (t .renders) (or-right (ltb 0 (t .diagnoses)) (ltb 0 (t .renders)) h) in
+    accepted-copies sheet t e (omega (arith, d)) (omega (arith, r))
 
 pub refused-is : (sheet : List ℕ) {k : ℕ} → judgementOf (read sheet) ≡ noSheet k → read sheet ≡ refused k
 refused-is sheet {k} e = refused-sheet sheet k e

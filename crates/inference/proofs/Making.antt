@@ -2,18 +2,20 @@
 use Prim.Native.Nat.{ℕ, _≤_, _<_}
 use native.Mathlib.Omega.{arith}
 use mathlib.Core.Path.{_≡_, sym, subst, ap, _∙_}
-use mathlib.Core.Bool.{false}
+use mathlib.Core.Bool.{Bool, false}
 use mathlib.Core.List.{List, [], map}
 use lib.ListN.{length, take}
 use lib.Seq.{sets}
 use Rattle.model.specs.Lists.{each}
 use Rattle.model.specs.Sheet.{Identifier, Place, Sheet}
-use Rattle.model.specs.Totals.{totals, over}
+use Rattle.model.specs.Totals.{instructionEffects, totals, over}
 use Rattle.model.specs.Reading.{Position, Result, got, numbered}
 use Rattle.model.specs.Sections.{block}
 use Rattle.model.specs.Sections.{sheet as sheetReader}
 use Rattle.model.specs.Building.{block as blockStep}
+use Rattle.model.specs.Summary.{copied}
 use Rattle.model.specs.Call.{IsSheet}
+use Rattle.model.proofs.Got.{got-value}
 use Rattle.model.proofs.WhenRead.{read-got}
 use Rattle.hir.specs.Says.{placeIs}
 use Rattle.rows.specs.Layout.{LEAST, RECORD, END, SEEN}
@@ -29,7 +31,7 @@ use Rattle.dataflow.specs.Whole.{Whole, WholeAt}
 use Rattle.dataflow.proofs.Sheet.{blocks-ready, blocks-whole}
 use Rattle.hir.specs.declared.Cursor.{Cursor}
 use Rattle.function.specs.declared.HirFunction.{HirFunction}
-use Rattle.function.specs.Function.{Limited, Describes, Stands}
+use Rattle.function.specs.Function.{Limited, Describes, Stands, NoneUnless}
 use Rattle.parameters.specs.declared.FunctionStep.{FunctionStep}
 use Rattle.parameters.specs.declared.FunctionStep.the-variants.{Got, Refused}
 use Rattle.parameters.specs.Function.{FunctionRead, functionIs, ReadsFunction}
@@ -109,3 +111,9 @@ module _ {sheet ws ws₁ : List ℕ} {x : FunctionStep} (h : Prepares sheet ws w
 
   pub no-answer : x ≡ Refused → ((s : Sheet) × IsSheet sheet s) → {ans : List ℕ} {r : Outcome} {ws′ ans′ : List ℕ} → Answers sheet ws ans r ws′ ans′
   no-answer q p = absurd (subst (preparedIs (p .0) sheet ws₁) q (h .built (p .0) (p .1)))
+
+-- the blocks of the function are those of the accepted sheet
+pub described-none : {sheet ws : List ℕ} {f : HirFunction} {b : Building} {copies : Bool} (s₀ : Sheet) → IsSheet sheet s₀ → Prepared s₀ sheet ws f b → NoneUnless copies (IsSheet sheet)
+    → NoneUnless copies (λ (s : Sheet). Describes s sheet f)
+unfolding copied instructionEffects
+described-none s₀ is p h e s d = let q : s .blocks ≡ s₀ .blocks = got-value (sym (d .blocks .1) ∙ p .describes .blocks .1) in rw q (h e s₀ is)

@@ -4,3 +4,4 @@ pub mod WholeLaws
 pub mod TotalsLaws
 pub mod VerdictLaws
 pub mod Accepted
+pub mod CopiedLaws

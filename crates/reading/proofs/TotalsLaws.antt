@@ -1,4 +1,4 @@
--- The running totals are document 01's totals, each stopped one above its limit; so refusal 8 is the same for both, and without it both are one.
+-- The running totals are document 01's totals, each stopped one above its limit, and the count of diagnoses, stopped at 1; so refusal 8 is the same for both, and without it both are one.
 use Prim.Native.Nat.{ℕ, zero, suc, _+_, _≤_, _<_}
 use native.Mathlib.Omega.{arith}
 use mathlib.Core.Path.{_≡_, _∙_, refl, sym, ap}
@@ -10,19 +10,19 @@ use borrow.Author.Tests.{ltb-true, ltb-false, lt-ltb, le-ltb}
 use Rattle.model.specs.Limits.{mostRelations, mostMutations, mostRenders}
 use Rattle.model.specs.Lists.{pick, each, tally, oneIf}
 use Rattle.model.specs.Sheet.{Effect, EffectList, Operand, Phi, Instruction, Terminal, Other, Return, MaybeThrow, Block, Sheet}
-use Rattle.model.specs.Effects.{Role, relation, mutation, render, diagnosis, nothing, rowOf, isAlias, isRelation, isMutation, isRender}
-use Rattle.model.specs.Totals.{withRole, aliasesIn, terminalRelations, blockRelations, Totals, totals, over}
+use Rattle.model.specs.Effects.{Role, relation, mutation, render, diagnosis, nothing, rowOf, isAlias, isRelation, isMutation, isRender, isDiagnosis}
+use Rattle.model.specs.Totals.{withRole, aliasesIn, terminalRelations, blockRelations, totals, over}
 use Rattle.model.proofs.WhenRead.{not-over}
-use Rattle.blocks.specs.Judging.{bump, relationStop, mutationStop, renderStop, withRelation, withMutation, withRender, tellRole, tellKind, tellEffect, tellOperand, tellPhi, tellInstruction, tellTerminal, tellBlock, noTotals}
-use Rattle.reading.specs.Whole.{tellSheet}
+use Rattle.blocks.specs.Judging.{bump, relationStop, mutationStop, renderStop, Told, withRelation, withMutation, withRender, withDiagnosis, tellRole, tellKind, tellEffect, tellOperand, tellPhi, tellInstruction, tellTerminal, tellBlock, noTotals}
+use Rattle.reading.specs.Whole.{tellSheet, totalsOf, diagnoses, told}
 
 -- a number, stopped
 unfoldable upTo : ℕ → ℕ → ℕ
 upTo stop n = pick (ltb n stop) n stop
 
--- totals, each stopped one above its limit
-unfoldable capped : Totals → Totals
-capped t = record { relations = upTo relationStop (t .relations); mutations = upTo mutationStop (t .mutations); renders = upTo renderStop (t .renders) }
+-- totals, each stopped one above its limit, and diagnoses at 1
+unfoldable capped : Told → Told
+capped t = record { relations = upTo relationStop (t .relations); mutations = upTo mutationStop (t .mutations); renders = upTo renderStop (t .renders); diagnoses = upTo 1 (t .diagnoses) }
 
 up-below : (stop n : ℕ) → n < stop → upTo stop n ≡ n
 unfolding upTo
@@ -49,65 +49,81 @@ bump-up stop n = go (ltb n stop) refl
         rw (up-above stop n h, up-above stop (1 + n) (omega arith), le-ltb stop stop (omega arith))
 
 -- totals are added part by part
-unfoldable add : Totals → Totals → Totals
-add a b = record { relations = a .relations + b .relations; mutations = a .mutations + b .mutations; renders = a .renders + b .renders }
+unfoldable add : Told → Told → Told
+add a b = record { relations = a .relations + b .relations; mutations = a .mutations + b .mutations; renders = a .renders + b .renders; diagnoses = a .diagnoses + b .diagnoses }
+
+abbrev four : ℕ → ℕ → ℕ → ℕ → Told
+four r m d g = record { relations = r; mutations = m; renders = d; diagnoses = g }
+
+-- so many relation effects
+abbrev related : ℕ → Told
+related k = four k 0 0 0
 
 -- equal part by part
-same-totals : (a b : Totals) → a .relations ≡ b .relations → a .mutations ≡ b .mutations → a .renders ≡ b .renders → a ≡ b
-same-totals a b p q r = let z : _≡_ {A = Totals} (record { relations = a .relations; mutations = a .mutations; renders = a .renders }) (record { relations = b .relations; mutations = b .mutations; renders = b .renders }) = rw (p, q, r) in z
+same-totals : (a b : Told) → a .relations ≡ b .relations → a .mutations ≡ b .mutations → a .renders ≡ b .renders → a .diagnoses ≡ b .diagnoses → a ≡ b
+same-totals a b p q r d = let z : four (a .relations) (a .mutations) (a .renders) (a .diagnoses) ≡ four (b .relations) (b .mutations) (b .renders) (b .diagnoses) = rw (p, q, r, d) in z
 
-abbrev three : ℕ → ℕ → ℕ → Totals
-three r m d = record { relations = r; mutations = m; renders = d }
+same-capped : (a b : Told) → (a .relations ≡ b .relations) × ((a .mutations ≡ b .mutations) × ((a .renders ≡ b .renders) × (a .diagnoses ≡ b .diagnoses))) → capped a ≡ capped b
+same-capped a b e = ap capped (same-totals a b (e .0) (e .1 .0) (e .1 .1 .0) (e .1 .1 .1))
 
-relation-more : (t : Totals) → withRelation (capped t) ≡ capped (add (three 1 0 0) t)
+relation-more : (t : Told) → withRelation (capped t) ≡ capped (add (related 1) t)
 unfolding withRelation capped add
-relation-more t = same-totals _ _ (bump-up relationStop (t .relations)) (ap (upTo mutationStop) (omega arith)) (ap (upTo renderStop) (omega arith))
+relation-more t = same-totals _ _ (bump-up relationStop (t .relations)) (ap (upTo mutationStop) (omega arith)) (ap (upTo renderStop) (omega arith)) (ap (upTo 1) (omega arith))
 
-mutation-more : (t : Totals) → withMutation (capped t) ≡ capped (add (three 0 1 0) t)
+mutation-more : (t : Told) → withMutation (capped t) ≡ capped (add (four 0 1 0 0) t)
 unfolding withMutation capped add
-mutation-more t = same-totals _ _ (ap (upTo relationStop) (omega arith)) (bump-up mutationStop (t .mutations)) (ap (upTo renderStop) (omega arith))
+mutation-more t = same-totals _ _ (ap (upTo relationStop) (omega arith)) (bump-up mutationStop (t .mutations)) (ap (upTo renderStop) (omega arith)) (ap (upTo 1) (omega arith))
 
-render-more : (t : Totals) → withRender (capped t) ≡ capped (add (three 0 0 1) t)
+render-more : (t : Told) → withRender (capped t) ≡ capped (add (four 0 0 1 0) t)
 unfolding withRender capped add
-render-more t = same-totals _ _ (ap (upTo relationStop) (omega arith)) (ap (upTo mutationStop) (omega arith)) (bump-up renderStop (t .renders))
+render-more t = same-totals _ _ (ap (upTo relationStop) (omega arith)) (ap (upTo mutationStop) (omega arith)) (bump-up renderStop (t .renders)) (ap (upTo 1) (omega arith))
 
-nothing-more : (t : Totals) → capped t ≡ capped (add (three 0 0 0) t)
-unfolding capped add
-nothing-more t = same-totals _ _ (ap (upTo relationStop) (omega arith)) (ap (upTo mutationStop) (omega arith)) (ap (upTo renderStop) (omega arith))
+diagnosis-more : (t : Told) → withDiagnosis (capped t) ≡ capped (add (four 0 0 0 1) t)
+unfolding withDiagnosis capped add
+diagnosis-more t =
+    same-totals _ _ (ap (upTo relationStop) (omega arith)) (ap (upTo mutationStop) (omega arith)) (ap (upTo renderStop) (omega arith)) (sym (up-above 1 (1 + t .diagnoses) (omega arith)))
+
+nothing-more : (t : Told) → capped t ≡ capped (add (related 0) t)
+unfolding add
+nothing-more t = same-capped _ _ (omega arith)
 
 -- the totals that a part has of its own are those that telling it adds
-abbrev Adds : {A : Type 0} → (A → Totals → Totals) → (A → Totals) → Type 0
-Adds {A} tell own = (a : A) (t : Totals) → tell a (capped t) ≡ capped (add (own a) t)
+abbrev Adds : {A : Type 0} → (A → Told → Told) → (A → Told) → Type 0
+Adds {A} tell own = (a : A) (t : Told) → tell a (capped t) ≡ capped (add (own a) t)
 
 -- the own totals of a list, one after another
-abbrev sum : {A : Type 0} → (A → Totals) → List A → Totals
-sum {A} own l = three (tally (λ (a : A). own a .relations) l) (tally (λ (a : A). own a .mutations) l) (tally (λ (a : A). own a .renders) l)
+abbrev sum : {A : Type 0} → (A → Told) → List A → Told
+sum {A} own l =
+    four (tally (λ (a : A). own a .relations) l) (tally (λ (a : A). own a .mutations) l) (tally (λ (a : A). own a .renders) l) (tally (λ (a : A). own a .diagnoses) l)
 
-add-add : (a b t : Totals) → capped (add b (add a t)) ≡ capped (add (add a b) t)
-unfolding capped add
-add-add a b t = same-totals _ _ (ap (upTo relationStop) (omega arith)) (ap (upTo mutationStop) (omega arith)) (ap (upTo renderStop) (omega arith))
+add-add : (a b t : Told) → capped (add b (add a t)) ≡ capped (add (add a b) t)
+unfolding add
+add-add a b t = same-capped _ _ (omega arith)
 
-each-adds : {A : Type 0} (tell : A → Totals → Totals) (own : A → Totals) → Adds tell own → Adds (each tell) (sum own)
+each-adds : {A : Type 0} (tell : A → Told → Told) (own : A → Told) → Adds tell own → Adds (each tell) (sum own)
 unfolding add
 each-adds tell own h [] t = nothing-more t
 each-adds tell own h (a ∷ l) t = rw (h a t) (each-adds tell own h l (add (own a) t) ∙ add-add (own a) (sum own l) t)
 
 -- parts that have relation effects only
-each-relates : {A : Type 0} (tell : A → Totals → Totals) (own : A → ℕ) → Adds tell (λ (a : A). three (own a) 0 0) →
-    Adds (each tell) (λ (l : List A). three (tally own l) 0 0)
+each-relates : {A : Type 0} (tell : A → Told → Told) (own : A → ℕ) → Adds tell (λ (a : A). related (own a)) →
+    Adds (each tell) (λ (l : List A). related (tally own l))
 unfolding add
 each-relates tell own h [] t = nothing-more t
-each-relates tell own h (a ∷ l) t = rw (h a t) (each-relates tell own h l (add (three (own a) 0 0) t) ∙ add-add (three (own a) 0 0) (three (tally own l) 0 0) t)
+each-relates tell own h (a ∷ l) t = rw (h a t) (each-relates tell own h l (add (related (own a)) t) ∙ add-add (related (own a)) (related (tally own l)) t)
 
 -- an effect of an instruction
-abbrev ownEffect : Effect → Totals
-ownEffect e = three (oneIf (isRelation (rowOf (e .kind) .role))) (oneIf (isMutation (rowOf (e .kind) .role))) (oneIf (isRender (rowOf (e .kind) .role)))
+abbrev ownRole : Role → Told
+ownRole r = four (oneIf (isRelation r)) (oneIf (isMutation r)) (oneIf (isRender r)) (oneIf (isDiagnosis r))
 
-role-adds : (r : Role) (t : Totals) → tellRole r (capped t) ≡ capped (add (three (oneIf (isRelation r)) (oneIf (isMutation r)) (oneIf (isRender r))) t)
+abbrev ownEffect : Effect → Told
+ownEffect e = ownRole (rowOf (e .kind) .role)
+
+role-adds : (r : Role) (t : Told) → tellRole r (capped t) ≡ capped (add (ownRole r) t)
 role-adds relation t = relation-more t
 role-adds mutation t = mutation-more t
 role-adds render t = render-more t
-role-adds diagnosis t = nothing-more t
+role-adds diagnosis t = diagnosis-more t
 role-adds nothing t = nothing-more t
 
 effect-adds : Adds (tellEffect false) ownEffect
@@ -115,11 +131,11 @@ unfolding tellKind
 effect-adds e t = role-adds (rowOf (e .kind) .role) t
 
 -- an effect of a terminal
-alias-adds : Adds (tellEffect true) (λ (e : Effect). three (oneIf (isAlias (e .kind))) 0 0)
+alias-adds : Adds (tellEffect true) (λ (e : Effect). related (oneIf (isAlias (e .kind))))
 unfolding tellKind
 alias-adds e t = go (isAlias (e .kind))
   where
-    go : (b : Bool) → pick b (withRelation (capped t)) (capped t) ≡ capped (add (three (oneIf b) 0 0) t)
+    go : (b : Bool) → pick b (withRelation (capped t)) (capped t) ≡ capped (add (related (oneIf b)) t)
     go true = relation-more t
     go false = nothing-more t
 
@@ -130,52 +146,57 @@ tally-length : {A : Type 0} (l : List A) → tally (λ (a : A). 1) l ≡ length 
 tally-length [] = refl
 tally-length (a ∷ l) = omega (arith, tally-length l)
 
-phi-adds : Adds tellPhi (λ (p : Phi). three (length (p .operands)) 0 0)
+phi-adds : Adds tellPhi (λ (p : Phi). related (length (p .operands)))
 phi-adds p t = rw (← tally-length (p .operands)) (each-relates tellOperand (λ (o : Operand). 1) (λ o u. relation-more u) (p .operands) t)
 
-one-more : (k : ℕ) (t : Totals) → capped (add (three k 0 0) (add (three 1 0 0) t)) ≡ capped (add (three (suc k) 0 0) t)
-unfolding capped add
-one-more k t = same-totals _ _ (ap (upTo relationStop) (omega arith)) (ap (upTo mutationStop) (omega arith)) (ap (upTo renderStop) (omega arith))
+one-more : (k : ℕ) (t : Told) → capped (add (related k) (add (related 1) t)) ≡ capped (add (related (suc k)) t)
+unfolding add
+one-more k t = same-capped _ _ (omega arith)
 
-terminal-adds : Adds tellTerminal (λ (z : Terminal). three (terminalRelations z) 0 0)
+terminal-adds : Adds tellTerminal (λ (z : Terminal). related (terminalRelations z))
 unfolding add
 terminal-adds (Other o) t = nothing-more t
 terminal-adds (Return o p l) t =
     rw (relation-more t)
-    (each-relates (tellEffect true) (λ (e : Effect). oneIf (isAlias (e .kind))) alias-adds l (add (three 1 0 0) t) ∙ one-more (aliasesIn l) t)
+    (each-relates (tellEffect true) (λ (e : Effect). oneIf (isAlias (e .kind))) alias-adds l (add (related 1) t) ∙ one-more (aliasesIn l) t)
 terminal-adds (MaybeThrow o l) t = each-relates (tellEffect true) (λ (e : Effect). oneIf (isAlias (e .kind))) alias-adds l t
 
 -- a block's own totals
-abbrev ownBlock : Block → Totals
-ownBlock b = three (blockRelations b) (withRole isMutation (b .instructions)) (withRole isRender (b .instructions))
+abbrev ownBlock : Block → Told
+ownBlock b = four (blockRelations b) (withRole isMutation (b .instructions)) (withRole isRender (b .instructions)) (withRole isDiagnosis (b .instructions))
 
-gather : (p : ℕ) (i : Totals) (z : ℕ) (t : Totals) →
-    capped (add (three z 0 0) (add i (add (three p 0 0) t))) ≡ capped (add (three (p + (i .relations + z)) (i .mutations) (i .renders)) t)
-unfolding capped add
-gather p i z t = same-totals _ _ (ap (upTo relationStop) (omega arith)) (ap (upTo mutationStop) (omega arith)) (ap (upTo renderStop) (omega arith))
+gather : (p : ℕ) (i : Told) (z : ℕ) (t : Told) →
+    capped (add (related z) (add i (add (related p) t))) ≡ capped (add (four (p + (i .relations + z)) (i .mutations) (i .renders) (i .diagnoses)) t)
+unfolding add
+gather p i z t = same-capped _ _ (omega arith)
 
 block-adds : Adds tellBlock ownBlock
 unfolding tellBlock blockRelations
 block-adds b t =
     let p : ℕ = tally (λ (p : Phi). length (p .operands)) (b .phis) in
-    let i : Totals = sum (λ (i : Instruction). sum ownEffect (i .effects)) (b .instructions) in
+    let i : Told = sum (λ (i : Instruction). sum ownEffect (i .effects)) (b .instructions) in
     rw (each-relates tellPhi (λ (p : Phi). length (p .operands)) phi-adds (b .phis) t)
-    (rw (each-adds tellInstruction (λ (i : Instruction). sum ownEffect (i .effects)) instruction-adds (b .instructions) (add (three p 0 0) t))
-    (terminal-adds (b .terminal) (add i (add (three p 0 0) t)) ∙ gather p i (terminalRelations (b .terminal)) t))
+    (rw (each-adds tellInstruction (λ (i : Instruction). sum ownEffect (i .effects)) instruction-adds (b .instructions) (add (related p) t))
+    (terminal-adds (b .terminal) (add i (add (related p) t)) ∙ gather p i (terminalRelations (b .terminal)) t))
 
 -- before the first block
 none-capped : capped noTotals ≡ noTotals
 unfolding capped upTo
 none-capped = refl
 
-add-none : (t : Totals) → capped (add t noTotals) ≡ capped t
-unfolding capped add
-add-none t = same-totals _ _ (ap (upTo relationStop) (omega arith)) (ap (upTo mutationStop) (omega arith)) (ap (upTo renderStop) (omega arith))
+add-none : (t : Told) → capped (add t noTotals) ≡ capped t
+unfolding add
+add-none t = same-capped _ _ (omega arith)
 
 -- the running totals of a sheet
-sheet-told : (s : Sheet) → tellSheet s noTotals ≡ capped (totals s)
-unfolding totals
+sheet-told : (s : Sheet) → tellSheet s noTotals ≡ capped (four (totals s .relations) (totals s .mutations) (totals s .renders) (diagnoses s))
+unfolding totals diagnoses
 sheet-told s = ap (each tellBlock (s .blocks)) (sym none-capped) ∙ each-adds tellBlock ownBlock block-adds (s .blocks) noTotals ∙ add-none (sum ownBlock (s .blocks))
+
+-- stopped at 1: whether there is one
+up-one : (n : ℕ) → upTo 1 n ≡ oneIf (ltb 0 n)
+up-one zero = up-below 1 0 (omega arith)
+up-one (suc n) = up-above 1 (suc n) (omega arith) ∙ sym (ap oneIf (lt-ltb 0 (suc n) (omega arith)))
 
 over-one : (most n : ℕ) → ltb most (upTo (1 + most) n) ≡ ltb most n
 over-one most n = go (ltb n (1 + most)) refl
@@ -187,15 +208,15 @@ over-one most n = go (ltb n (1 + most)) refl
         rw (up-above (1 + most) n h, lt-ltb most (1 + most) (omega arith), lt-ltb most n (omega arith))
 
 -- refusal 8 for the running totals is refusal 8
-pub told-over : (s : Sheet) → over (tellSheet s noTotals) ≡ over (totals s)
+pub told-over : (s : Sheet) → over (totalsOf (tellSheet s noTotals)) ≡ over (totals s)
 unfolding over capped
 told-over s = rw (sheet-told s, over-one mostRelations (totals s .relations), over-one mostMutations (totals s .mutations), over-one mostRenders (totals s .renders))
 
 -- and where it does not apply, they are the totals
-pub told-totals : (s : Sheet) → over (totals s) ≡ false → tellSheet s noTotals ≡ totals s
-unfolding capped
+pub told-totals : (s : Sheet) → over (totals s) ≡ false → tellSheet s noTotals ≡ told s
+unfolding capped told
 told-totals s h =
     let k = not-over (totals s) h in
     sheet-told s
     ∙ same-totals _ _ (up-below relationStop (totals s .relations) (omega (arith, k .0))) (up-below mutationStop (totals s .mutations) (omega (arith, k .1)))
-    (up-below renderStop (totals s .renders) (omega (arith, k .2)))
+    (up-below renderStop (totals s .renders) (omega (arith, k .2))) (up-one (diagnoses s))

@@ -20,7 +20,7 @@ abbrev pub headingSays : HeadingStep → Result TheHeading
 headingSays (GotHeading h c) = got (record { identifiers = h .identifiers; functions = h .functions }) (c .at)
 headingSays (NoHeading k) = refused k
 
--- the verdict's number, or its totals
+-- the verdict's number, or what it tells
 abbrev pub verdictSays : Verdict → Judgement
 verdictSays (Refused k) = refusal k
 verdictSays (Accepted t) = acceptance (totalsAre t)

@@ -2,13 +2,15 @@
 use Prim.Native.Nat.{ℕ}
 use mathlib.Core.List.{List}
 use lib.ListN.{length}
+use lib.Dec.{ltb}
 use Rattle.model.specs.Limits.{mostIdentifiers, mostFunctions, mostParams, mostContext, returnsCount}
-use Rattle.model.specs.Lists.{each}
-use Rattle.model.specs.Sheet.{Place, Sheet}
+use Rattle.model.specs.Lists.{each, tally, oneIf}
+use Rattle.model.specs.Sheet.{Place, Block, Sheet}
+use Rattle.model.specs.Effects.{isDiagnosis}
 use Rattle.model.specs.Reading.{Position, Result, got, refused, Read, andThen, _>>=_, pure, fixed, counted}
 use Rattle.model.specs.Sections.{flags, identifier, innerFunction, place}
-use Rattle.model.specs.Totals.{Totals, totals}
-use Rattle.blocks.specs.Judging.{mapResult, judge, tellBlock, noTotals, blocksOf}
+use Rattle.model.specs.Totals.{withRole, Totals, totals}
+use Rattle.blocks.specs.Judging.{mapResult, judge, Told, tellBlock, noTotals, blocksOf}
 
 module _ {A : Type 0} where
   -- a list of which only the length goes on
@@ -41,22 +43,34 @@ placeLists n = do
   place n
 
 -- the sections in their order, with what refusal 8 counts
-unfoldable pub judgedSheet : Read Totals
+unfoldable pub judgedSheet : Read Told
 judgedSheet = do
   h ← heading
   r ← placeLists (h .identifiers)
   judge (blocksOf (h .identifiers) (h .functions)) (each tellBlock) noTotals
 
 -- a sheet: its blocks
-abbrev pub tellSheet : Sheet → Totals → Totals
+abbrev pub tellSheet : Sheet → Told → Told
 tellSheet s t = each tellBlock (s .blocks) t
 
--- what is said of a sheet: a refusal's number, or the totals
+-- what refusal 8 counts
+abbrev pub totalsOf : Told → Totals
+totalsOf t = record { relations = t .relations; mutations = t .mutations; renders = t .renders }
+
+-- how many effects of instructions have a kind from 14 to 16
+unfoldable pub diagnoses : Sheet → ℕ
+diagnoses s = tally (λ (b : Block). withRole isDiagnosis (b .instructions)) (s .blocks)
+
+-- what is told of an accepted sheet: its totals, and whether there is a diagnosis
+unfoldable pub told : Sheet → Told
+told s = record { relations = totals s .relations; mutations = totals s .mutations; renders = totals s .renders; diagnoses = oneIf (ltb 0 (diagnoses s)) }
+
+-- what is said of a sheet: a refusal's number, or what is told of it
 pub data Judgement : Type 0 where
   refusal : ℕ → Judgement
-  acceptance : Totals → Judgement
+  acceptance : Told → Judgement
 
 -- what document 01 says of a sheet that was read, or was not
 abbrev pub judgementOf : Result Sheet → Judgement
-judgementOf (got s c) = acceptance (totals s)
+judgementOf (got s c) = acceptance (told s)
 judgementOf (refused k) = refusal k

@@ -4,7 +4,7 @@ ghost use Rattle.model.specs.Call.{read};
 ghost use Rattle.model.specs.Totals.{over};
 ghost use Rattle.hir.specs.Says.{placeSays};
 ghost use Rattle.blocks.specs.Says.{totalsAre, totalsSays};
-ghost use Rattle.reading.specs.Whole.{heading, placeLists, judgedSheet, judgementOf};
+ghost use Rattle.reading.specs.Whole.{heading, placeLists, judgedSheet, totalsOf, judgementOf};
 ghost use Rattle.reading.specs.Says.{headingSays, verdictSays};
 use blocks::Totals;
 use blocks::TotalsStep;
@@ -37,7 +37,7 @@ pub enum HeadingStep {
 pub enum Verdict {
     // By the number of the refusal, 2 to 8.
     Refused(u32),
-    // With what refusal 8 counts.
+    // With what refusal 8 counts, and whether there is a diagnosis.
     Accepted(Totals),
 }
 
@@ -99,7 +99,7 @@ pub fn sheet(s: &[u32]) -> TotalsStep
 
 // Whether refusal 8 applies.
 pub fn over(t: Totals) -> bool
-    ensures { λ r. ⌜ r ≡ over (totalsAre t) ⌝ }
+    ensures { λ r. ⌜ r ≡ over (totalsOf (totalsAre t)) ⌝ }
 {
     (1024 < t.relations) | ((512 < t.mutations) | (256 < t.renders))
 }

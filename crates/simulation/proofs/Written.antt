@@ -2,6 +2,7 @@
 use Prim.Native.Nat.{ℕ, _+_, _-_, _/_, _≤_, _<_}
 use native.Mathlib.Omega.{arith}
 use mathlib.Core.Path.{_≡_, sym, ap, subst, _∙_}
+use mathlib.Core.Bool.{Bool, false}
 use mathlib.Core.List.{List, [], _∷_, _++_}
 use lib.ListN.{length, set}
 use Rattle.model.specs.Lists.{gather}
@@ -17,7 +18,7 @@ use Rattle.rows.specs.Rows.{Good, Indexed}
 use Rattle.aliasing.proofs.Parts.{slice-below, nodes-below, rows-below}
 use Rattle.aliasing.proofs.Steps.{state-same}
 use Rattle.writing.specs.Wrote.{Wrote}
-use Rattle.writing.proofs.Writing.{wrote-then, wrote-as}
+use Rattle.writing.proofs.Writing.{wrote-none, wrote-then, wrote-as}
 use Rattle.copies.specs.Copies.{Copies}
 use Rattle.copies.specs.Words.{blockWords}
 use Rattle.copies.specs.Returns.{Created}
@@ -30,8 +31,8 @@ use Rattle.summary.proofs.Held.{holds-state}
 use Rattle.summary.proofs.Rooms.{collected-next}
 use Rattle.summary.proofs.Whole.{params-tracked, context-tracked, marks-tracked}
 use Rattle.function.specs.declared.HirFunction.{HirFunction}
-use Rattle.function.specs.Function.{Limited}
-use Rattle.simulation.specs.Simulates.{Marked, Simulates, Before, EffectsPut}
+use Rattle.function.specs.Function.{Limited, Describes, NoneUnless}
+use Rattle.simulation.specs.Simulates.{Marked, Simulates, CopiedPut, Before, EffectsPut}
 
 -- the words hold the records that the walks and renders left
 holds-after : (s : Sheet) {sheet ws : List ℕ} {f : HirFunction} {index : ℕ} → Before s sheet ws f index → Holds ws (afterRenders s)
@@ -53,6 +54,15 @@ summary-words s =
     ∙ ap (λ (l : List ℕ). gather effectWords (copied s) ++ l)
     (gather-append effectWords c (p ++ r) ∙ ap (λ (l : List ℕ). gather effectWords c ++ l) (gather-append effectWords p r))
 
+-- ---- the copied effects
+module _ (sheet : List ℕ) (f : HirFunction) (a : List ℕ) (at : ℕ) where
+  pub copied-put : {a′ : List ℕ} {at′ next : ℕ} → Copies (numbered (f .count) [] (block (f .n) (f .m)) sheet (f .blocks .at)) (gather (blockWords Effects)) 2147483648 a at a′ at′ next
+      → CopiedPut sheet f a at a′ at′
+  copied-put c = record { wrote = λ s d. wrote-as (c .wrote (s .blocks) (d .blocks .0) (d .blocks .1)) (copied-words s); few = c .few }
+
+  pub copied-not : {copies : Bool} → copies ≡ false → NoneUnless copies (λ (s : Sheet). Describes s sheet f) → CopiedPut sheet f a at a at
+  copied-not e h = record { wrote = λ s d. wrote-as (wrote-none a at) (ap (gather effectWords) (sym (h e s d))); few = omega arith }
+
 -- the graph is the same with the marks
 pub indexed-after : {ws ws₁ : List ℕ} {n : ℕ} → Indexed ws → Marks ws n ws₁ → Indexed ws₁
 indexed-after i m = record { size = omega (arith, i .size, m .kept .same); good = subst Good (sym (rows-below (m .kept) (omega arith))) (i .good) }
@@ -60,10 +70,6 @@ indexed-after i m = record { size = omega (arith, i .size, m .kept .same); good 
 module _ (sheet ws : List ℕ) (f : HirFunction) (index : ℕ) (limited : Limited f) where
   -- ---- each part, for a sheet
   module _ (s : Sheet) (b : Before s sheet ws f index) where
-    copied-wrote : {a a′ : List ℕ} {at at′ next : ℕ} → Copies (numbered (f .count) [] (block (f .n) (f .m)) sheet (f .blocks .at)) (gather (blockWords Effects)) 2147483648 a at a′ at′ next
-        → Wrote (gather effectWords (copied s)) a at a′ at′
-    copied-wrote c = wrote-as (c .wrote (s .blocks) (b .describes .blocks .0) (b .describes .blocks .1)) (copied-words s)
-
     context-wrote : {a a′ : List ℕ} {at at′ : ℕ} → Collected ws (trackedFrom ws (f .params) (f .context)) a at a′ at′
         → Wrote (gather effectWords (gather (collectParamEffects (afterRenders s)) (s .context))) a at a′ at′
     context-wrote c =
@@ -104,9 +110,9 @@ module _ (sheet ws : List ℕ) (f : HirFunction) (index : ℕ) (limited : Limite
         }
 
   -- ---- one part after another
-  module _ {a a₁ a₂ a₃ : List ℕ} {at at₁ at₂ at₃ next : ℕ}
+  module _ {a a₁ a₂ a₃ : List ℕ} {at at₁ at₂ at₃ : ℕ}
       (put : Wrote (0 ∷ []) a at a₁ at₁)
-      (copy : Copies (numbered (f .count) [] (block (f .n) (f .m)) sheet (f .blocks .at)) (gather (blockWords Effects)) 2147483648 a₁ at₁ a₂ at₂ next)
+      (copy : CopiedPut sheet f a₁ at₁ a₂ at₂)
       (context : Collected ws (trackedFrom ws (f .params) (f .context)) a₂ at₂ a₃ at₃)
     where
       -- where the next word goes after the context's effects
@@ -134,7 +140,7 @@ module _ (sheet ws : List ℕ) (f : HirFunction) (index : ℕ) (limited : Limite
               all-parts s b =
                   wrote-as
                   (wrote-then put
-                  (wrote-then (copied-wrote s b copy)
+                  (wrote-then (copy .wrote s (b .describes))
                   (wrote-then (context-wrote s b context) (wrote-then (params-wrote s b params) (wrote-then (returns-wrote s b create) (walks .wrote s (marked-before s b marks)))))))
                   (ap (λ (l : List ℕ). 0 ∷ l) (sym (summary-words s)))
 

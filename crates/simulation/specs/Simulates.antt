@@ -9,7 +9,7 @@ use Rattle.model.specs.Sheet.{Sheet}
 use Rattle.model.specs.Building.{build}
 use Rattle.model.specs.State.{State}
 use Rattle.model.specs.Walks.{Walk}
-use Rattle.model.specs.Summary.{afterRenders}
+use Rattle.model.specs.Summary.{copied, afterRenders}
 use Rattle.model.specs.Simulated.{Simulated, tracked, simulate}
 use Rattle.model.specs.Answer.{effectWords, section, summary}
 use Rattle.rows.specs.Layout.{HANDED, MUTATIONS, SIMULATED}
@@ -38,6 +38,11 @@ pub record Simulates (ws : List ℕ) (count index returns : ℕ) (answer : List 
   pub kept : slice MUTATIONS SIMULATED ws′ ≡ slice MUTATIONS SIMULATED ws
   pub few : r ≤ at + 1032 * count
   pub same : length ws′ ≡ length ws
+
+-- the copied effects were written
+pub record CopiedPut (sheet : List ℕ) (f : HirFunction) (answer : List ℕ) (at : ℕ) (answer′ : List ℕ) (r : ℕ) : Type 0 where
+  pub wrote : (s : Sheet) → Describes s sheet f → Wrote (gather effectWords (copied s)) answer at answer′ r
+  pub few : r ≤ at + 2147483648
 
 -- the workspace before the section of effects of s is written
 pub record Before (s : Sheet) (sheet ws : List ℕ) (f : HirFunction) (index : ℕ) : Type 0 where

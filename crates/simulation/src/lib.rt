@@ -9,8 +9,8 @@ ghost use Rattle.rows.specs.Rows.{Indexed};
 ghost use Rattle.aliasing.specs.Says.{modeSays, mutationSays};
 ghost use Rattle.aliasing.specs.Walks.{Callable};
 ghost use Rattle.writing.specs.Wrote.{farthest};
-ghost use Rattle.function.specs.Function.{Limited};
-ghost use Rattle.simulation.specs.Simulates.{Marked, Simulates, Before, EffectsPut};
+ghost use Rattle.function.specs.Function.{Limited, Describes, NoneUnless};
+ghost use Rattle.simulation.specs.Simulates.{Marked, Simulates, CopiedPut, Before, EffectsPut};
 use aliasing::Mutation;
 use aliasing::MutationKind;
 use aliasing::mutate;
@@ -79,11 +79,35 @@ pub fn simulate(
     to
 }
 
+// The effects of instructions that are copied: where there is none, no pass over the sheet.
+fn put_copied(sheet: &[u32], f: HirFunction, copied: bool, answer: &mut [u32], at: usize) -> usize
+    requires { ⌜ Limited f ⌝ }
+    requires { ⌜ NoneUnless copied (λ (s : Sheet). Describes s (now sheet) f) ⌝ }
+    requires { ⌜ at + 2147483648 ≤ farthest ⌝ }
+    ensures { λ r. ⌜ CopiedPut (now (sheet .entry)) f (now (answer .entry)) at (now (answer .exit)) r ⌝ }
+{
+    if copied {
+        let r = copy_effects(
+            sheet,
+            f.blocks,
+            f.count,
+            f.n,
+            f.m,
+            Section::Effects,
+            answer,
+            at,
+        );
+        return r.at;
+    }
+    at
+}
+
 // The section, the first simulated walk having this index.
 pub fn put_effects(
     sheet: &[u32],
     ws: &mut [u32],
     f: HirFunction,
+    copied: bool,
     index: u32,
     answer: &mut [u32],
     at: usize,
@@ -91,6 +115,7 @@ pub fn put_effects(
     requires { ⌜ Limited f ⌝ }
     requires { ⌜ Indexed (now ws) ⌝ }
     requires { ⌜ ((s : Sheet) × Before s (now sheet) (now ws) f index) ⌝ }
+    requires { ⌜ NoneUnless copied (λ (s : Sheet). Describes s (now sheet) f) ⌝ }
     requires { ⌜ (index ≤ 4096) × (at + 4294967296 ≤ farthest) ⌝ }
     ensures { λ r. ⌜ EffectsPut (now (sheet .entry)) (now (ws .entry)) f index (now (answer .entry)) at (now (ws .exit)) (now (answer .exit)) r ⌝ }
 {
@@ -98,28 +123,19 @@ pub fn put_effects(
     let context = f.context as usize;
     let returns = f.returns;
     let a1 = put(answer, at, 0);
-    let copied = copy_effects(
-        sheet,
-        f.blocks,
-        f.count,
-        f.n,
-        f.m,
-        Section::Effects,
-        answer,
-        a1,
-    );
-    let a2 = collect_effects(ws, params, context, answer, copied.at);
-    let a3 = collect_effects(ws, 0, params, answer, a2);
-    let a4 = put_create_returns(sheet, f.identifiers, returns, answer, a3);
+    let a2 = put_copied(sheet, f, copied, answer, a1);
+    let a3 = collect_effects(ws, params, context, answer, a2);
+    let a4 = collect_effects(ws, 0, params, answer, a3);
+    let a5 = put_create_returns(sheet, f.identifiers, returns, answer, a4);
     mark_tracked(ws, params + context);
-    let a5 = simulate(
+    let a6 = simulate(
         ws,
         params + context + 1,
         index,
         returns.identifier,
         answer,
-        a4,
+        a5,
     );
-    patch(answer, at, ((a5 - a1) / 8) as u32);
-    a5
+    patch(answer, at, ((a6 - a1) / 8) as u32);
+    a6
 }

@@ -1,6 +1,6 @@
 use native.Mathlib.Omega.{arith}
 use mathlib.Core.Path.{_∙_}
-use Rattle.inference.proofs.Making.{prepared-got, no-answer}
+use Rattle.inference.proofs.Making.{prepared-got, no-answer, described-none}
 use Rattle.inference.proofs.Ending.{too-long, fitting}
 use borrow.Author.Needs.{needs}
 use Rattle.inference.proofs.answer_sheet.Statement.{statement}
@@ -13,7 +13,9 @@ use Rattle.rows.proofs.clear.Reads as clear-reads
 
 -- src/lib.rt:106:35
 build-requires : tie.Need-build-requires
-build-requires c κs = (c .before .before .before .before .pre .0, c .before .before .before .before .pre .1)
+build-requires c κs =
+    let b4 = c .before .before .before .before in
+    (b4 .pre .0, b4 .pre .1 .0)
 
 -- src/lib.rt:106:27
 enum-known-f : tie.Need-enum-known-f
@@ -29,11 +31,18 @@ same-length c = search needs
 
 -- src/lib.rt:107:9
 returns : tie.Need-returns
-returns c = no-answer (c .before .before .before .before .build .ensures) (c .enum-told .given .1) (c .before .before .before .before .before .before .before .before .before .pre .1)
+returns c =
+    let b4 = c .before .before .before .before in
+    let b9 = b4 .before .before .before .before .before in
+    no-answer (b4 .build .ensures) (c .enum-told .given .1) (b9 .pre .1 .0)
 
 -- src/lib.rt:109:9
 put-answer-requires : tie.Need-put-answer-requires
-put-answer-requires c κs = (c .before .before .before .before .before .before .before .before .before .before .before .before .pre .1 .0, prepared-got (c .before .before .before .before .before .before .before .build .ensures) (c .before .before .before .f .given .1) (c .before .before .before .before .before .before .before .before .before .before .before .before .pre .1 .0) (c .before .before .before .before .before .before .before .before .before .before .before .before .pre .1 .1))
+put-answer-requires c κs =
+    let b3 = c .before .before .before in
+    let b7 = b3 .before .before .before .before in
+    let b12 = b7 .before .before .before .before .before in
+    ((b12 .pre .1 .0 .0, prepared-got (b7 .build .ensures) (b3 .f .given .1) (b12 .pre .1 .0 .0) (b12 .pre .1 .0 .1)), described-none (b12 .pre .1 .0 .0) (b12 .pre .1 .0 .1) (prepared-got (b7 .build .ensures) (b3 .f .given .1) (b12 .pre .1 .0 .0) (b12 .pre .1 .0 .1)) (b12 .pre .1 .1))
 
 -- src/lib.rt:111:5
 clear-requires : tie.Need-clear-requires
@@ -53,7 +62,14 @@ same-length-3 c = search needs
 
 -- src/lib.rt:115:9
 returns-2 : tie.Need-returns-2
-returns-2 c = λ s is. too-long (c .before .before .before .before .before .before .before .before .before .before .before .before .before .put-answer .ensures .wrote s (prepared-got (c .before .before .before .before .before .before .before .before .before .before .before .before .before .before .before .before .before .before .before .before .before .build .ensures) (c .before .before .before .before .before .before .before .before .before .before .before .before .before .before .before .before .before .f .given .1) s is)) _ _ _ (c .before .before .before .before .before .before .before .before .before .before .before .before .before .put-answer .ensures .same ∙ c .before .before .before .before .before .before .before .before .before .before .before .before .before .before .before .before .before .before .before .before .before .build .ensures .same) (c .before .before .before .before .before .before .before .clear .ensures) (c .before .before .before .before .if1 .taken) (c .before .before .clear2 .ensures)
+returns-2 c =
+    let b4 = c .before .before .before .before in
+    let b7 = b4 .before .before .before in
+    let b13 = b7 .before .before .before .before .before .before in
+    let b17 = b13 .before .before .before .before in
+    let b21 = b17 .before .before .before .before in
+    λ s is. too-long (b13 .put-answer .ensures .wrote s (prepared-got (b21 .build .ensures) (b17 .f .given .1) s is)) _ _ _ (b13 .put-answer .ensures .same
+    ∙ b21 .build .ensures .same) (b7 .clear .ensures) (b4 .if1 .taken) (c .before .before .clear2 .ensures)
 
 -- src/lib.rt:117:5
 clear-requires-3 : tie.Need-clear-requires-3
@@ -69,7 +85,14 @@ same-length-5 c = search needs
 
 -- src/lib.rt:101:1
 returns-3 : tie.Need-returns-3
-returns-3 c = λ s is. fitting (c .before .before .before .before .before .before .before .before .before .before .before .before .before .put-answer .ensures .wrote s (prepared-got (c .before .before .before .before .before .before .before .before .before .before .before .before .before .before .before .before .before .before .before .before .before .build .ensures) (c .before .before .before .before .before .before .before .before .before .before .before .before .before .before .before .before .before .f .given .1) s is)) _ _ _ (c .before .before .before .before .before .before .before .before .before .before .before .before .before .put-answer .ensures .same ∙ c .before .before .before .before .before .before .before .before .before .before .before .before .before .before .before .before .before .before .before .before .before .build .ensures .same) (c .before .before .before .before .before .before .before .clear .ensures) (c .before .before .before .before .if1 .left) (c .before .before .clear3 .ensures)
+returns-3 c =
+    let b4 = c .before .before .before .before in
+    let b7 = b4 .before .before .before in
+    let b13 = b7 .before .before .before .before .before .before in
+    let b17 = b13 .before .before .before .before in
+    let b21 = b17 .before .before .before .before in
+    λ s is. fitting (b13 .put-answer .ensures .wrote s (prepared-got (b21 .build .ensures) (b17 .f .given .1) s is)) _ _ _ (b13 .put-answer .ensures .same
+    ∙ b21 .build .ensures .same) (b7 .clear .ensures) (b4 .if1 .left) (c .before .before .clear3 .ensures)
 
 pub answer-sheet-spec : {M : Type 1} → statement M
 answer-sheet-spec =

@@ -16,43 +16,77 @@ use Rattle.summary.proofs.walks.put_walks.Reads as put-walks-reads
 
 -- src/lib.rt:50:9
 process-mutations-requires : tie.Need-process-mutations-requires
-process-mutations-requires c κs = (c .before .before .before .before .pre .1 .indexed, c .before .before .before .before .pre .1 .pending)
+process-mutations-requires c κs =
+    let b4 = c .before .before .before .before in
+    (b4 .pre .0 .1 .indexed, b4 .pre .0 .1 .pending)
 
 -- src/lib.rt:51:9
 put-places-requires : tie.Need-put-places-requires
-put-places-requires c κs = (c .before .before .before .before .before .before .before .before .before .pre .1 .limited, (c .before .before .before .before .before .before .before .before .before .pre .0, (c .before .before .before .before .before .before .before .before .before .pre .1 .describes, real-stands (c .before .before .before .before .before .before .before .before .before .pre .1) (c .before .before .before .before .process-mutations .ensures))))
+put-places-requires c κs =
+    let b4 = c .before .before .before .before in
+    let b9 = b4 .before .before .before .before .before in
+    (b9 .pre .0 .1 .limited, (b9 .pre .0 .0, (b9 .pre .0 .1 .describes, real-stands (b9 .pre .0 .1) (b4 .process-mutations .ensures))))
 
 -- src/lib.rt:52:9
 put-diagnostics-requires : tie.Need-put-diagnostics-requires
-put-diagnostics-requires c κs = (c .before .before .before .before .before .before .before .before .before .before .before .before .before .before .pre .1 .limited, (real-indexed (c .before .before .before .before .before .before .before .before .before .before .before .before .before .before .pre .1) (c .before .before .before .before .before .before .before .before .before .process-mutations .ensures), ((c .before .before .before .before .before .before .before .before .before .before .before .before .before .before .pre .0, (c .before .before .before .before .before .before .before .before .before .before .before .before .before .before .pre .1 .describes, real-stands (c .before .before .before .before .before .before .before .before .before .before .before .before .before .before .pre .1) (c .before .before .before .before .before .before .before .before .before .process-mutations .ensures))), (c .before .before .before .before .before .before .before .before .before .before .before .before .before .before .pre .1 .fewRenders, (hand-low (c .before .before .before .before .before .before .before .before .before .process-mutations .ensures), omega (arith, c .before .before .before .before .put-places .ensures .few))))))
+put-diagnostics-requires c κs =
+    let b4 = c .before .before .before .before in
+    let b9 = b4 .before .before .before .before .before in
+    let b14 = b9 .before .before .before .before .before in
+    (b14 .pre .0 .1 .limited, (real-indexed (b14 .pre .0 .1) (b9 .process-mutations .ensures), ((b14 .pre .0 .0, (b14 .pre .0 .1 .describes, real-stands (b14 .pre .0 .1) (b9 .process-mutations .ensures))), (b14 .pre .1, (b14 .pre .0 .1 .fewRenders, (hand-low (b9 .process-mutations .ensures), omega (arith, b4 .put-places .ensures .few)))))))
 
 -- src/lib.rt:53:40
 index-requires : tie.Need-index-requires
-index-requires c κs = (c .before .before .before .before .before .before .before .before .before .before .before .before .before .before .before .before .before .before .before .before .pre .1 .fewRelations, (c .before .before .before .before .before .before .before .before .before .before .before .before .before .before .before .before .before .before .before .before .pre .1 .pending .few, c .before .before .before .before .before .before .before .before .before .before .before .before .before .before .before .before .before .before .before .before .pre .1 .fewRenders))
+index-requires c κs =
+    let b20 = c .before .before .before .before .before .before .before .before .before .before .before .before .before .before .before .before .before .before .before .before in
+    (b20 .pre .0 .1 .fewRelations, (b20 .pre .0 .1 .pending .few, b20 .pre .0 .1 .fewRenders))
 
 -- src/lib.rt:53:9
 put-effects-requires : tie.Need-put-effects-requires
-put-effects-requires c κs = (c .before .before .before .before .before .before .before .before .before .before .before .before .before .before .before .before .before .before .before .before .before .before .pre .1 .limited, (next-indexed (c .before .before .before .before .before .before .before .before .before .before .before .before .before .before .before .before .before .before .before .before .before .before .pre .1) (c .before .before .before .before .before .before .before .before .before .before .before .before .before .before .before .before .before .process-mutations .ensures) (c .before .before .before .before .before .before .before .put-diagnostics .ensures .unmoved), ((c .before .before .before .before .before .before .before .before .before .before .before .before .before .before .before .before .before .before .before .before .before .before .pre .0, before-effects (c .before .before .before .before .before .before .before .before .before .before .before .before .before .before .before .before .before .before .before .before .before .before .pre .1) (c .before .before .before .before .before .before .before .before .before .before .before .before .before .before .before .before .before .process-mutations .ensures) (c .before .before .before .before .before .before .before .put-diagnostics .ensures .unmoved) (c .before .index .ensures)), (omega (arith, c .before .index .ensures, c .before .before .before .before .before .before .before .before .before .before .before .before .before .before .before .before .before .before .before .before .before .before .pre .1 .fewRelations, c .before .before .before .before .before .before .before .before .before .before .before .before .before .before .before .before .before .before .before .before .before .before .pre .1 .pending .few, c .before .before .before .before .before .before .before .before .before .before .before .before .before .before .before .before .before .before .before .before .before .before .pre .1 .fewRenders), omega (arith, c .before .before .before .before .before .before .before .before .before .before .before .before .put-places .ensures .few, c .before .before .before .before .before .before .before .put-diagnostics .ensures .few)))))
+put-effects-requires c κs =
+    let b7 = c .before .before .before .before .before .before .before in
+    let b12 = b7 .before .before .before .before .before in
+    let b17 = b12 .before .before .before .before .before in
+    let b22 = b17 .before .before .before .before .before in
+    (b22 .pre .0 .1 .limited, (next-indexed (b22 .pre .0 .1) (b17 .process-mutations .ensures) (b7 .put-diagnostics .ensures .unmoved), ((b22 .pre .0 .0, before-effects (b22 .pre .0 .1) (b17 .process-mutations .ensures) (b7 .put-diagnostics .ensures .unmoved) (c .before .index .ensures)), (b22 .pre .1, (omega (arith, c .before .index .ensures, b22 .pre .0 .1 .fewRelations, b22 .pre .0 .1 .pending .few, b22 .pre .0 .1 .fewRenders), omega (arith, b12 .put-places .ensures .few, b7 .put-diagnostics .ensures .few))))))
 
 -- src/lib.rt:54:33
 add-put-walks : tie.Need-add-put-walks
-add-put-walks c = omega (arith, c .before .before .before .before .before .before .before .before .before .before .before .before .before .before .before .before .before .before .before .before .before .before .before .before .before .before .before .before .before .pre .1 .limited .params, c .before .before .before .before .before .before .before .before .before .before .before .before .before .before .before .before .before .before .before .before .before .before .before .before .before .before .before .before .before .pre .1 .limited .context)
+add-put-walks c =
+    let b29 = c .before .before .before .before .before .before .before .before .before .before .before .before .before .before .before .before .before .before .before .before .before .before .before .before .before .before .before .before .before in
+    omega (arith, b29 .pre .0 .1 .limited .params, b29 .pre .0 .1 .limited .context)
 
 -- src/lib.rt:54:33
 add-put-walks-2 : tie.Need-add-put-walks-2
-add-put-walks-2 c = omega (arith, c .before .before .before .before .before .before .before .before .before .before .before .before .before .before .before .before .before .before .before .before .before .before .before .before .before .before .before .before .before .pre .1 .limited .params, c .before .before .before .before .before .before .before .before .before .before .before .before .before .before .before .before .before .before .before .before .before .before .before .before .before .before .before .before .before .pre .1 .limited .context)
+add-put-walks-2 c =
+    let b29 = c .before .before .before .before .before .before .before .before .before .before .before .before .before .before .before .before .before .before .before .before .before .before .before .before .before .before .before .before .before in
+    omega (arith, b29 .pre .0 .1 .limited .params, b29 .pre .0 .1 .limited .context)
 
 -- src/lib.rt:54:32
 cast-put-walks : tie.Need-cast-put-walks
-cast-put-walks c = omega (arith, c .before .before .before .before .before .before .before .before .before .before .before .before .before .before .before .before .before .before .before .before .before .before .before .before .before .before .before .before .before .pre .1 .limited .params, c .before .before .before .before .before .before .before .before .before .before .before .before .before .before .before .before .before .before .before .before .before .before .before .before .before .before .before .before .before .pre .1 .limited .context)
+cast-put-walks c =
+    let b29 = c .before .before .before .before .before .before .before .before .before .before .before .before .before .before .before .before .before .before .before .before .before .before .before .before .before .before .before .before .before in
+    omega (arith, b29 .pre .0 .1 .limited .params, b29 .pre .0 .1 .limited .context)
 
 -- src/lib.rt:54:5
 put-walks-requires : tie.Need-put-walks-requires
-put-walks-requires c κs = ((c .before .before .before .before .before .before .before .before .before .before .before .before .before .before .before .before .before .before .before .before .before .before .before .before .before .before .before .before .before .before .pre .1 .pending .few, (omega (arith, c .before .before .before .before .before .before .before .before .before .before .before .before .before .before .before .before .before .before .before .before .before .before .before .before .before .before .before .before .before .before .pre .1 .limited .params, c .before .before .before .before .before .before .before .before .before .before .before .before .before .before .before .before .before .before .before .before .before .before .before .before .before .before .before .before .before .before .pre .1 .limited .context), omega (arith, c .before .before .before .before .before .before .before .put-effects .ensures .same, c .before .before .before .before .before .before .before .before .before .before .before .before .before .before .before .put-diagnostics .ensures .unmoved .aside .same, c .before .before .before .before .before .before .before .before .before .before .before .before .before .before .before .before .before .before .before .before .before .before .before .before .before .process-mutations .ensures .same, c .before .before .before .before .before .before .before .before .before .before .before .before .before .before .before .before .before .before .before .before .before .before .before .before .before .before .before .before .before .before .pre .1 .indexed .size))), omega (arith, c .before .before .before .before .before .before .before .before .before .before .before .before .before .before .before .before .before .before .before .before .put-places .ensures .few, c .before .before .before .before .before .before .before .before .before .before .before .before .before .before .before .put-diagnostics .ensures .few, c .before .before .before .before .before .before .before .put-effects .ensures .few))
+put-walks-requires c κs =
+    let b7 = c .before .before .before .before .before .before .before in
+    let b15 = b7 .before .before .before .before .before .before .before .before in
+    let b20 = b15 .before .before .before .before .before in
+    let b25 = b20 .before .before .before .before .before in
+    let b30 = b25 .before .before .before .before .before in
+    ((b30 .pre .0 .1 .pending .few, (omega (arith, b30 .pre .0 .1 .limited .params, b30 .pre .0 .1 .limited .context), omega (arith, b7 .put-effects .ensures .same, b15 .put-diagnostics .ensures .unmoved .aside .same, b25 .process-mutations .ensures .same, b30 .pre .0 .1 .indexed .size))), omega (arith, b20 .put-places .ensures .few, b15 .put-diagnostics .ensures .few, b7 .put-effects .ensures .few))
 
 -- src/lib.rt:40:1
 same-length : tie.Need-same-length
-same-length c = c .before .before .before .before .before .before .before .before .before .before .put-effects .ensures .same ∙ c .before .before .before .before .before .before .before .before .before .before .before .before .before .before .before .before .before .before .put-diagnostics .ensures .unmoved .aside .same ∙ c .before .before .before .before .before .before .before .before .before .before .before .before .before .before .before .before .before .before .before .before .before .before .before .before .before .before .before .before .process-mutations .ensures .same
+same-length c =
+    let b10 = c .before .before .before .before .before .before .before .before .before .before in
+    let b18 = b10 .before .before .before .before .before .before .before .before in
+    let b28 = b18 .before .before .before .before .before .before .before .before .before .before in
+    b10 .put-effects .ensures .same
+    ∙ b18 .put-diagnostics .ensures .unmoved .aside .same
+    ∙ b28 .process-mutations .ensures .same
 
 -- src/lib.rt:40:1
 same-length-2 : tie.Need-same-length-2
@@ -60,7 +94,13 @@ same-length-2 c = search needs
 
 -- src/lib.rt:40:1
 returns : tie.Need-returns
-returns c = stages (c .before .before .before .before .before .before .before .before .before .before .before .before .before .before .before .before .before .before .before .before .before .before .before .before .before .before .before .before .process-mutations .ensures) (c .before .before .before .before .before .before .before .before .before .before .before .before .before .before .before .before .before .before .before .before .before .before .before .put-places .ensures) (c .before .before .before .before .before .before .before .before .before .before .before .before .before .before .before .before .before .before .put-diagnostics .ensures) (c .before .before .before .before .before .before .before .before .before .before .before .before .index .ensures) (c .before .before .before .before .before .before .before .before .before .before .put-effects .ensures) (c .before .before .put-walks .ensures)
+returns c =
+    let b10 = c .before .before .before .before .before .before .before .before .before .before in
+    let b12 = b10 .before .before in
+    let b18 = b12 .before .before .before .before .before .before in
+    let b23 = b18 .before .before .before .before .before in
+    let b28 = b23 .before .before .before .before .before in
+    stages (b28 .process-mutations .ensures) (b23 .put-places .ensures) (b18 .put-diagnostics .ensures) (b12 .index .ensures) (b10 .put-effects .ensures) (c .before .before .put-walks .ensures)
 
 pub put-answer-spec : {M : Type 1} → statement M
 put-answer-spec =

@@ -6,8 +6,8 @@ use Rattle.simulation.proofs.put_effects.Statement.{statement}
 use Rattle.simulation.proofs.put_effects.Tie as tie
 use Rattle.simulation.proofs.put_effects.Reads as reads
 use Rattle.simulation.proofs.put_effects.Lts as lts
-use Rattle.copies.proofs.effect_lists.copy_effects.Reads as copy-effects-reads
 use Rattle.copies.proofs.returns.put_create_returns.Reads as put-create-returns-reads
+use Rattle.simulation.proofs.put_copied.Reads as put-copied-reads
 use Rattle.simulation.proofs.simulate.Reads as simulate-reads
 use Rattle.summary.proofs.records.collect_effects.Reads as collect-effects-reads
 use Rattle.summary.proofs.tracked.mark_tracked.Reads as mark-tracked-reads
@@ -30,14 +30,14 @@ cast-context c =
 put-requires : tie.Need-put-requires
 put-requires c κs =
     let b7 = c .before .before .before .before .before .before .before in
-    omega (arith, b7 .pre .1 .1 .1)
+    omega (arith, b7 .pre .1 .1 .1 .1)
 
 -- src/lib.rt:98:9
-copy-effects-requires : tie.Need-copy-effects-requires
-copy-effects-requires c κs =
+put-copied-requires : tie.Need-put-copied-requires
+put-copied-requires c κs =
     let b3 = c .before .before .before in
     let b11 = b3 .before .before .before .before .before .before .before .before in
-    (b11 .pre .0 .count, omega (arith, b11 .pre .1 .1 .1, b3 .put .ensures .next))
+    (b11 .pre .0, (b11 .pre .1 .1 .1 .0, omega (arith, b11 .pre .1 .1 .1 .1, b3 .put .ensures .next)))
 
 -- src/lib.rt:108:9
 collect-effects-requires : tie.Need-collect-effects-requires
@@ -45,7 +45,7 @@ collect-effects-requires c κs =
     let b4 = c .before .before .before .before in
     let b8 = b4 .before .before .before .before in
     let b16 = b8 .before .before .before .before .before .before .before .before in
-    ((omega (arith, b16 .pre .0 .params, b16 .pre .0 .context), b16 .pre .1 .0 .size), omega (arith, b16 .pre .1 .1 .1, b16 .pre .0 .context, b8 .put .ensures .next, b4 .copy-effects .ensures .few))
+    ((omega (arith, b16 .pre .0 .params, b16 .pre .0 .context), b16 .pre .1 .0 .size), omega (arith, b16 .pre .1 .1 .1 .1, b16 .pre .0 .context, b8 .put .ensures .next, b4 .put-copied .ensures .few))
 
 -- src/lib.rt:109:9
 collect-effects-requires-2 : tie.Need-collect-effects-requires-2
@@ -54,7 +54,7 @@ collect-effects-requires-2 c κs =
     let b9 = b4 .before .before .before .before .before in
     let b13 = b9 .before .before .before .before in
     let b21 = b13 .before .before .before .before .before .before .before .before in
-    ((omega (arith, b21 .pre .0 .params), b21 .pre .1 .0 .size), omega (arith, b21 .pre .1 .1 .1, b21 .pre .0 .params, after-context _ _ _ (b21 .args .index) (b21 .pre .0) (b13 .put .ensures) (b9 .copy-effects .ensures) (b4 .collect-effects .ensures)))
+    ((omega (arith, b21 .pre .0 .params), b21 .pre .1 .0 .size), omega (arith, b21 .pre .1 .1 .1 .1, b21 .pre .0 .params, after-context _ _ _ (b21 .args .index) (b21 .pre .0) (b13 .put .ensures) (b9 .put-copied .ensures) (b4 .collect-effects .ensures)))
 
 -- src/lib.rt:110:9
 put-create-returns-requires : tie.Need-put-create-returns-requires
@@ -64,7 +64,7 @@ put-create-returns-requires c κs =
     let b13 = b8 .before .before .before .before .before in
     let b17 = b13 .before .before .before .before in
     let b25 = b17 .before .before .before .before .before .before .before .before in
-    omega (arith, b25 .pre .1 .1 .1, after-params _ _ _ (b25 .args .index) (b25 .pre .0) (b17 .put .ensures) (b13 .copy-effects .ensures) (b8 .collect-effects .ensures) (b3 .collect-effects2 .ensures))
+    omega (arith, b25 .pre .1 .1 .1 .1, after-params _ _ _ (b25 .args .index) (b25 .pre .0) (b17 .put .ensures) (b13 .put-copied .ensures) (b8 .collect-effects .ensures) (b3 .collect-effects2 .ensures))
 
 -- src/lib.rt:111:22
 add-mark-tracked : tie.Need-add-mark-tracked
@@ -100,7 +100,7 @@ simulate-requires c κs =
     let b22 = b17 .before .before .before .before .before in
     let b26 = b22 .before .before .before .before in
     let b34 = b26 .before .before .before .before .before .before .before .before in
-    (indexed-after (b34 .pre .1 .0) (b4 .mark-tracked .ensures), (some-marked _ _ _ _ (b34 .pre .0) (b26 .put .ensures) (b22 .copy-effects .ensures) (b17 .collect-effects .ensures) (b12 .collect-effects2 .ensures) (b34 .pre .1 .1 .0) (b8 .put-create-returns .ensures) (b4 .mark-tracked .ensures), (omega (arith, b34 .pre .0 .params, b34 .pre .0 .context), (b34 .pre .1 .1 .1 .0, omega (arith, b34 .pre .1 .1 .1, after-returns _ _ _ _ (b34 .pre .0) (b26 .put .ensures) (b22 .copy-effects .ensures) (b17 .collect-effects .ensures) (b12 .collect-effects2 .ensures) (b34 .pre .1 .1 .0) (b8 .put-create-returns .ensures))))))
+    (indexed-after (b34 .pre .1 .0) (b4 .mark-tracked .ensures), (some-marked _ _ _ _ (b34 .pre .0) (b26 .put .ensures) (b22 .put-copied .ensures) (b17 .collect-effects .ensures) (b12 .collect-effects2 .ensures) (b34 .pre .1 .1 .0) (b8 .put-create-returns .ensures) (b4 .mark-tracked .ensures), (omega (arith, b34 .pre .0 .params, b34 .pre .0 .context), (b34 .pre .1 .1 .1 .1 .0, omega (arith, b34 .pre .1 .1 .1 .1, after-returns _ _ _ _ (b34 .pre .0) (b26 .put .ensures) (b22 .put-copied .ensures) (b17 .collect-effects .ensures) (b12 .collect-effects2 .ensures) (b34 .pre .1 .1 .0) (b8 .put-create-returns .ensures))))))
 
 -- src/lib.rt:120:25
 sub-patch : tie.Need-sub-patch
@@ -113,7 +113,7 @@ sub-patch c =
     let b28 = b23 .before .before .before .before .before in
     let b32 = b28 .before .before .before .before in
     let b40 = b32 .before .before .before .before .before .before .before .before in
-    rises _ _ _ _ (b40 .pre .0) (b32 .put .ensures) (b28 .copy-effects .ensures) (b23 .collect-effects .ensures) (b18 .collect-effects2 .ensures) (b40 .pre .1 .1 .0) (b14 .put-create-returns .ensures) (b10 .mark-tracked .ensures) (b5 .simulate .ensures)
+    rises _ _ _ _ (b40 .pre .0) (b32 .put .ensures) (b28 .put-copied .ensures) (b23 .collect-effects .ensures) (b18 .collect-effects2 .ensures) (b40 .pre .1 .1 .0) (b14 .put-create-returns .ensures) (b10 .mark-tracked .ensures) (b5 .simulate .ensures)
 
 -- src/lib.rt:120:23
 cast-patch : tie.Need-cast-patch
@@ -126,7 +126,7 @@ cast-patch c =
     let b28 = b23 .before .before .before .before .before in
     let b32 = b28 .before .before .before .before in
     let b40 = b32 .before .before .before .before .before .before .before .before in
-    omega (arith, count-fits _ _ _ _ (b40 .pre .0) (b32 .put .ensures) (b28 .copy-effects .ensures) (b23 .collect-effects .ensures) (b18 .collect-effects2 .ensures) (b40 .pre .1 .1 .0) (b14 .put-create-returns .ensures) (b10 .mark-tracked .ensures) (b5 .simulate .ensures))
+    omega (arith, count-fits _ _ _ _ (b40 .pre .0) (b32 .put .ensures) (b28 .put-copied .ensures) (b23 .collect-effects .ensures) (b18 .collect-effects2 .ensures) (b40 .pre .1 .1 .0) (b14 .put-create-returns .ensures) (b10 .mark-tracked .ensures) (b5 .simulate .ensures))
 
 -- src/lib.rt:120:5
 patch-requires : tie.Need-patch-requires
@@ -153,7 +153,7 @@ same-length-2 c =
     ∙ b17 .put-create-returns .kept .1 .1 .1 .0
     ∙ b21 .collect-effects2 .kept .1 .1 .1 .0
     ∙ b26 .collect-effects .kept .1 .1 .1 .0
-    ∙ b31 .copy-effects .kept .1 .1 .1 .1 .1 .1 .0
+    ∙ b31 .put-copied .kept .1 .1 .1 .0
     ∙ b35 .put .kept .0
 
 -- src/lib.rt:80:1
@@ -167,7 +167,7 @@ returns c =
     let b31 = b26 .before .before .before .before .before in
     let b35 = b31 .before .before .before .before in
     let b43 = b35 .before .before .before .before .before .before .before .before in
-    effects-put _ _ _ _ (b43 .pre .0) (b35 .put .ensures) (b31 .copy-effects .ensures) (b26 .collect-effects .ensures) (b21 .collect-effects2 .ensures) (b43 .pre .1 .1 .0) (b17 .put-create-returns .ensures) (b13 .mark-tracked .ensures) (b8 .simulate .ensures) (c .before .before .patch .ensures)
+    effects-put _ _ _ _ (b43 .pre .0) (b35 .put .ensures) (b31 .put-copied .ensures) (b26 .collect-effects .ensures) (b21 .collect-effects2 .ensures) (b43 .pre .1 .1 .0) (b17 .put-create-returns .ensures) (b13 .mark-tracked .ensures) (b8 .simulate .ensures) (c .before .before .patch .ensures)
 
 pub put-effects-spec : {M : Type 1} → statement M
 put-effects-spec =
@@ -176,7 +176,7 @@ put-effects-spec =
     cast-params
     cast-context
     put-requires
-    copy-effects-requires
+    put-copied-requires
     collect-effects-requires
     collect-effects-requires-2
     put-create-returns-requires

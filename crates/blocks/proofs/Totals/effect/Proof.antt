@@ -50,6 +50,9 @@ render-requires c κs = search needs
 enum-told-4 : tie.Need-enum-told-4
 enum-told-4 c = search needs
 
+diagnosis-requires : tie.Need-diagnosis-requires
+diagnosis-requires c κs = search needs
+
 enum-told-5 : tie.Need-enum-told-5
 enum-told-5 c = search needs
 
@@ -90,11 +93,12 @@ returns-6 : tie.Need-returns-6
 unfolding tellKind
 returns-6 c =
     let b3 = c .before .before .before in
+    let b4 = b3 .before in
     rw (
-      b3 .if1 .left,
-      ← c .before .before .role-of .ensures,
-      c .enum-told4 .given .1,
-    )
+      b4 .if1 .left,
+      ← b3 .role-of .ensures,
+      c .before .enum-told4 .given .1,
+    ) (c .diagnosis .ensures)
 
 returns-7 : tie.Need-returns-7
 unfolding tellKind
@@ -122,6 +126,7 @@ effect-spec =
     enum-told-3
     render-requires
     enum-told-4
+    diagnosis-requires
     enum-told-5
     returns-3
     returns-4
