@@ -46,64 +46,44 @@ pub fn kind_of(number: u32) -> EffectKind
     }
 }
 
+// The totals by their fields. A copy that is changed in one would be stored in parts and read whole.
+fn totals(relations: u32, mutations: u32, renders: u32, diagnoses: u32) -> Totals
+    ensures { λ r. ⌜ totalsAre r ≡ record { relations = relations; mutations = mutations; renders = renders; diagnoses = diagnoses } ⌝ }
+{
+    Totals {
+        relations,
+        mutations,
+        renders,
+        diagnoses,
+    }
+}
+
 impl Totals {
     pub fn relation(self) -> Totals
         ensures { λ r. ⌜ totalsAre r ≡ withRelation (totalsAre self) ⌝ }
     {
-        let mutations = self.mutations;
-        let renders = self.renders;
-        let diagnoses = self.diagnoses;
         let relations = bump(self.relations, 1025);
-        Totals {
-            relations,
-            mutations,
-            renders,
-            diagnoses,
-        }
+        totals(relations, self.mutations, self.renders, self.diagnoses)
     }
 
     pub fn mutation(self) -> Totals
         ensures { λ r. ⌜ totalsAre r ≡ withMutation (totalsAre self) ⌝ }
     {
-        let relations = self.relations;
-        let renders = self.renders;
-        let diagnoses = self.diagnoses;
         let mutations = bump(self.mutations, 513);
-        Totals {
-            relations,
-            mutations,
-            renders,
-            diagnoses,
-        }
+        totals(self.relations, mutations, self.renders, self.diagnoses)
     }
 
     pub fn render(self) -> Totals
         ensures { λ r. ⌜ totalsAre r ≡ withRender (totalsAre self) ⌝ }
     {
-        let relations = self.relations;
-        let mutations = self.mutations;
-        let diagnoses = self.diagnoses;
         let renders = bump(self.renders, 257);
-        Totals {
-            relations,
-            mutations,
-            renders,
-            diagnoses,
-        }
+        totals(self.relations, self.mutations, renders, self.diagnoses)
     }
 
     pub fn diagnosis(self) -> Totals
         ensures { λ r. ⌜ totalsAre r ≡ withDiagnosis (totalsAre self) ⌝ }
     {
-        let relations = self.relations;
-        let mutations = self.mutations;
-        let renders = self.renders;
-        Totals {
-            relations,
-            mutations,
-            renders,
-            diagnoses: 1,
-        }
+        totals(self.relations, self.mutations, self.renders, 1)
     }
 
     // An effect of this kind, of an instruction or of a terminal.

@@ -18,7 +18,7 @@ use Rattle.model.specs.Indexes.{nodeEdgesBy, nodeEntriesBy, edgesBy, ent
 use Rattle.model.proofs.Steady.{each-keeps}
 
 module _ {A : Type 0} (f : A → ℕ) where
-  tally-append : (l k : List A) → tally f (l ++ k) ≡ tally f l + tally f k
+  pub tally-append : (l k : List A) → tally f (l ++ k) ≡ tally f l + tally f k
   tally-append [] k = omega arith
   tally-append (a ∷ l) k = omega (arith, tally-append l k)
 

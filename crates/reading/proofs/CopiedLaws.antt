@@ -3,7 +3,7 @@ use Prim.Native.Nat.{ℕ, zero, suc, _+_}
 use native.Mathlib.Omega.{arith}
 use mathlib.Core.Path.{_≡_, _∙_, refl, ap}
 use mathlib.Core.Bool.{Bool, true, false, _||_}
-use mathlib.Core.List.{List, [], _∷_, _++_}
+use mathlib.Core.List.{List, [], _∷_}
 use lib.Dec.{ltb}
 use borrow.Author.Tests.{lt-ltb}
 use Rattle.model.specs.Lists.{keep, consIf, gather, tally, oneIf}
@@ -12,18 +12,15 @@ use Rattle.model.specs.Effects.{Role, rowOf, isRender, isDiagnosis}
 use Rattle.model.specs.Totals.{instructionEffects, withRole, totals}
 use Rattle.model.specs.Summary.{copied}
 use Rattle.model.specs.Call.{read, IsSheet}
+use Rattle.model.proofs.Stored.{tally-append}
 use Rattle.blocks.specs.Judging.{Told}
 use Rattle.reading.specs.Whole.{diagnoses, told, acceptance, judgementOf}
 use Rattle.reading.proofs.Accepted.{accepted-told}
 
 module _ {A B : Type 0} (f : B → ℕ) (g : A → List B) where
-  tally-append : (l k : List B) → tally f (l ++ k) ≡ tally f l + tally f k
-  tally-append [] k = omega arith
-  tally-append (b ∷ l) k = omega (arith, tally-append l k)
-
   tally-gather : (l : List A) → tally f (gather g l) ≡ tally (λ (a : A). tally f (g a)) l
   tally-gather [] = refl
-  tally-gather (a ∷ l) = omega (arith, tally-append (g a) (gather g l), tally-gather l)
+  tally-gather (a ∷ l) = omega (arith, tally-append f (g a) (gather g l), tally-gather l)
 
 module _ {A : Type 0} (p q : A → Bool) where
   none-kept : (l : List A) → tally (λ (a : A). oneIf (p a)) l ≡ 0 → tally (λ (a : A). oneIf (q a)) l ≡ 0 → keep (λ (a : A). p a || q a) l ≡ []

@@ -6,9 +6,12 @@ use Rattle.blocks.proofs.Totals.mutation.Tie as tie
 bump-requires : tie.Need-bump-requires
 bump-requires c κs = search needs
 
+totals-requires : tie.Need-totals-requires
+totals-requires c κs = search needs
+
 returns : tie.Need-returns
 unfolding withMutation
-returns c = rw (c .bump .ensures)
+returns c = rw (c .totals .ensures, c .before .bump .ensures)
 
 pub mutation-spec : {M : Type 1} → statement M
-mutation-spec = tie.close (tie.spec bump-requires returns)
+mutation-spec = tie.close (tie.spec bump-requires totals-requires returns)

@@ -6,9 +6,12 @@ use Rattle.blocks.proofs.Totals.relation.Tie as tie
 bump-requires : tie.Need-bump-requires
 bump-requires c κs = search needs
 
+totals-requires : tie.Need-totals-requires
+totals-requires c κs = search needs
+
 returns : tie.Need-returns
 unfolding withRelation
-returns c = rw (c .bump .ensures)
+returns c = rw (c .totals .ensures, c .before .bump .ensures)
 
 pub relation-spec : {M : Type 1} → statement M
-relation-spec = tie.close (tie.spec bump-requires returns)
+relation-spec = tie.close (tie.spec bump-requires totals-requires returns)

@@ -6,9 +6,12 @@ use Rattle.blocks.proofs.Totals.render.Tie as tie
 bump-requires : tie.Need-bump-requires
 bump-requires c κs = search needs
 
+totals-requires : tie.Need-totals-requires
+totals-requires c κs = search needs
+
 returns : tie.Need-returns
 unfolding withRender
-returns c = rw (c .bump .ensures)
+returns c = rw (c .totals .ensures, c .before .bump .ensures)
 
 pub render-spec : {M : Type 1} → statement M
-render-spec = tie.close (tie.spec bump-requires returns)
+render-spec = tie.close (tie.spec bump-requires totals-requires returns)
