@@ -71,7 +71,7 @@ start-item m e h is =
 module _ (ws : List ℕ) (hand : ℕ) (m : CodeMutation) (base : ℕ) (indexed : Indexed ws) (handing : Handing ws hand) (callable : Callable m)
     (new : (base ≤ 4096) × NoneAbove base ws) (e : ℕ) (ent : e ≡ entryW (m .start .0) (bit (m .transitive)) 0 (kindBit (m .kind))) where
   abbrev first-words : List ℕ
-  first-words = set ws 9218 e
+  first-words = set ws 8528 e
 
   b : Entered ws e first-words
   b = entered ws indexed e
@@ -79,17 +79,17 @@ module _ (ws : List ℕ) (hand : ℕ) (m : CodeMutation) (base : ℕ) (indexed :
   start-marked : NoneAbove base first-words
   start-marked = above-as (b .marks) (new .1)
 
-  first-fits : 9219 + phi (levels base (seenOf first-words)) (rowsOf first-words) 512 ≤ 13315
+  first-fits : 8529 + phi (levels base (seenOf first-words)) (rowsOf first-words) 512 ≤ 13315
   first-fits = omega (arith, phi-bound (levels base (seenOf first-words)) (rowsOf first-words) (b .good))
 
-  queue-is : queueOf (slice 9218 9219 first-words) ≡ startItem (mutationSays m) ∷ []
+  queue-is : queueOf (slice 8528 8529 first-words) ≡ startItem (mutationSays m) ∷ []
   unfolding queueOf
   queue-is = ap queueOf (b .entry) ∙ ap (λ (i : Item). i ∷ []) (start-item m e (callable .start) ent)
 
-  shows-start : Shows base first-words 9219 hand (start (mutationSays m) (stateOf ws hand))
+  shows-start : Shows base first-words 8529 hand (start (mutationSays m) (stateOf ws hand))
   shows-start = record { queue = queue-is; seen = levels-none base first-words start-marked ∙ levels-long ws hand; state = b .state hand (handing .low) }
 
-  pub start-ready : Ready base first-words 9219 hand
+  pub start-ready : Ready base first-words 8529 hand
   start-ready = record {
     size = b .size;
     low = omega arith;
@@ -100,19 +100,19 @@ module _ (ws : List ℕ) (hand : ℕ) (m : CodeMutation) (base : ℕ) (indexed :
     handing = record { low = handing .low; room = omega (arith, handing .room, ap (λ (ns : List ℕ). bare (recordsOf ns)) (b .nodes)) };
   }
 
-  pub walked-is : (ws′ : List ℕ) (count hand′ : ℕ) → Walked m base first-words 9219 hand ws′ count hand′ → Mutated m ws hand ws′ count hand′
+  pub walked-is : (ws′ : List ℕ) (count hand′ : ℕ) → Walked m base first-words 8529 hand ws′ count hand′ → Mutated m ws hand ws′ count hand′
   unfolding queueOf enough walkOf
   walked-is ws′ count hand′ w =
       let first : Walk = start (mutationSays m) (stateOf ws hand) in
       let done = w .follows first shows-start in
       let same : run (modeSays m) (mutationSays m) count first ≡ mutate (modeSays m) (mutationSays m) (stateOf ws hand) =
-      at-rest (modeSays m) (mutationSays m) (stateOf ws hand) count (sym (done .queue) ∙ ap queueOf (slice-empty 9218 ws′)) in
+      at-rest (modeSays m) (mutationSays m) (stateOf ws hand) count (sym (done .queue) ∙ ap queueOf (slice-empty 8528 ws′)) in
       let counted : run (modeSays m) (mutationSays m) count first .taken ≡ 0 + count = w .counts first shows-start in
       record {
         state = done .state ∙ ap (λ (v : Walk). v .state) same;
         counts = omega (arith, counted, ap (λ (v : Walk). v .taken) same);
         few = omega (arith, counted, walk-enough (modeSays m) count (stateOf ws hand) (mutationSays m));
-        most = omega (arith, w .few, first-fits);
+        most = omega (arith, w .few, phi-bound (levels base (seenOf first-words)) (rowsOf first-words) (b .good));
         handing = w .ready .handing;
         aside = aside-then (b .aside) (w .aside);
       }

@@ -19,7 +19,7 @@ nodesOf ws = take SEEN ws
 
 -- the marks of the walks: at which level each identifier was accepted, or found missing
 unfoldable pub seenOf : List ℕ → List ℕ
-seenOf ws = slice SEEN VALUE ws
+seenOf ws = slice SEEN (SEEN + 512) ws
 
 -- the levels of the walk whose marks count from `base` on: a mark that is no higher is an earlier walk's, and none
 unfoldable pub levels : ℕ → List ℕ → List ℕ

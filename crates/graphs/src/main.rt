@@ -285,7 +285,7 @@ fn graph(graph: &[u32], ws: &mut [u32]) -> Tally
         return one_graph(0, 0, 1);
     }
     let identifiers = count_at(graph, ends);
-    rows::clear(ws, RECORD, 3584);
+    rows::clear(ws, RECORD, 2624);
     put_ends(graph, ends + 1, identifiers, ws);
     let p = steps::lay_out_steps(&graph[1..ends], ws);
     walks(

@@ -150,7 +150,7 @@ module _ (ws : List ℕ) (size : LEAST ≤ length ws) (good : Good (rowsOf ws)) 
         few = good .f-top (k + 1) (omega (arith, few));
       }
 
-pub rows-length : (ws : List ℕ) → LEAST ≤ length ws → length (rowsOf ws) ≡ 5122
+pub rows-length : (ws : List ℕ) → LEAST ≤ length ws → length (rowsOf ws) ≡ 5328
 unfolding rowsOf
 rows-length ws h = length-slice VALUE QUEUE ws (omega arith)
 

@@ -1,4 +1,6 @@
 -- The lent workspace: where each part of it begins. The parts stand in the order in which they are named here.
+-- The words left between them keep apart, modulo 1,024, what a walk writes of the first 64 identifiers from what it reads: a load that has the last twelve bits of
+-- its address in common with an earlier store waits for that store.
 use Prim.Native.Nat.{ℕ}
 
 -- the words that a workspace has at least
@@ -18,55 +20,55 @@ LSPAN = 512
 abbrev pub TSPAN : ℕ
 TSPAN = 1536
 
--- the end of the range, after 1,024 words that are not used
+-- the end of the range, after 64 words that are not used
 abbrev pub END : ℕ
-END = 3072
+END = 2112
 
 -- what the walk under way has taken, 512 words; while building, the numbers of the blocks that have come
 abbrev pub SEEN : ℕ
-SEEN = 3584
+SEEN = 2624
 
--- the rows of the graph, from here up to QUEUE: the values, 512 words (0 no node, 1 object, 2 phi, 3 + k function k)
+-- the rows of the graph, from here up to QUEUE, after 64 words that are not used: the values, 512 words (0 no node, 1 object, 2 phi, 3 + k function k)
 abbrev pub VALUE : ℕ
-VALUE = 4096
+VALUE = 3200
 
 -- the bounds of each node's forward edges, 513 words, written up to the last node's: how many edges there are from this node on
 abbrev pub FBOUND : ℕ
-FBOUND = 4608
+FBOUND = 3712
 
 -- the forward edges, 1,024 words
 abbrev pub FEDGE : ℕ
-FEDGE = 5121
+FEDGE = 4225
 
 -- the bounds of each node's four lists of entries, 2,049 words, written up to the last node's: how many entries there are from this list on
 abbrev pub BBOUND : ℕ
-BBOUND = 6145
+BBOUND = 5249
 
 -- the entries, 1,024 words
 abbrev pub BENTRY : ℕ
-BENTRY = 8194
+BENTRY = 7298
 
--- the queue of a walk, 4,097 words
+-- the queue of a walk, 4,097 words, after 206 words that are not used
 abbrev pub QUEUE : ℕ
-QUEUE = 9218
+QUEUE = 8528
 
 -- while building, in the queue's words: the log of forward edges, 1,024 words
 abbrev pub EDGES : ℕ
-EDGES = 9218
+EDGES = 8528
 
 -- the log of entries, 1,024 words
 abbrev pub ENTRIES : ℕ
-ENTRIES = 10242
+ENTRIES = 9552
 
 -- the predecessors that phi operands wait for, 1,024 words
 abbrev pub PREDS : ℕ
-PREDS = 11266
+PREDS = 10576
 
 -- the relations of those operands, 1,024 words
 abbrev pub RELATIONS : ℕ
-RELATIONS = 12290
+RELATIONS = 11600
 
--- the functions whose diagnostics are handed over, 512 words
+-- the functions whose diagnostics are handed over, 512 words, after 690 words that are not used
 abbrev pub HANDED : ℕ
 HANDED = 13315
 
