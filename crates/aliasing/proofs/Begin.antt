@@ -29,21 +29,21 @@ pub record Unmarked (ws l : List ℕ) : Type 0 where
   pub state : (hand : ℕ) → 13315 ≤ hand → stateOf l hand ≡ stateOf ws hand
   pub aside : Aside ws l
 
-clear-seen : (ws : List ℕ) (n : ℕ) → 3584 + n ≡ 4096 → 16384 ≤ length ws → seenOf (clearW ws 3584 n) ≡ replicate n 0
+clear-seen : (ws : List ℕ) (n : ℕ) → 2624 + n ≡ 3136 → 16384 ≤ length ws → seenOf (clearW ws 2624 n) ≡ replicate n 0
 unfolding clearW seenOf
-clear-seen ws n is size = slice-sets (replicate n 0) ws 3584 4096 (ap (λ (k : ℕ). 3584 + k) (length-replicate n 0) ∙ is) (omega arith)
+clear-seen ws n is size = slice-sets (replicate n 0) ws 2624 3136 (ap (λ (k : ℕ). 2624 + k) (length-replicate n 0) ∙ is) (omega arith)
 
-pub unmarked : (ws : List ℕ) → Indexed ws → (l : List ℕ) → l ≡ clearW ws 3584 512 → Unmarked ws l
+pub unmarked : (ws : List ℕ) → Indexed ws → (l : List ℕ) → l ≡ clearW ws 2624 512 → Unmarked ws l
 unmarked ws indexed l is = record {
   indexed = record { size = omega (arith, cleared .same, indexed .size); good = subst Good (sym rows-is) (indexed .good) };
   marks = ap seenOf is ∙ clear-seen ws 512 refl (indexed .size);
   nodes = nodes-below cleared (omega arith);
   state = λ hand h. state-same ws l hand hand rows-is (nodes-below cleared (omega arith)) (slice-above cleared 13315 hand (omega arith) h);
-  aside = record { graph = rows-is; behind = drop-more 4096 13827 l ws (omega arith) (cleared .high); same = cleared .same };
+  aside = record { graph = rows-is; behind = drop-more 3136 13827 l ws (omega arith) (cleared .high); same = cleared .same };
 }
   where
-    cleared : Kept 3584 4096 ws l
-    cleared = subst (Kept 3584 4096 ws) (sym is) (kept-clear ws 3584 512)
+    cleared : Kept 2624 3136 ws l
+    cleared = subst (Kept 2624 3136 ws) (sym is) (kept-clear ws 2624 512)
 
     rows-is : rowsOf l ≡ rowsOf ws
     rows-is = rows-above cleared (omega arith)
@@ -56,26 +56,26 @@ pub record Entered (ws : List ℕ) (e : ℕ) (l : List ℕ) : Type 0 where
   pub size : 16384 ≤ length l
   pub nodes : nodesOf l ≡ nodesOf ws
   pub marks : seenOf l ≡ seenOf ws
-  pub entry : slice 9218 9219 l ≡ e ∷ []
+  pub entry : slice 8528 8529 l ≡ e ∷ []
   pub good : Good (rowsOf l)
   pub state : (hand : ℕ) → 13315 ≤ hand → stateOf l hand ≡ stateOf ws hand
   pub aside : Aside ws l
 
-pub entered : (ws : List ℕ) → Indexed ws → (e : ℕ) → Entered ws e (set ws 9218 e)
+pub entered : (ws : List ℕ) → Indexed ws → (e : ℕ) → Entered ws e (set ws 8528 e)
 entered ws indexed e = record {
-  size = omega (arith, length-set ws 9218 e, indexed .size);
+  size = omega (arith, length-set ws 8528 e, indexed .size);
   nodes = nodes-below there (omega arith);
   marks = seen-below there (omega arith);
-  entry = slice-sets (e ∷ []) ws 9218 9219 refl (omega (arith, indexed .size));
+  entry = slice-sets (e ∷ []) ws 8528 8529 refl (omega (arith, indexed .size));
   good = subst Good (sym rows-is) (indexed .good);
-  state = λ hand h. state-same ws (set ws 9218 e) hand hand rows-is (nodes-below there (omega arith)) (slice-above there 13315 hand (omega arith) h);
-  aside = record { graph = rows-is; behind = drop-more 9219 13827 (set ws 9218 e) ws (omega arith) (there .high); same = length-set ws 9218 e };
+  state = λ hand h. state-same ws (set ws 8528 e) hand hand rows-is (nodes-below there (omega arith)) (slice-above there 13315 hand (omega arith) h);
+  aside = record { graph = rows-is; behind = drop-more 8529 13827 (set ws 8528 e) ws (omega arith) (there .high); same = length-set ws 8528 e };
 }
   where
-    there : Kept 9218 9219 ws (set ws 9218 e)
-    there = kept-set (kept-none 9218 9219 ws) 9218 e (omega arith) (omega arith)
+    there : Kept 8528 8529 ws (set ws 8528 e)
+    there = kept-set (kept-none 8528 8529 ws) 8528 e (omega arith) (omega arith)
 
-    rows-is : rowsOf (set ws 9218 e) ≡ rowsOf ws
+    rows-is : rowsOf (set ws 8528 e) ≡ rowsOf ws
     rows-is = rows-below there (omega arith)
 
 -- ---- l is ws with the marks cleared and the entry e in the queue
@@ -83,23 +83,23 @@ pub record Begun (ws : List ℕ) (e : ℕ) (l : List ℕ) : Type 0 where
   pub size : 16384 ≤ length l
   pub nodes : nodesOf l ≡ nodesOf ws
   pub levels : (hand : ℕ) → seenOf l ≡ replicate (length (stateOf ws hand .graph)) 0
-  pub entry : slice 9218 9219 l ≡ e ∷ []
+  pub entry : slice 8528 8529 l ≡ e ∷ []
   pub good : Good (rowsOf l)
-  pub fits : 9219 + phi (seenOf l) (rowsOf l) 512 ≤ 13315
+  pub fits : 8529 + phi (seenOf l) (rowsOf l) 512 ≤ 13315
   pub state : (hand : ℕ) → 13315 ≤ hand → stateOf l hand ≡ stateOf ws hand
   pub aside : Aside ws l
 
-pub begun : (ws : List ℕ) → Indexed ws → (l : List ℕ) → l ≡ clearW ws 3584 512 → (e : ℕ) → Begun ws e (set l 9218 e)
+pub begun : (ws : List ℕ) → Indexed ws → (l : List ℕ) → l ≡ clearW ws 2624 512 → (e : ℕ) → Begun ws e (set l 8528 e)
 begun ws indexed l is e =
     let u : Unmarked ws l = unmarked ws indexed l is in
-    let n : Entered l e (set l 9218 e) = entered l (u .indexed) e in
+    let n : Entered l e (set l 8528 e) = entered l (u .indexed) e in
     record {
       size = n .size;
       nodes = n .nodes ∙ u .nodes;
       levels = λ hand. n .marks ∙ u .marks ∙ levels-long ws hand;
       entry = n .entry;
       good = n .good;
-      fits = omega (arith, phi-bound (seenOf (set l 9218 e)) (rowsOf (set l 9218 e)) (n .good));
+      fits = omega (arith, phi-bound (seenOf (set l 8528 e)) (rowsOf (set l 8528 e)) (n .good));
       state = λ hand h. n .state hand h ∙ u .state hand h;
       aside = aside-then (u .aside) (n .aside);
     }

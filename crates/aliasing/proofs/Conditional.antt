@@ -73,9 +73,9 @@ step-conditional how m (e ∷ q) w is p = visit-conditional how m (fresh (w .see
 -- and so does the code's
 pub stepped-conditional : (m : CodeMutation) (base : ℕ) (ws : List ℕ) (top hand : ℕ) (ws′ : List ℕ) (top′ hand′ : ℕ) → AllConditional ws top → Stepped m base ws top hand ws′ top′ hand′ → AllConditional ws′ top′
 stepped-conditional m base ws top hand ws′ top′ hand′ all s =
-    let w : Walk = record { queue = queueOf (slice 9218 top ws); seen = levels base (seenOf ws); accepted = []; taken = 0; state = stateOf ws hand } in
+    let w : Walk = record { queue = queueOf (slice 8528 top ws); seen = levels base (seenOf ws); accepted = []; taken = 0; state = stateOf ws hand } in
     record {
-      each = subst (Every TransitiveConditional) (sym (s .follows w (record { queue = refl; seen = refl; state = refl }) .queue)) (step-conditional (modeSays m) (mutationSays m) (queueOf (slice 9218 top ws)) w refl (all .each));
+      each = subst (Every TransitiveConditional) (sym (s .follows w (record { queue = refl; seen = refl; state = refl }) .queue)) (step-conditional (modeSays m) (mutationSays m) (queueOf (slice 8528 top ws)) w refl (all .each));
     }
 
 -- ---- one such entry taken
@@ -83,7 +83,7 @@ kind-zero : (k : ℕ) → kindOf k ≡ conditional → k ≡ 0
 kind-zero zero e = refl
 kind-zero (suc k) e = absurd (omega (arith, ap level e))
 
-module _ (m : CodeMutation) (base : ℕ) (ws : List ℕ) (top hand : ℕ) (ready : Ready base ws top hand) (callable : Callable m) (more : (9218 < top) × AllConditional ws top) where
+module _ (m : CodeMutation) (base : ℕ) (ws : List ℕ) (top hand : ℕ) (ready : Ready base ws top hand) (callable : Callable m) (more : (8528 < top) × AllConditional ws top) where
   first : TransitiveConditional (itemOf (last ws top))
   first = subst (Every TransitiveConditional) (queue-head ws top (more .0) (omega (arith, ready .fits, ready .size))) (more .1 .each) .0
 
@@ -95,33 +95,33 @@ module _ (m : CodeMutation) (base : ℕ) (ws : List ℕ) (top hand : ℕ) (ready
   unfolding itemOf
   is-transitive = eqb-true (transitiveAt ws top) 1 (first .0)
 
-  pub conditional-seen : base < getD ws (3584 + placeAt ws top) 0 → Stepped m base ws top hand ws (top - 1) hand
+  pub conditional-seen : base < getD ws (2624 + placeAt ws top) 0 → Stepped m base ws top hand ws (top - 1) hand
   conditional-seen seen = step-seen m base ws top hand ready callable (more .0) (omega (arith, seen, is-conditional))
 
-  module _ (unseen : getD ws (3584 + placeAt ws top) 0 ≤ base) where
+  module _ (unseen : getD ws (2624 + placeAt ws top) 0 ≤ base) where
     abbrev marked : List ℕ
-    marked = set ws (3584 + placeAt ws top) (base + 1)
+    marked = set ws (2624 + placeAt ws top) (base + 1)
 
-    lower : getD ws (3584 + placeAt ws top) 0 ≤ base + kindAt ws top
+    lower : getD ws (2624 + placeAt ws top) 0 ≤ base + kindAt ws top
     lower = omega (arith, unseen)
 
     level-is : base + 1 ≡ base + kindAt ws top + 1
     level-is = omega (arith, is-conditional)
 
-    mark-is : marked ≡ set ws (3584 + placeAt ws top) (base + kindAt ws top + 1)
-    mark-is = ap (set ws (3584 + placeAt ws top)) level-is
+    mark-is : marked ≡ set ws (2624 + placeAt ws top) (base + kindAt ws top + 1)
+    mark-is = ap (set ws (2624 + placeAt ws top)) level-is
 
-    value-is : getD marked (4096 + placeAt ws top) 0 ≡ getD (set ws (3584 + placeAt ws top) (base + kindAt ws top + 1)) (4096 + placeAt ws top) 0
-    value-is = ap (λ (l : List ℕ). getD l (4096 + placeAt ws top) 0) mark-is
+    value-is : getD marked (3200 + placeAt ws top) 0 ≡ getD (set ws (2624 + placeAt ws top) (base + kindAt ws top + 1)) (3200 + placeAt ws top) 0
+    value-is = ap (λ (l : List ℕ). getD l (3200 + placeAt ws top) 0) mark-is
 
-    pub conditional-missing : getD marked (4096 + placeAt ws top) 0 ≡ 0 → Stepped m base ws top hand marked (top - 1) hand
+    pub conditional-missing : getD marked (3200 + placeAt ws top) 0 ≡ 0 → Stepped m base ws top hand marked (top - 1) hand
     conditional-missing gone = subst (λ (l : List ℕ). Stepped m base ws top hand l (top - 1) hand) (sym mark-is) (step-missing m base ws top hand ready callable (more .0) lower (sym value-is ∙ gone))
 
-    module _ (wsH : List ℕ) (h : ℕ) (ph : Pushed marked hand (handW marked (getD marked (4096 + placeAt ws top) 0) (placeAt ws top) (m .«should_record_errors»)) wsH h)
+    module _ (wsH : List ℕ) (h : ℕ) (ph : Pushed marked hand (handW marked (getD marked (3200 + placeAt ws top) 0) (placeAt ws top) (m .«should_record_errors»)) wsH h)
         (ws₂ : List ℕ) (is₂ : ws₂ ≡ acceptW wsH (placeAt ws top) 1 1 m) where
-      handed : Pushed (set ws (3584 + placeAt ws top) (base + kindAt ws top + 1)) hand
-          (handW (set ws (3584 + placeAt ws top) (base + kindAt ws top + 1)) (getD (set ws (3584 + placeAt ws top) (base + kindAt ws top + 1)) (4096 + placeAt ws top) 0) (placeAt ws top) (m .«should_record_errors»)) wsH h
-      handed = subst (λ (l : List ℕ). Pushed l hand (handW l (getD l (4096 + placeAt ws top) 0) (placeAt ws top) (m .«should_record_errors»)) wsH h) mark-is ph
+      handed : Pushed (set ws (2624 + placeAt ws top) (base + kindAt ws top + 1)) hand
+          (handW (set ws (2624 + placeAt ws top) (base + kindAt ws top + 1)) (getD (set ws (2624 + placeAt ws top) (base + kindAt ws top + 1)) (3200 + placeAt ws top) 0) (placeAt ws top) (m .«should_record_errors»)) wsH h
+      handed = subst (λ (l : List ℕ). Pushed l hand (handW l (getD l (3200 + placeAt ws top) 0) (placeAt ws top) (m .«should_record_errors»)) wsH h) mark-is ph
 
       accepted : ws₂ ≡ acceptW wsH (placeAt ws top) (transitiveAt ws top) (kindAt ws top + 1) m
       accepted = is₂ ∙ sym (rw (is-transitive, is-conditional))
@@ -129,7 +129,7 @@ module _ (m : CodeMutation) (base : ℕ) (ws : List ℕ) (top hand : ℕ) (ready
       pub conditional-room : Room ws₂ (top - 1) (deg (rowsOf ws₂) (placeAt ws top))
       conditional-room = step-room m base ws top hand ready callable (more .0) lower wsH h handed ws₂ accepted
 
-      module _ (there : getD marked (4096 + placeAt ws top) 0 ≡ 0 → ⊥) where
+      module _ (there : getD marked (3200 + placeAt ws top) 0 ≡ 0 → ⊥) where
         pub conditional-used : placeAt ws top < used (rowsOf ws₂)
         conditional-used = step-used m base ws top hand ready callable (more .0) lower wsH h handed ws₂ accepted (λ z. there (value-is ∙ z))
 

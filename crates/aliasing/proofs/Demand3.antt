@@ -18,13 +18,13 @@ use Rattle.aliasing.specs.Pending.{Processed}
 use Rattle.aliasing.specs.Demand3.{EndsOf}
 
 -- the ends of the state are the words of the ends
-pub state-ends : (ws : List ℕ) (hand : ℕ) → stateOf ws hand .ends ≡ slice 3072 3584 ws
+pub state-ends : (ws : List ℕ) (hand : ℕ) → stateOf ws hand .ends ≡ slice 2112 2624 ws
 unfolding stateOf endsOf nodesOf
-state-ends ws hand = ap (drop 3072) (take-take 3584 3584 ws (omega arith))
+state-ends ws hand = ap (drop 2112) (take-take 2624 2624 ws (omega arith))
 
 pub process-demand3 : (s : Sheet) (ws : List ℕ) (count : ℕ) (ws′ : List ℕ) (hand : ℕ) → stateOf ws HANDED ≡ built s → Processed (errors s) ws count ws′ hand → EndsOf s (mutationsOf ws count) ws′
 process-demand3 s ws count ws′ hand is p =
-    let ends : slice 3072 3584 ws′ ≡ after (how s) (mutationsOf ws count) (built s) .ends =
+    let ends : slice 2112 2624 ws′ ≡ after (how s) (mutationsOf ws count) (built s) .ends =
     sym (state-ends ws′ hand) ∙ ap (λ (t : State). t .ends) (p .state ∙ ap (after (how s) (mutationsOf ws count)) is) in
     record {
       claim = demand3 s (mutationsOf ws count);

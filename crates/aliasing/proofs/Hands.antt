@@ -51,9 +51,9 @@ handed-is ns v x m hx callable =
     ∙ ap (λ (r : Record). listIf (recordsErrors (modeOf (m .end .0) (m .«should_record_errors»)) && not (hasRecord r)) (functionOf (valueOf v))) (sym (tab-at 512 (recordAt ns) x noRecord hx))
 
 -- it looks at the node fields alone
-pub hand-same : (ws : List ℕ) (v x : ℕ) (errors : Bool) → x < 512 → handW ws v x errors ≡ handW (take 3584 ws) v x errors
+pub hand-same : (ws : List ℕ) (v x : ℕ) (errors : Bool) → x < 512 → handW ws v x errors ≡ handW (take 2624 ws) v x errors
 unfolding handW
-hand-same ws v x errors h = ap (λ (w : ℕ). pick errors (pick (eqb (w % 16) 0) (functionW v) []) []) (sym (getD-take 3584 ws (0 + x) 0 (omega arith)))
+hand-same ws v x errors h = ap (λ (w : ℕ). pick errors (pick (eqb (w % 16) 0) (functionW v) []) []) (sym (getD-take 2624 ws (0 + x) 0 (omega arith)))
 
 -- ---- the room
 pub bare-top : (rs : List Record) → bare rs ≤ length rs

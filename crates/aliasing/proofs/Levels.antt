@@ -38,7 +38,7 @@ above-as e m = record { marks = λ x h. omega (arith, m .marks x h, ap (λ (l : 
 pub above-more : {most more : ℕ} {ws : List ℕ} → most ≤ more → NoneAbove most ws → NoneAbove more ws
 above-more q m = record { marks = λ x h. omega (arith, m .marks x h) }
 
-pub above-set : {most : ℕ} (ws : List ℕ) (x v : ℕ) → 16384 ≤ length ws → x < 512 → v ≤ most → NoneAbove most ws → NoneAbove most (set ws (3584 + x) v)
+pub above-set : {most : ℕ} (ws : List ℕ) (x v : ℕ) → 16384 ≤ length ws → x < 512 → v ≤ most → NoneAbove most ws → NoneAbove most (set ws (2624 + x) v)
 above-set {most} ws x v size h q m = record { marks = λ y l. omega (arith, ap (λ (s : List ℕ). getD s y 0) (mark-seen ws x v h), here y l (ℕ-discrete y x)) }
   where
     here : (y : ℕ) → y < 512 → Dec (y ≡ x) → getD (set (seenOf ws) x v) y 0 ≤ most

@@ -17,8 +17,8 @@ use Rattle.aliasing.specs.State.{nodesOf, recordIn, recordAt, recordsOf,
 abbrev pub Bare : List ℕ → Type 0
 Bare ws = (x : ℕ) → x < 512 → getD ws (RECORD + x) 0 ≡ 0
 
-bare-nodes : (ws : List ℕ) → Bare ws → Bare (take 3584 ws)
-bare-nodes ws z x h = getD-take 3584 ws (0 + x) 0 (omega arith) ∙ z x h
+bare-nodes : (ws : List ℕ) → Bare ws → Bare (take 2624 ws)
+bare-nodes ws z x h = getD-take 2624 ws (0 + x) 0 (omega arith) ∙ z x h
 
 no-record : (ns : List ℕ) → Bare ns → (x : ℕ) → x < 512 → recordAt ns x ≡ noRecord
 unfolding recordAt
@@ -36,7 +36,7 @@ pub state-new : (ws : List ℕ) (g : Graph) (ends : List ℕ) → graphOfRows (r
 unfolding stateOf endsOf nodesOf
 state-new ws g ends p z q = λ j. record {
   graph = p j;
-  records = no-records (take 3584 ws) (bare-nodes ws z) j;
-  ends = (ap (drop 3072) (take-take 3584 3584 ws (omega arith)) ∙ q) j;
+  records = no-records (take 2624 ws) (bare-nodes ws z) j;
+  ends = (ap (drop 2112) (take-take 2624 2624 ws (omega arith)) ∙ q) j;
   handed = slice-empty 13315 ws j;
 }

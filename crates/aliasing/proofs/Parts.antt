@@ -19,50 +19,50 @@ module _ {b e : ℕ} {ws ws′ : List ℕ} (k : Kept b e ws ws′) where
   pub slice-above : (f t : ℕ) → e ≤ f → f ≤ t → slice f t ws′ ≡ slice f t ws
   slice-above f t h q = slice-drop e f t ws′ ws h q (k .high)
 
-  pub nodes-below : 3584 ≤ b → nodesOf ws′ ≡ nodesOf ws
+  pub nodes-below : 2624 ≤ b → nodesOf ws′ ≡ nodesOf ws
   unfolding nodesOf
-  nodes-below h = take-less 3584 b ws′ ws h (k .low)
+  nodes-below h = take-less 2624 b ws′ ws h (k .low)
 
-  pub seen-below : 4096 ≤ b → seenOf ws′ ≡ seenOf ws
+  pub seen-below : 3136 ≤ b → seenOf ws′ ≡ seenOf ws
   unfolding seenOf
-  seen-below h = slice-below 3584 4096 h
+  seen-below h = slice-below 2624 3136 h
 
-  pub seen-above : e ≤ 3584 → seenOf ws′ ≡ seenOf ws
+  pub seen-above : e ≤ 2624 → seenOf ws′ ≡ seenOf ws
   unfolding seenOf
-  seen-above h = slice-above 3584 4096 h (omega arith)
+  seen-above h = slice-above 2624 3136 h (omega arith)
 
-  pub rows-below : 9218 ≤ b → rowsOf ws′ ≡ rowsOf ws
+  pub rows-below : 8528 ≤ b → rowsOf ws′ ≡ rowsOf ws
   unfolding rowsOf
-  rows-below h = slice-below 4096 9218 h
+  rows-below h = slice-below 3200 8528 h
 
-  pub rows-above : e ≤ 4096 → rowsOf ws′ ≡ rowsOf ws
+  pub rows-above : e ≤ 3200 → rowsOf ws′ ≡ rowsOf ws
   unfolding rowsOf
-  rows-above h = slice-above 4096 9218 h (omega arith)
+  rows-above h = slice-above 3200 8528 h (omega arith)
 
 -- ---- a level
-pub mark-kept : (ws : List ℕ) (x l : ℕ) → x < 512 → Kept 3584 4096 ws (set ws (3584 + x) l)
-mark-kept ws x l h = kept-set (kept-none 3584 4096 ws) (3584 + x) l (omega arith) (omega arith)
+pub mark-kept : (ws : List ℕ) (x l : ℕ) → x < 512 → Kept 2624 3136 ws (set ws (2624 + x) l)
+mark-kept ws x l h = kept-set (kept-none 2624 3136 ws) (2624 + x) l (omega arith) (omega arith)
 
-pub mark-seen : (ws : List ℕ) (x l : ℕ) → x < 512 → seenOf (set ws (3584 + x) l) ≡ set (seenOf ws) x l
+pub mark-seen : (ws : List ℕ) (x l : ℕ) → x < 512 → seenOf (set ws (2624 + x) l) ≡ set (seenOf ws) x l
 unfolding seenOf
-mark-seen ws x l h = slice-set-in 3584 4096 x ws l (omega arith)
+mark-seen ws x l h = slice-set-in 2624 3136 x ws l (omega arith)
 
-pub seen-at : (ws : List ℕ) (x : ℕ) → x < 512 → getD (seenOf ws) x 0 ≡ getD ws (3584 + x) 0
+pub seen-at : (ws : List ℕ) (x : ℕ) → x < 512 → getD (seenOf ws) x 0 ≡ getD ws (2624 + x) 0
 unfolding seenOf
-seen-at ws x h = slice-at 3584 4096 x ws (omega arith)
+seen-at ws x h = slice-at 2624 3136 x ws (omega arith)
 
 pub seen-length : (ws : List ℕ) → 16384 ≤ length ws → length (seenOf ws) ≡ 512
 unfolding seenOf
-seen-length ws h = length-slice 3584 4096 ws (omega arith)
+seen-length ws h = length-slice 2624 3136 ws (omega arith)
 
 -- ---- an accepted node
-pub accept-kept : (ws : List ℕ) (x t k : ℕ) (m : Mutation) → x < 512 → Kept 0 3584 ws (acceptW ws x t k m)
+pub accept-kept : (ws : List ℕ) (x t k : ℕ) (m : Mutation) → x < 512 → Kept 0 2624 ws (acceptW ws x t k m)
 accept-kept ws x t k m h = record { low = refl; high = local-accept x t k m h .post ws; same = local-accept x t k m h .len ws }
 
 pub accept-nodes : (ws : List ℕ) (x t k : ℕ) (m : Mutation) → x < 512 → nodesOf (acceptW ws x t k m) ≡ acceptW (nodesOf ws) x t k m
 unfolding nodesOf
 accept-nodes ws x t k m h = local-accept x t k m h .pre ws
 
-pub nodes-length : (ws : List ℕ) → 16384 ≤ length ws → length (nodesOf ws) ≡ 3584
+pub nodes-length : (ws : List ℕ) → 16384 ≤ length ws → length (nodesOf ws) ≡ 2624
 unfolding nodesOf
-nodes-length ws h = length-take-le 3584 ws (omega arith)
+nodes-length ws h = length-take-le 2624 ws (omega arith)

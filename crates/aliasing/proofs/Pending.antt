@@ -227,7 +227,7 @@ process-end errors ws₀ count ws i hand p done =
     }
 
 -- ---- the same from the words before the marks were cleared
-module _ (ws : List ℕ) (indexed : Indexed ws) (l : List ℕ) (is : l ≡ clearW ws 3584 512) (count : ℕ) (pending : Pending ws count) where
+module _ (ws : List ℕ) (indexed : Indexed ws) (l : List ℕ) (is : l ≡ clearW ws 2624 512) (count : ℕ) (pending : Pending ws count) where
   u : Unmarked ws l
   u = unmarked ws indexed l is
 

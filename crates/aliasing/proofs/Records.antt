@@ -62,14 +62,14 @@ info-is a sp k s h = ap (λ (n : ℕ). infoOf n (pick (ltb a (k + 1)) s sp)) (ma
 
 -- ---- all records
 -- the write of an end is above them
-records-end : (l : List ℕ) (x v : ℕ) → recordsOf (raiseW l (3072 + x) v) ≡ recordsOf l
+records-end : (l : List ℕ) (x v : ℕ) → recordsOf (raiseW l (2112 + x) v) ≡ recordsOf l
 unfolding recordsOf recordAt
-records-end l x v = tab-same 512 (recordAt (raiseW l (3072 + x) v)) (recordAt l) (λ y h. λ j. recordIn (same y 0 h (omega arith) j) (same y 1536 h (omega arith) j) (same y 512 h (omega arith) j))
+records-end l x v = tab-same 512 (recordAt (raiseW l (2112 + x) v)) (recordAt l) (λ y h. λ j. recordIn (same y 0 h (omega arith) j) (same y 1536 h (omega arith) j) (same y 512 h (omega arith) j))
   where
-    same : (y f : ℕ) → y < 512 → f < 2560 → getD (raiseW l (3072 + x) v) (f + y) 0 ≡ getD l (f + y) 0
-    same y f hy hf = raise-other l (3072 + x) v (f + y) (λ p. omega (arith, p))
+    same : (y f : ℕ) → y < 512 → f < 1600 → getD (raiseW l (2112 + x) v) (f + y) 0 ≡ getD l (f + y) 0
+    same y f hy hf = raise-other l (2112 + x) v (f + y) (λ p. omega (arith, p))
 
-module _ (ns : List ℕ) (size : length ns ≡ 3584) (x k : ℕ) (hx : x < 512) (hk : k < 2) (m : CodeMutation) (hr : m .reason < 2) where
+module _ (ns : List ℕ) (size : length ns ≡ 2624) (x k : ℕ) (hx : x < 512) (hk : k < 2) (m : CodeMutation) (hr : m .reason < 2) where
   abbrev w : ℕ
   w = getD ns (0 + x) 0
 
@@ -140,7 +140,7 @@ module _ (ns : List ℕ) (size : length ns ≡ 3584) (x k : ℕ) (hx : x < 512) 
   unfolding recordAt
   written-other b y hy ne = λ j. recordIn (kept b 0 (omega arith) (omega arith) j) (kept b 1536 (omega arith) (omega arith) j) (kept b 512 (omega arith) (omega arith) j)
     where
-      kept : (b : Bool) (f : ℕ) → f < 3072 → f % 512 ≡ 0 → getD (after b) (f + y) 0 ≡ getD ns (f + y) 0
+      kept : (b : Bool) (f : ℕ) → f < 2112 → f % 512 ≡ 0 → getD (after b) (f + y) 0 ≡ getD ns (f + y) 0
       kept true f hf e = after-other true (f + y) (λ p. ne (omega (arith, p))) (λ p. ne (omega (arith, p)))
       kept false f hf e = after-other false (f + y) (λ p. ne (omega (arith, p))) (λ p. ne (omega (arith, p)))
 
@@ -156,22 +156,22 @@ module _ (ns : List ℕ) (size : length ns ≡ 3584) (x k : ℕ) (hx : x < 512) 
   accept-records t = records-end (recordW ns x t (k + 1) m) x (m .end .0) ∙ record-records t
 
 -- ---- all ends
-pick-slice : (b : Bool) (l m : List ℕ) → slice 3072 3584 m ≡ slice 3072 3584 l → slice 3072 3584 (pick b m l) ≡ slice 3072 3584 l
+pick-slice : (b : Bool) (l m : List ℕ) → slice 2112 2624 m ≡ slice 2112 2624 l → slice 2112 2624 (pick b m l) ≡ slice 2112 2624 l
 pick-slice true l m h = h
 pick-slice false l m h = refl
 
 -- a write below the ends
-ends-span : (l : List ℕ) (i kind level s : ℕ) → i < 3072 → slice 3072 3584 (spanW l i kind level s) ≡ slice 3072 3584 l
+ends-span : (l : List ℕ) (i kind level s : ℕ) → i < 2112 → slice 2112 2624 (spanW l i kind level s) ≡ slice 2112 2624 l
 unfolding spanW
-ends-span l i kind level s h = pick-slice (ltb kind level) l (set l i s) (slice-before 3072 3584 i s l h (omega arith))
+ends-span l i kind level s h = pick-slice (ltb kind level) l (set l i s) (slice-before 2112 2624 i s l h (omega arith))
 
 -- the write among the ends
-ends-end : (l : List ℕ) (x v : ℕ) → x < 512 → slice 3072 3584 (raiseW l (3072 + x) v) ≡ raiseW (slice 3072 3584 l) x v
+ends-end : (l : List ℕ) (x v : ℕ) → x < 512 → slice 2112 2624 (raiseW l (2112 + x) v) ≡ raiseW (slice 2112 2624 l) x v
 unfolding raiseW
-ends-end l x v h = go (ltb (getD l (3072 + x) 0) v) ∙ ap (λ (w : ℕ). pick (ltb w v) (set (slice 3072 3584 l) x v) (slice 3072 3584 l)) (sym (slice-at 3072 3584 x l (omega arith)))
+ends-end l x v h = go (ltb (getD l (2112 + x) 0) v) ∙ ap (λ (w : ℕ). pick (ltb w v) (set (slice 2112 2624 l) x v) (slice 2112 2624 l)) (sym (slice-at 2112 2624 x l (omega arith)))
   where
-    go : (b : Bool) → slice 3072 3584 (pick b (set l (3072 + x) v) l) ≡ pick b (set (slice 3072 3584 l) x v) (slice 3072 3584 l)
-    go true = slice-set-in 3072 3584 x l v (omega arith)
+    go : (b : Bool) → slice 2112 2624 (pick b (set l (2112 + x) v) l) ≡ pick b (set (slice 2112 2624 l) x v) (slice 2112 2624 l)
+    go true = slice-set-in 2112 2624 x l v (omega arith)
     go false = refl
 
 -- an unset end moves nothing, any other is the order plus one
@@ -188,13 +188,13 @@ raised-is ends x (suc o) errors = go (ltb (getD ends x 0) (suc o)) refl
         let p : getD ends x 0 ≡ max (getD ends x 0) (suc (suc o - 1)) = omega (arith, ltb-false (getD ends x 0) (suc o) h) in
         sym (set-getD ends x 0) ∙ ap (set ends x) p
 
-ends-record : (ns : List ℕ) (x t k : ℕ) (m : CodeMutation) → x < 512 → slice 3072 3584 (recordW ns x t k m) ≡ slice 3072 3584 ns
+ends-record : (ns : List ℕ) (x t k : ℕ) (m : CodeMutation) → x < 512 → slice 2112 2624 (recordW ns x t k m) ≡ slice 2112 2624 ns
 unfolding recordW writeW
 ends-record ns x t k m hx =
     let w : ℕ = getD ns (0 + x) 0 in
     let v : ℕ = keptWord w t k (m .reason) (m .index) in
     ends-span (set ns (0 + x) v) (pick (eqb t 1) (1536 + x) (512 + x)) (pick (eqb t 1) (w / 4 % 4) (w % 4)) k (m .span) (span-below (eqb t 1) x hx)
-    ∙ slice-before 3072 3584 (0 + x) v ns (omega arith) (omega arith)
+    ∙ slice-before 2112 2624 (0 + x) v ns (omega arith) (omega arith)
 
 pub accept-ends : (ns : List ℕ) (x t k : ℕ) (m : CodeMutation) → x < 512
     → endsOf (acceptW ns x t k m) ≡ raised (moves (modeSays m)) x (mutationSays m .order) (endsOf ns)
@@ -202,4 +202,4 @@ unfolding endsOf acceptW modeSays mutationSays
 accept-ends ns x t k m hx =
     ends-end (recordW ns x t k m) x (m .end .0) hx
     ∙ ap (λ (l : List ℕ). raiseW l x (m .end .0)) (ends-record ns x t k m hx)
-    ∙ raised-is (slice 3072 3584 ns) x (m .end .0) (m .«should_record_errors»)
+    ∙ raised-is (slice 2112 2624 ns) x (m .end .0) (m .«should_record_errors»)

@@ -72,7 +72,7 @@ start-item m e h is =
 module _ (ws : List ℕ) (hand : ℕ) (m : CodeMutation) (base : ℕ) (indexed : Indexed ws) (handing : Handing ws hand) (callable : Callable m)
     (new : (base ≤ 4096) × NoneAbove base ws) (e : ℕ) (ent : e ≡ entryW (m .start .0) (bit (m .transitive)) 0 (kindBit (m .kind))) where
   abbrev first-words : List ℕ
-  first-words = set ws 9218 e
+  first-words = set ws 8528 e
 
   b : Entered ws e first-words
   b = entered ws indexed e
@@ -80,17 +80,17 @@ module _ (ws : List ℕ) (hand : ℕ) (m : CodeMutation) (base : ℕ) (indexed :
   start-marked : NoneAbove base first-words
   start-marked = above-as (b .marks) (new .1)
 
-  first-fits : 9219 + phi (levels base (seenOf first-words)) (rowsOf first-words) 512 ≤ 13315
+  first-fits : 8529 + phi (levels base (seenOf first-words)) (rowsOf first-words) 512 ≤ 13315
   first-fits = omega (arith, phi-bound (levels base (seenOf first-words)) (rowsOf first-words) (b .good))
 
-  queue-is : queueOf (slice 9218 9219 first-words) ≡ startItem (mutationSays m) ∷ []
+  queue-is : queueOf (slice 8528 8529 first-words) ≡ startItem (mutationSays m) ∷ []
   unfolding queueOf
   queue-is = ap queueOf (b .entry) ∙ ap (λ (i : Item). i ∷ []) (start-item m e (callable .start) ent)
 
-  shows-start : Shows base first-words 9219 hand (start (mutationSays m) (stateOf ws hand))
+  shows-start : Shows base first-words 8529 hand (start (mutationSays m) (stateOf ws hand))
   shows-start = record { queue = queue-is; seen = levels-none base first-words start-marked ∙ levels-long ws hand; state = b .state hand (handing .low) }
 
-  pub start-ready : Ready base first-words 9219 hand
+  pub start-ready : Ready base first-words 8529 hand
   start-ready = record {
     size = b .size;
     low = omega arith;
@@ -102,17 +102,17 @@ module _ (ws : List ℕ) (hand : ℕ) (m : CodeMutation) (base : ℕ) (indexed :
   }
 
   -- the queue of a mutation that is transitive and Conditional
-  pub start-conditional : m .transitive ≡ true → kindBit (m .kind) ≡ 0 → AllConditional first-words 9219
+  pub start-conditional : m .transitive ≡ true → kindBit (m .kind) ≡ 0 → AllConditional first-words 8529
   unfolding mutationSays
   start-conditional t k = record { each = subst (Every TransitiveConditional) (sym queue-is) ((t, sym (kind-is (m .kind)) ∙ ap kindOf k), tt) }
 
-  pub walked-is : (ws′ : List ℕ) (count hand′ : ℕ) → Walked m base first-words 9219 hand ws′ count hand′ → Mutated m ws hand ws′ count hand′
+  pub walked-is : (ws′ : List ℕ) (count hand′ : ℕ) → Walked m base first-words 8529 hand ws′ count hand′ → Mutated m ws hand ws′ count hand′
   unfolding queueOf enough walkOf
   walked-is ws′ count hand′ w =
       let first : Walk = start (mutationSays m) (stateOf ws hand) in
       let done = w .follows first shows-start in
       let same : run (modeSays m) (mutationSays m) count first ≡ mutate (modeSays m) (mutationSays m) (stateOf ws hand) =
-      at-rest (modeSays m) (mutationSays m) (stateOf ws hand) count (sym (done .queue) ∙ ap queueOf (slice-empty 9218 ws′)) in
+      at-rest (modeSays m) (mutationSays m) (stateOf ws hand) count (sym (done .queue) ∙ ap queueOf (slice-empty 8528 ws′)) in
       let counted : run (modeSays m) (mutationSays m) count first .taken ≡ 0 + count = w .counts first shows-start in
       record {
         state = done .state ∙ ap (λ (v : Walk). v .state) same;

@@ -51,14 +51,14 @@ transitiveAt ws top = last ws top / 512 % 2
 abbrev pub directionAt : List ℕ → ℕ → ℕ
 directionAt ws top = last ws top / 1024 % 2
 
-pub queue-last : (ws : List ℕ) (top : ℕ) → 9218 < top → top ≤ length ws → slice 9218 top ws ≡ slice 9218 (top - 1) ws ++ (last ws top ∷ [])
+pub queue-last : (ws : List ℕ) (top : ℕ) → 8528 < top → top ≤ length ws → slice 8528 top ws ≡ slice 8528 (top - 1) ws ++ (last ws top ∷ [])
 queue-last ws top more fit =
     let e : top ≡ suc (top - 1) = omega arith in
-    ap (λ (t : ℕ). drop 9218 (take t ws)) e ∙ ap (drop 9218) (take-suc ws (top - 1) 0 (omega arith))
-    ∙ drop-append-le 9218 (take (top - 1) ws) (last ws top ∷ []) (omega (arith, length-take-le (top - 1) ws (omega arith)))
+    ap (λ (t : ℕ). drop 8528 (take t ws)) e ∙ ap (drop 8528) (take-suc ws (top - 1) 0 (omega arith))
+    ∙ drop-append-le 8528 (take (top - 1) ws) (last ws top ∷ []) (omega (arith, length-take-le (top - 1) ws (omega arith)))
 
-pub queue-head : (ws : List ℕ) (top : ℕ) → 9218 < top → top ≤ length ws → queueOf (slice 9218 top ws) ≡ itemOf (last ws top) ∷ queueOf (slice 9218 (top - 1) ws)
-queue-head ws top more fit = ap queueOf (queue-last ws top more fit) ∙ queue-push (slice 9218 (top - 1) ws) (last ws top ∷ [])
+pub queue-head : (ws : List ℕ) (top : ℕ) → 8528 < top → top ≤ length ws → queueOf (slice 8528 top ws) ≡ itemOf (last ws top) ∷ queueOf (slice 8528 (top - 1) ws)
+queue-head ws top more fit = ap queueOf (queue-last ws top more fit) ∙ queue-push (slice 8528 (top - 1) ws) (last ws top ∷ [])
 
 item-level : (e : ℕ) → level (itemOf e .kind) ≡ e / 2048 % 2 + 1
 unfolding itemOf
@@ -86,7 +86,7 @@ graph-there ws hand x h e = ap (λ (g : Graph). nodeAt g x) (graph-is ws hand) �
 shows-to : {base : ℕ} {ws : List ℕ} {top hand : ℕ} (w v : Walk) → Shows base ws top hand v → w ≡ v → Shows base ws top hand w
 shows-to {base} {ws} {top} {hand} w v s p = subst (Shows base ws top hand) (sym p) s
 
-module _ (m : Mutation) (base : ℕ) (ws : List ℕ) (top hand : ℕ) (ready : Ready base ws top hand) (callable : Callable m) (more : 9218 < top) where
+module _ (m : Mutation) (base : ℕ) (ws : List ℕ) (top hand : ℕ) (ready : Ready base ws top hand) (callable : Callable m) (more : 8528 < top) where
   fit : top ≤ length ws
   fit = omega (arith, ready .fits, ready .size)
 
@@ -97,21 +97,21 @@ module _ (m : Mutation) (base : ℕ) (ws : List ℕ) (top hand : ℕ) (ready : R
   k-below = omega arith
 
   module _ (w : Walk) (s : Shows base ws top hand w) where
-    head : w .queue ≡ itemOf (last ws top) ∷ queueOf (slice 9218 (top - 1) ws)
+    head : w .queue ≡ itemOf (last ws top) ∷ queueOf (slice 8528 (top - 1) ws)
     head = sym (s .queue) ∙ queue-head ws top more fit
 
-    at-seen : getD (w .seen) (itemOf (last ws top) .identifier) 0 ≡ getD ws (3584 + placeAt ws top) 0 - base
+    at-seen : getD (w .seen) (itemOf (last ws top) .identifier) 0 ≡ getD ws (2624 + placeAt ws top) 0 - base
     unfolding itemOf
     at-seen =
         ap (λ (l : List ℕ). getD l (placeAt ws top) 0) (sym (s .seen)) ∙ levels-at base (seenOf ws) (placeAt ws top) x-below
         ∙ ap (λ (v : ℕ). v - base) (seen-at ws (placeAt ws top) x-below)
 
   -- ---- seen at this kind or a higher one
-  module _ (seen : base + kindAt ws top < getD ws (3584 + placeAt ws top) 0) where
+  module _ (seen : base + kindAt ws top < getD ws (2624 + placeAt ws top) 0) where
     skips : (w : Walk) → Shows base ws top hand w → Shows base ws (top - 1) hand (step (modeSays m) (mutationSays m) (w .queue) w)
     skips w s =
-        shows-to (step (modeSays m) (mutationSays m) (w .queue) w) (skipped (queueOf (slice 9218 (top - 1) ws)) w) (record { queue = refl; seen = s .seen; state = s .state })
-        (step-skips (modeSays m) (mutationSays m) w (itemOf (last ws top)) (queueOf (slice 9218 (top - 1) ws)) (head w s)
+        shows-to (step (modeSays m) (mutationSays m) (w .queue) w) (skipped (queueOf (slice 8528 (top - 1) ws)) w) (record { queue = refl; seen = s .seen; state = s .state })
+        (step-skips (modeSays m) (mutationSays m) w (itemOf (last ws top)) (queueOf (slice 8528 (top - 1) ws)) (head w s)
         (omega (arith, at-seen w s, item-level (last ws top))))
 
     pub step-seen : Stepped m base ws top hand ws (top - 1) hand
@@ -123,11 +123,11 @@ module _ (m : Mutation) (base : ℕ) (ws : List ℕ) (top hand : ℕ) (ready : R
     }
 
   -- ---- not seen
-  module _ (unseen : getD ws (3584 + placeAt ws top) 0 ≤ base + kindAt ws top) where
+  module _ (unseen : getD ws (2624 + placeAt ws top) 0 ≤ base + kindAt ws top) where
     abbrev marked : List ℕ
-    marked = set ws (3584 + placeAt ws top) (base + kindAt ws top + 1)
+    marked = set ws (2624 + placeAt ws top) (base + kindAt ws top + 1)
 
-    mark : Kept 3584 4096 ws marked
+    mark : Kept 2624 3136 ws marked
     mark = mark-kept ws (placeAt ws top) (base + kindAt ws top + 1) x-below
 
     mark-levels : levels base (seenOf marked) ≡ set (levels base (seenOf ws)) (placeAt ws top) (kindAt ws top + 1)
@@ -143,8 +143,8 @@ module _ (m : Mutation) (base : ℕ) (ws : List ℕ) (top hand : ℕ) (ready : R
         phi-falls (levels base (seenOf ws)) (rowsOf ws) (placeAt ws top) (kindAt ws top + 1) 512 x-below (omega (arith, levels-length base (seenOf ws)))
         (omega (arith, levels-at base (seenOf ws) (placeAt ws top) x-below, seen-at ws (placeAt ws top) x-below)) (omega arith)
 
-    value-kept : getD marked (4096 + placeAt ws top) 0 ≡ value (rowsOf ws) (placeAt ws top)
-    value-kept = getD-set-other ws (3584 + placeAt ws top) (4096 + placeAt ws top) (base + kindAt ws top + 1) 0 (omega arith) ∙ sym (value-at ws (ready .size) (placeAt ws top) x-below)
+    value-kept : getD marked (3200 + placeAt ws top) 0 ≡ value (rowsOf ws) (placeAt ws top)
+    value-kept = getD-set-other ws (2624 + placeAt ws top) (3200 + placeAt ws top) (base + kindAt ws top + 1) 0 (omega arith) ∙ sym (value-at ws (ready .size) (placeAt ws top) x-below)
 
     module _ (w : Walk) (s : Shows base ws top hand w) where
       higher : getD (w .seen) (itemOf (last ws top) .identifier) 0 < level (itemOf (last ws top) .kind)
@@ -157,17 +157,17 @@ module _ (m : Mutation) (base : ℕ) (ws : List ℕ) (top hand : ℕ) (ready : R
           ∙ ap (set (w .seen) (placeAt ws top)) (sym (level-is (kindAt ws top) k-below))
 
     -- ---- missing
-    module _ (none-there : getD marked (4096 + placeAt ws top) 0 ≡ 0) where
+    module _ (none-there : getD marked (3200 + placeAt ws top) 0 ≡ 0) where
       misses : (w : Walk) → Shows base ws top hand w → Shows base marked (top - 1) hand (step (modeSays m) (mutationSays m) (w .queue) w)
       unfolding itemOf
       misses w s =
-          shows-to (step (modeSays m) (mutationSays m) (w .queue) w) (missed (itemOf (last ws top)) (queueOf (slice 9218 (top - 1) ws)) w)
+          shows-to (step (modeSays m) (mutationSays m) (w .queue) w) (missed (itemOf (last ws top)) (queueOf (slice 8528 (top - 1) ws)) w)
           (record {
-            queue = ap queueOf (slice-above mark 9218 (top - 1) (omega arith) (omega arith));
+            queue = ap queueOf (slice-above mark 8528 (top - 1) (omega arith) (omega arith));
             seen = mark-levels ∙ remembered w s;
             state = state-same ws marked hand hand (rows-above mark (omega arith)) (nodes-below mark (omega arith)) (slice-above mark 13315 hand (omega arith) (ready .handing .low)) ∙ s .state;
           })
-          (step-misses (modeSays m) (mutationSays m) w (itemOf (last ws top)) (queueOf (slice 9218 (top - 1) ws)) (head w s) (higher w s)
+          (step-misses (modeSays m) (mutationSays m) w (itemOf (last ws top)) (queueOf (slice 8528 (top - 1) ws)) (head w s) (higher w s)
           (ap (λ (t : State). nodeAt (t .graph) (placeAt ws top)) (sym (s .state)) ∙ gone))
         where
           gone : nodeAt (stateOf ws hand .graph) (placeAt ws top) ≡ none
@@ -186,7 +186,7 @@ module _ (m : Mutation) (base : ℕ) (ws : List ℕ) (top hand : ℕ) (ready : R
           handing = record { low = ready .handing .low; room = omega (arith, ready .handing .room, ap (λ (l : List ℕ). bare (recordsOf l)) (nodes-below mark (omega arith))) };
         };
         falls = omega (arith, falls-by, phi-marked);
-        aside = record { graph = rows-above mark (omega arith); behind = drop-more 4096 13827 marked ws (omega arith) (mark .high); same = mark .same };
+        aside = record { graph = rows-above mark (omega arith); behind = drop-more 3136 13827 marked ws (omega arith) (mark .high); same = mark .same };
       }
         where
           phi-marked : phi (levels base (seenOf marked)) (rowsOf marked) 512 ≡ phi (set (levels base (seenOf ws)) (placeAt ws top) (kindAt ws top + 1)) (rowsOf ws) 512
@@ -195,20 +195,20 @@ module _ (m : Mutation) (base : ℕ) (ws : List ℕ) (top hand : ℕ) (ready : R
               ∙ ap (λ (g : List ℕ). phi (set (levels base (seenOf ws)) (placeAt ws top) (kindAt ws top + 1)) g 512) (rows-above mark (omega arith))
 
     -- ---- accepted: the function handed over, the fields written, the entries pushed
-    module _ (wsH : List ℕ) (h : ℕ) (ph : Pushed marked hand (handW marked (getD marked (4096 + placeAt ws top) 0) (placeAt ws top) (m .«should_record_errors»)) wsH h) where
+    module _ (wsH : List ℕ) (h : ℕ) (ph : Pushed marked hand (handW marked (getD marked (3200 + placeAt ws top) 0) (placeAt ws top) (m .«should_record_errors»)) wsH h) where
       abbrev records : List Record
       records = recordsOf (nodesOf ws)
 
       abbrev handing : List ℕ
       handing = listIf (recordsErrors (modeSays m) && not (hasRecord (getD (recordsOf (nodesOf ws)) (placeAt ws top) noRecord))) (functionOf (valueOf (value (rowsOf ws) (placeAt ws top))))
 
-      hands : handW marked (getD marked (4096 + placeAt ws top) 0) (placeAt ws top) (m .«should_record_errors») ≡ handing
+      hands : handW marked (getD marked (3200 + placeAt ws top) 0) (placeAt ws top) (m .«should_record_errors») ≡ handing
       unfolding nodesOf
       hands =
-          hand-same marked (getD marked (4096 + placeAt ws top) 0) (placeAt ws top) (m .«should_record_errors») x-below
-          ∙ ap (λ (l : List ℕ). handW l (getD marked (4096 + placeAt ws top) 0) (placeAt ws top) (m .«should_record_errors»)) (nodes-below mark (omega arith))
-          ∙ ap (λ (v : ℕ). handW (take 3584 ws) v (placeAt ws top) (m .«should_record_errors»)) value-kept
-          ∙ handed-is (take 3584 ws) (value (rowsOf ws) (placeAt ws top)) (placeAt ws top) m x-below callable
+          hand-same marked (getD marked (3200 + placeAt ws top) 0) (placeAt ws top) (m .«should_record_errors») x-below
+          ∙ ap (λ (l : List ℕ). handW l (getD marked (3200 + placeAt ws top) 0) (placeAt ws top) (m .«should_record_errors»)) (nodes-below mark (omega arith))
+          ∙ ap (λ (v : ℕ). handW (take 2624 ws) v (placeAt ws top) (m .«should_record_errors»)) value-kept
+          ∙ handed-is (take 2624 ws) (value (rowsOf ws) (placeAt ws top)) (placeAt ws top) m x-below callable
 
       ph′ : Pushed marked hand handing wsH h
       ph′ = subst (λ (vs : List ℕ). Pushed marked hand vs wsH h) hands ph
@@ -230,8 +230,8 @@ module _ (m : Mutation) (base : ℕ) (ws : List ℕ) (top hand : ℕ) (ready : R
       kept-hand = pushed-kept 13315 13827 ph′ (ready .handing .low) (omega (arith, hand-room))
 
       module _ (ws₂ : List ℕ) (is₂ : ws₂ ≡ acceptW wsH (placeAt ws top) (transitiveAt ws top) (kindAt ws top + 1) m) where
-        kept-fields : Kept 0 3584 wsH ws₂
-        kept-fields = subst (Kept 0 3584 wsH) (sym is₂) (accept-kept wsH (placeAt ws top) (transitiveAt ws top) (kindAt ws top + 1) m x-below)
+        kept-fields : Kept 0 2624 wsH ws₂
+        kept-fields = subst (Kept 0 2624 wsH) (sym is₂) (accept-kept wsH (placeAt ws top) (transitiveAt ws top) (kindAt ws top + 1) m x-below)
 
         rows₂ : rowsOf ws₂ ≡ rowsOf ws
         rows₂ = rows-above kept-fields (omega arith) ∙ rows-below kept-hand (omega arith) ∙ rows-above mark (omega arith)
@@ -248,10 +248,10 @@ module _ (m : Mutation) (base : ℕ) (ws : List ℕ) (top hand : ℕ) (ready : R
         }
 
         -- its rows have bounds
-        pub step-used : (getD marked (4096 + placeAt ws top) 0 ≡ 0 → ⊥) → placeAt ws top < used (rowsOf ws₂)
+        pub step-used : (getD marked (3200 + placeAt ws top) 0 ≡ 0 → ⊥) → placeAt ws top < used (rowsOf ws₂)
         step-used there = subst (λ (g : List ℕ). placeAt ws top < used g) (sym rows₂) (used-below (rowsOf ws) (placeAt ws top) x-below (λ z. there (value-kept ∙ z)))
 
-        module _ (there : getD marked (4096 + placeAt ws top) 0 ≡ 0 → ⊥) (ws₃ : List ℕ) (r : ℕ)
+        module _ (there : getD marked (3200 + placeAt ws top) 0 ≡ 0 → ⊥) (ws₃ : List ℕ) (r : ℕ)
             (p : Pushed ws₂ (top - 1) (pushedW (rowsOf ws₂) (placeAt ws top) (directionAt ws top) (m .index) (transitiveAt ws top) (kindAt ws top)) ws₃ r) where
           abbrev pushed : List ℕ
           pushed = pushedW (rowsOf ws) (placeAt ws top) (directionAt ws top) (m .index) (transitiveAt ws top) (kindAt ws top)
@@ -265,8 +265,8 @@ module _ (m : Mutation) (base : ℕ) (ws : List ℕ) (top hand : ℕ) (ready : R
           room : r ≤ 13315
           room = omega (arith, p′ .next, falls-by, few, ready .fits)
 
-          kept-queue : Kept 9218 13315 ws₂ ws₃
-          kept-queue = pushed-kept 9218 13315 p′ (omega arith) room
+          kept-queue : Kept 8528 13315 ws₂ ws₃
+          kept-queue = pushed-kept 8528 13315 p′ (omega arith) room
 
           nodes₃ : nodesOf ws₃ ≡ acceptW (nodesOf ws) (placeAt ws top) (transitiveAt ws top) (kindAt ws top + 1) m
           nodes₃ =
@@ -282,11 +282,11 @@ module _ (m : Mutation) (base : ℕ) (ws : List ℕ) (top hand : ℕ) (ready : R
           rows₃ : rowsOf ws₃ ≡ rowsOf ws
           rows₃ = rows-below kept-queue (omega arith) ∙ rows₂
 
-          queue₃ : slice 9218 r ws₃ ≡ slice 9218 (top - 1) ws ++ pushed
+          queue₃ : slice 8528 r ws₃ ≡ slice 8528 (top - 1) ws ++ pushed
           queue₃ =
-              pushed-part 9218 p′ (omega arith) (omega (arith, room, length₂, ready .size))
+              pushed-part 8528 p′ (omega arith) (omega (arith, room, length₂, ready .size))
               ∙ ap (λ (q : List ℕ). q ++ pushed)
-              (slice-above kept-fields 9218 (top - 1) (omega arith) (omega arith) ∙ slice-below kept-hand 9218 (top - 1) (omega (arith, ready .fits)) ∙ slice-above mark 9218 (top - 1) (omega arith) (omega arith))
+              (slice-above kept-fields 8528 (top - 1) (omega arith) (omega arith) ∙ slice-below kept-hand 8528 (top - 1) (omega (arith, ready .fits)) ∙ slice-above mark 8528 (top - 1) (omega arith) (omega arith))
 
           handed₃ : slice 13315 h ws₃ ≡ slice 13315 hand ws ++ handing
           handed₃ =
@@ -314,23 +314,23 @@ module _ (m : Mutation) (base : ℕ) (ws : List ℕ) (top hand : ℕ) (ready : R
           abbrev own : Node
           own = ownNode (value (rowsOf ws) (placeAt ws top)) (rowF (rowsOf ws)) (rowB (rowsOf ws)) (placeAt ws top)
 
-          entries₃ : queueOf (slice 9218 r ws₃) ≡ reverseAux (pushes (mutationSays m .index) own (itemOf (last ws top))) (queueOf (slice 9218 (top - 1) ws))
+          entries₃ : queueOf (slice 8528 r ws₃) ≡ reverseAux (pushes (mutationSays m .index) own (itemOf (last ws top))) (queueOf (slice 8528 (top - 1) ws))
           unfolding itemOf mutationSays
           entries₃ =
-              ap queueOf queue₃ ∙ queue-push (slice 9218 (top - 1) ws) pushed
-              ∙ ap (λ (l : List Item). reverseAux l (queueOf (slice 9218 (top - 1) ws)))
+              ap queueOf queue₃ ∙ queue-push (slice 8528 (top - 1) ws) pushed
+              ∙ ap (λ (l : List Item). reverseAux l (queueOf (slice 8528 (top - 1) ws)))
               (pushed-items (rowsOf ws) (placeAt ws top) (m .index) (transitiveAt ws top) (directionAt ws top) (kindAt ws top) (omega arith) (omega arith) (omega arith) (itemOf (last ws top)) refl refl refl)
 
           accepts-it : (w : Walk) → Shows base ws top hand w → Shows base ws₃ r h (step (modeSays m) (mutationSays m) (w .queue) w)
           unfolding itemOf
           accepts-it w s =
-              shows-to (step (modeSays m) (mutationSays m) (w .queue) w) (accept (modeSays m) (mutationSays m) own (itemOf (last ws top)) (queueOf (slice 9218 (top - 1) ws)) w)
+              shows-to (step (modeSays m) (mutationSays m) (w .queue) w) (accept (modeSays m) (mutationSays m) own (itemOf (last ws top)) (queueOf (slice 8528 (top - 1) ws)) w)
               (record {
                 queue = entries₃;
                 seen = seen₃ ∙ remembered w s;
                 state = state₃ ∙ ap (accepts (modeSays m) (mutationSays m) (placeAt ws top) (valueOf (value (rowsOf ws) (placeAt ws top))) (itemOf (last ws top) .transitive) (itemOf (last ws top) .kind)) (s .state);
               })
-              (step-accepts (modeSays m) (mutationSays m) w (itemOf (last ws top)) (queueOf (slice 9218 (top - 1) ws)) (head w s) own (higher w s)
+              (step-accepts (modeSays m) (mutationSays m) w (itemOf (last ws top)) (queueOf (slice 8528 (top - 1) ws)) (head w s) own (higher w s)
               (ap (λ (t : State). nodeAt (t .graph) (placeAt ws top)) (sym (s .state)) ∙ graph-there ws hand (placeAt ws top) x-below own-there))
 
           phi₃ : phi (levels base (seenOf ws₃)) (rowsOf ws₃) 512 ≡ phi (set (levels base (seenOf ws)) (placeAt ws top) (kindAt ws top + 1)) (rowsOf ws) 512
@@ -351,7 +351,7 @@ module _ (m : Mutation) (base : ℕ) (ws : List ℕ) (top hand : ℕ) (ready : R
             falls = omega (arith, p′ .next, few, falls-by, phi₃);
             aside = record {
               graph = rows₃;
-              behind = drop-more 13315 13827 ws₃ ws₂ (omega arith) (kept-queue .high) ∙ drop-more 3584 13827 ws₂ wsH (omega arith) (kept-fields .high) ∙ kept-hand .high ∙ drop-more 4096 13827 marked ws (omega arith) (mark .high);
+              behind = drop-more 13315 13827 ws₃ ws₂ (omega arith) (kept-queue .high) ∙ drop-more 2624 13827 ws₂ wsH (omega arith) (kept-fields .high) ∙ kept-hand .high ∙ drop-more 3136 13827 marked ws (omega arith) (mark .high);
               same = kept-queue .same ∙ length₂;
             };
           }

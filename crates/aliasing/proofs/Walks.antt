@@ -47,22 +47,22 @@ unfolding run
 walk-start m base ws top hand r = record { ready = r; fits = r .fits; spent = omega arith; follows = λ w s. s; counts = λ w s. omega arith; aside = aside-none ws }
 
 module _ (m : CodeMutation) (base : ℕ) (ws₀ : List ℕ) (top hand : ℕ) (ws : List ℕ) (t h taken : ℕ) (i : WalkInv m base ws₀ top hand ws t h taken) where
-  pub walk-turn : (ws′ : List ℕ) (t′ h′ : ℕ) → 9218 < t → Stepped m base ws t h ws′ t′ h′ → WalkInv m base ws₀ top hand ws′ t′ h′ (taken + 1)
+  pub walk-turn : (ws′ : List ℕ) (t′ h′ : ℕ) → 8528 < t → Stepped m base ws t h ws′ t′ h′ → WalkInv m base ws₀ top hand ws′ t′ h′ (taken + 1)
   walk-turn ws′ t′ h′ more s = record {
     ready = s .ready;
     fits = i .fits;
     spent = omega (arith, i .spent, s .falls);
     follows = λ w q. subst (Shows base ws′ t′ h′) (sym (run-next (modeSays m) (mutationSays m) taken w)) (s .follows (run (modeSays m) (mutationSays m) taken w) (i .follows w q));
     counts = λ w q. ap (λ (v : Walk). v .taken) (run-next (modeSays m) (mutationSays m) taken w)
-        ∙ step-taken (modeSays m) (mutationSays m) (run (modeSays m) (mutationSays m) taken w) (itemOf (last ws t)) (queueOf (slice 9218 (t - 1) ws))
+        ∙ step-taken (modeSays m) (mutationSays m) (run (modeSays m) (mutationSays m) taken w) (itemOf (last ws t)) (queueOf (slice 8528 (t - 1) ws))
         (sym (i .follows w q .queue) ∙ queue-head ws t more (omega (arith, i .ready .fits, i .ready .size)))
         ∙ ap suc (i .counts w q) ∙ omega arith;
     aside = aside-then (i .aside) (s .aside);
   }
 
-  pub walk-end : t ≤ 9218 → Walked m base ws₀ top hand ws taken h
+  pub walk-end : t ≤ 8528 → Walked m base ws₀ top hand ws taken h
   walk-end q =
-      let e : t ≡ 9218 = omega (arith, i .ready .low) in
+      let e : t ≡ 8528 = omega (arith, i .ready .low) in
       record {
         follows = λ w s. subst (λ (u : ℕ). Shows base ws u h (run (modeSays m) (mutationSays m) taken w)) e (i .follows w s);
         counts = i .counts;

@@ -67,23 +67,23 @@ local-word n i f h a = record {
   post = λ l. a (getD l i 0) .post l;
 }
 
-pub span-below : (b : Bool) (x : ℕ) → x < 512 → pick b (1536 + x) (512 + x) < 3072
+pub span-below : (b : Bool) (x : ℕ) → x < 512 → pick b (1536 + x) (512 + x) < 2112
 span-below true x h = omega arith
 span-below false x h = omega arith
 
-local-write : (w x t k : ℕ) (m : Mutation) → x < 512 → Local 3584 (λ (l : List ℕ). writeW w l x t k m)
+local-write : (w x t k : ℕ) (m : Mutation) → x < 512 → Local 2624 (λ (l : List ℕ). writeW w l x t k m)
 unfolding writeW
 local-write w x t k m h =
-    local-then (local-set 3584 (0 + x) (keptWord w t k (m .reason) (m .index)) (omega arith))
-    (local-span 3584 (pick (eqb t 1) (1536 + x) (512 + x)) (pick (eqb t 1) (w / 4 % 4) (w % 4)) k (m .span) (omega (arith, span-below (eqb t 1) x h)))
+    local-then (local-set 2624 (0 + x) (keptWord w t k (m .reason) (m .index)) (omega arith))
+    (local-span 2624 (pick (eqb t 1) (1536 + x) (512 + x)) (pick (eqb t 1) (w / 4 % 4) (w % 4)) k (m .span) (omega (arith, span-below (eqb t 1) x h)))
 
-local-record : (x t k : ℕ) (m : Mutation) → x < 512 → Local 3584 (λ (l : List ℕ). recordW l x t k m)
+local-record : (x t k : ℕ) (m : Mutation) → x < 512 → Local 2624 (λ (l : List ℕ). recordW l x t k m)
 unfolding recordW
-local-record x t k m h = local-word 3584 (0 + x) (λ w l. writeW w l x t k m) (omega arith) (λ w. local-write w x t k m h)
+local-record x t k m h = local-word 2624 (0 + x) (λ w l. writeW w l x t k m) (omega arith) (λ w. local-write w x t k m h)
 
-pub local-accept : (x t k : ℕ) (m : Mutation) → x < 512 → Local 3584 (λ (l : List ℕ). acceptW l x t k m)
+pub local-accept : (x t k : ℕ) (m : Mutation) → x < 512 → Local 2624 (λ (l : List ℕ). acceptW l x t k m)
 unfolding acceptW
-local-accept x t k m h = local-then (local-record x t k m h) (local-raise 3584 (3072 + x) (m .end .0) (omega arith))
+local-accept x t k m h = local-then (local-record x t k m h) (local-raise 2624 (2112 + x) (m .end .0) (omega arith))
 
 -- ---- the arms of `record`: the word, and the span where the kind is below the level
 module _ (ws : List ℕ) (x t k : ℕ) (m : Mutation) where
@@ -115,6 +115,6 @@ module _ (ws : List ℕ) (x t k : ℕ) (m : Mutation) where
         recorded false false (sym (ne-eqb t 1 n)) (sym (le-ltb (w % 4) k h)) (kept-local w t k (m .reason) (m .index) reason last n (w % 4) (omega (arith, h)))
 
 -- ---- the writes of `accept` one after another: the record, the end
-pub accepted : (ws : List ℕ) (x t k : ℕ) (m : Mutation) {ws₁ ws₂ : List ℕ} → ws₁ ≡ recordW ws x t k m → ws₂ ≡ raiseW ws₁ (3072 + x) (m .end .0) → ws₂ ≡ acceptW ws x t k m
+pub accepted : (ws : List ℕ) (x t k : ℕ) (m : Mutation) {ws₁ ws₂ : List ℕ} → ws₁ ≡ recordW ws x t k m → ws₂ ≡ raiseW ws₁ (2112 + x) (m .end .0) → ws₂ ≡ acceptW ws x t k m
 unfolding acceptW
-accepted ws x t k m written ended = ended ∙ ap (λ (l : List ℕ). raiseW l (3072 + x) (m .end .0)) written
+accepted ws x t k m written ended = ended ∙ ap (λ (l : List ℕ). raiseW l (2112 + x) (m .end .0)) written

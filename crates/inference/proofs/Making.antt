@@ -51,7 +51,7 @@ is-within sheet {s} is = read-got sheet s (is .0) (is .1) .1
 
 -- the two clearings
 pub cleared : (ws₀ : List ℕ) {ws₁ ws : List ℕ} → ws₁ ≡ clearW ws₀ RECORD 512 → ws ≡ clearW ws₁ END 512 → ws ≡ clearedW ws₀
-cleared ws₀ p q = q ∙ ap (λ (z : List ℕ). clearW z 3072 512) p
+cleared ws₀ p q = q ∙ ap (λ (z : List ℕ). clearW z 2112 512) p
 
 pub cleared-size : (ws₀ : List ℕ) {ws : List ℕ} → LEAST ≤ length ws₀ → ws ≡ clearedW ws₀ → LEAST ≤ length ws
 cleared-size ws₀ h e = omega (arith, h, cleared-same ws₀, ap (λ (z : List ℕ). length z) e)

@@ -81,11 +81,11 @@ abbrev pub clearedW : List ℕ → List ℕ
 clearedW ws = clearW (clearW ws RECORD 512) END 512
 
 pub cleared-same : (ws : List ℕ) → length (clearedW ws) ≡ length ws
-cleared-same ws = kept-clear (clearW ws 0 512) 3072 512 .same ∙ kept-clear ws 0 512 .same
+cleared-same ws = kept-clear (clearW ws 0 512) 2112 512 .same ∙ kept-clear ws 0 512 .same
 
 cleared-bare : (ws : List ℕ) → LEAST ≤ length ws → Bare (clearedW ws)
 cleared-bare ws size x h =
-    take-word 3072 (0 + x) (clearW ws 0 512) (clearedW ws) (omega (arith, h)) (kept-clear (clearW ws 0 512) 3072 512 .low)
+    take-word 2112 (0 + x) (clearW ws 0 512) (clearedW ws) (omega (arith, h)) (kept-clear (clearW ws 0 512) 2112 512 .low)
     ∙ clear-at ws 0 512 x (omega (arith, size)) h
 
 -- ---- the sheet's ends in the words
@@ -100,13 +100,13 @@ module _ (ws₀ : List ℕ) (ids : List Identifier) (few : length ids ≤ 512) (
   ends-stand : slice END SEEN ws ≡ sheetEnds ids
   unfolding sheetEnds
   ends-stand =
-      slice-take 3584 3072 3584 ws (sets (clearedW ws₀) 3072 ends) (omega arith) low
-      ∙ written (clearW ws₀ 0 512) 3072 512 (omega (arith, size, kept-clear ws₀ 0 512 .same)) ends (512 - length ids) (omega (arith, count, few))
+      slice-take 2624 2112 2624 ws (sets (clearedW ws₀) 2112 ends) (omega arith) low
+      ∙ written (clearW ws₀ 0 512) 2112 512 (omega (arith, size, kept-clear ws₀ 0 512 .same)) ends (512 - length ids) (omega (arith, count, few))
 
   before-ends : (i : ℕ) → i < END → getD ws i 0 ≡ getD (clearedW ws₀) i 0
   before-ends i h =
-      take-word 3584 i (sets (clearedW ws₀) 3072 ends) ws (omega (arith, h)) low
-      ∙ take-word 3072 i (clearedW ws₀) (sets (clearedW ws₀) 3072 ends) h (take-sets 3072 ends (clearedW ws₀) 3072 (omega arith))
+      take-word 2624 i (sets (clearedW ws₀) 2112 ends) ws (omega (arith, h)) low
+      ∙ take-word 2112 i (clearedW ws₀) (sets (clearedW ws₀) 2112 ends) h (take-sets 2112 ends (clearedW ws₀) 2112 (omega arith))
 
   bare : Bare ws
   bare x h = before-ends (0 + x) (omega (arith, h)) ∙ cleared-bare ws₀ size x h

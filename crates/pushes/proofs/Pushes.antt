@@ -25,14 +25,14 @@ pushed-none ws top = record { words = refl; next = omega arith }
 pub pushed-length : {ws : List ℕ} {top : ℕ} {vs ws′ : List ℕ} {r : ℕ} → Pushed ws top vs ws′ r → length ws′ ≡ length ws
 pushed-length {ws} {top} {vs} p = ap length (p .words) ∙ length-sets ws top vs
 
-pub pushed-below : {ws : List ℕ} {top : ℕ} {vs ws′ : List ℕ} {r : ℕ} → Pushed ws top vs ws′ r → 9218 ≤ top → take 9218 ws′ ≡ take 9218 ws
-pushed-below {ws} {top} {vs} p h = ap (take 9218) (p .words) ∙ take-sets 9218 vs ws top h
+pub pushed-below : {ws : List ℕ} {top : ℕ} {vs ws′ : List ℕ} {r : ℕ} → Pushed ws top vs ws′ r → 8528 ≤ top → take 8528 ws′ ≡ take 8528 ws
+pushed-below {ws} {top} {vs} p h = ap (take 8528) (p .words) ∙ take-sets 8528 vs ws top h
 
-pub pushed-graph : {ws : List ℕ} {top : ℕ} {vs ws′ : List ℕ} {r : ℕ} → Pushed ws top vs ws′ r → 9218 ≤ top → rowsOf ws′ ≡ rowsOf ws
+pub pushed-graph : {ws : List ℕ} {top : ℕ} {vs ws′ : List ℕ} {r : ℕ} → Pushed ws top vs ws′ r → 8528 ≤ top → rowsOf ws′ ≡ rowsOf ws
 unfolding rowsOf
-pushed-graph {ws} {top} {vs} {ws′} p h = slice-take 9218 4096 9218 ws′ ws (omega arith) (pushed-below p h)
+pushed-graph {ws} {top} {vs} {ws′} p h = slice-take 8528 3200 8528 ws′ ws (omega arith) (pushed-below p h)
 
-pub pushed-used : {ws : List ℕ} {top : ℕ} {vs ws′ : List ℕ} {r : ℕ} → Pushed ws top vs ws′ r → 9218 ≤ top → used (rowsOf ws′) ≡ used (rowsOf ws)
+pub pushed-used : {ws : List ℕ} {top : ℕ} {vs ws′ : List ℕ} {r : ℕ} → Pushed ws top vs ws′ r → 8528 ≤ top → used (rowsOf ws′) ≡ used (rowsOf ws)
 pushed-used p h = ap used (pushed-graph p h)
 
 -- the part of the words that the push makes longer
@@ -63,7 +63,7 @@ room-then f a {ws} {top} {vs} {ws′} {r} room p h =
       room = omega (arith, room .room, p .next, ap f e);
     }
 
-pub pushed-on : (f : List ℕ → List ℕ) {ws : List ℕ} {top : ℕ} {a ws₁ : List ℕ} {t₁ : ℕ} {ws₂ : List ℕ} {t₂ : ℕ} → 9218 ≤ top → Pushed ws top a ws₁ t₁ → Pushed ws₁ t₁ (f (rowsOf ws₁)) ws₂ t₂ → Pushed ws top (a ++ f (rowsOf ws)) ws₂ t₂
+pub pushed-on : (f : List ℕ → List ℕ) {ws : List ℕ} {top : ℕ} {a ws₁ : List ℕ} {t₁ : ℕ} {ws₂ : List ℕ} {t₂ : ℕ} → 8528 ≤ top → Pushed ws top a ws₁ t₁ → Pushed ws₁ t₁ (f (rowsOf ws₁)) ws₂ t₂ → Pushed ws top (a ++ f (rowsOf ws)) ws₂ t₂
 pushed-on f {ws} {top} {a} {ws₁} {t₁} {ws₂} {t₂} h p q = pushed-then p (subst (λ (g : List ℕ). Pushed ws₁ t₁ (f g) ws₂ t₂) (pushed-graph p h) q)
 
 pub aliases-open : (g : List ℕ) (x direction index transitive kind : ℕ) → blockedW (value g x) direction ≡ false
@@ -88,7 +88,7 @@ room-less a b h room = record { size = room .size; low = room .low; good = room 
 
 -- ---- the four pushes
 module _ (ws : List ℕ) (top x direction index transitive kind : ℕ) (room : Room ws top (deg (rowsOf ws) x)) (h : x < 512) where
-  size : length (rowsOf ws) ≡ 5122
+  size : length (rowsOf ws) ≡ 5328
   size = rows-length ws (room .size)
 
   is : deg (rowsOf ws) x ≡ (wordsF (rowsOf ws) x + wordsB (rowsOf ws) (4 * x)) + ((wordsB (rowsOf ws) (4 * x + 1) + wordsB (rowsOf ws) (4 * x + 2)) + wordsB (rowsOf ws) (4 * x + 3))

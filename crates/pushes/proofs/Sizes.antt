@@ -45,7 +45,7 @@ deg-is g x good h =
     let e₃ : bb g (4 * x + 3 + 1) ≡ bb g (4 * x + 4) = ap (bb g) (omega arith) in
     omega arith
 
-module _ (g : List ℕ) (size : length g ≡ 5122) (good : Good g) where
+module _ (g : List ℕ) (size : length g ≡ 5328) (good : Good g) where
   pub rowF-length : (x : ℕ) → x < 512 → length (rowF g x) ≡ fb g (x + 1) - fb g x
   unfolding rowF
   rowF-length x h = length-slice (1025 + fb g x) (1025 + fb g (x + 1)) g (omega (arith, good .f-top (x + 1) (omega arith))) ∙ omega arith

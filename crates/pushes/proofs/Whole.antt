@@ -27,7 +27,7 @@ entries-append index transitive kind (w ∷ a) b = go (ltb (w / 2048) index) (en
     go true h = ap (λ (l : List ℕ). entryW (w % 512) transitive 0 kind ∷ l) h
     go false h = h
 
-module _ (g : List ℕ) (size : length g ≡ 5122) (good : Good g) where
+module _ (g : List ℕ) (size : length g ≡ 5328) (good : Good g) where
   -- row k, and the rows behind it up to where row n begins
   row-first : (k n : ℕ) → k < 2048 → n ≤ 2048 → bb g (k + 1) ≤ bb g n → slice (4098 + bb g k) (4098 + bb g n) g ≡ rowB g k ++ slice (4098 + bb g (k + 1)) (4098 + bb g n) g
   unfolding rowB

@@ -48,7 +48,7 @@ unfolding placesOf
 places-push q vs = ap (λ (l : List ℕ). reverseAux l []) (map-append (λ (w : ℕ). w % 512) q vs) ∙ reverseAux-append (map (λ (w : ℕ). w % 512) q) (map (λ (w : ℕ). w % 512) vs) []
 
 -- ---- how many there are at most
-pub origins-le : (g : List ℕ) → length g ≡ 5122 → Good g → (x i : ℕ) → x < 512 → length (originsW g x i) ≤ deg g x
+pub origins-le : (g : List ℕ) → length g ≡ 5328 → Good g → (x i : ℕ) → x < 512 → length (originsW g x i) ≤ deg g x
 unfolding originsW
 origins-le g size good x i h =
     let C : List ℕ = entriesW i 0 0 (rowB g (4 * x)) in
@@ -66,7 +66,7 @@ origins-le g size good x i h =
 
 -- ---- the three pushes, one after the other
 module _ (ws : List ℕ) (top x index : ℕ) (room : Room ws top (deg (rowsOf ws) x)) (h : x < 512) where
-  size : length (rowsOf ws) ≡ 5122
+  size : length (rowsOf ws) ≡ 5328
   size = rows-length ws (room .size)
 
   is : deg (rowsOf ws) x ≡ (wordsF (rowsOf ws) x + wordsB (rowsOf ws) (4 * x)) + ((wordsB (rowsOf ws) (4 * x + 1) + wordsB (rowsOf ws) (4 * x + 2)) + wordsB (rowsOf ws) (4 * x + 3))

@@ -30,8 +30,8 @@ use Rattle.renders.proofs.Origins.{origin-places, places-push, origins-
 use Rattle.renders.proofs.Marks.{mark-at, mark-set, is-taken, not-taken, passes-true, passes-false, has-record, unseen-falls, function-one}
 use Rattle.renders.proofs.Cases.{skipBy, step-skips, step-passes, step-renders}
 
-pub queue-head : (ws : List ℕ) (top : ℕ) → 9218 < top → top ≤ length ws → placesOf (slice 9218 top ws) ≡ placeAt ws top ∷ placesOf (slice 9218 (top - 1) ws)
-queue-head ws top more fit = ap placesOf (queue-last ws top more fit) ∙ places-push (slice 9218 (top - 1) ws) (last ws top ∷ [])
+pub queue-head : (ws : List ℕ) (top : ℕ) → 8528 < top → top ≤ length ws → placesOf (slice 8528 top ws) ≡ placeAt ws top ∷ placesOf (slice 8528 (top - 1) ws)
+queue-head ws top more fit = ap placesOf (queue-last ws top more fit) ∙ places-push (slice 8528 (top - 1) ws) (last ws top ∷ [])
 
 shows-to : {ws : List ℕ} {top hand : ℕ} (w v : RenderWalk) → Shows ws top hand v → w ≡ v → Shows ws top hand w
 shows-to {ws} {top} {hand} w v s p = subst (Shows ws top hand) (sym p) s
@@ -39,13 +39,13 @@ shows-to {ws} {top} {hand} w v s p = subst (Shows ws top hand) (sym p) s
 -- ---- the state by its parts
 record-at : (ws : List ℕ) (hand x : ℕ) → x < 512 → hasRecord (getD (stateOf ws hand .records) x noRecord) ≡ not (eqb (getD ws (0 + x) 0 % 16) 0)
 unfolding stateOf nodesOf
-record-at ws hand x h = has-record (take 3584 ws) x h ∙ ap (λ (w : ℕ). not (eqb (w % 16) 0)) (getD-take 3584 ws (0 + x) 0 (omega arith))
+record-at ws hand x h = has-record (take 2624 ws) x h ∙ ap (λ (w : ℕ). not (eqb (w % 16) 0)) (getD-take 2624 ws (0 + x) 0 (omega arith))
 
 state-more : (ws ws′ : List ℕ) (hand hand′ : ℕ) (fs : List ℕ) → rowsOf ws′ ≡ rowsOf ws → nodesOf ws′ ≡ nodesOf ws → slice 13315 hand′ ws′ ≡ slice 13315 hand ws ++ fs → stateOf ws′ hand′ ≡ handOver fs (stateOf ws hand)
 unfolding stateOf
 state-more ws ws′ hand hand′ fs p q r = λ j. record { graph = graphOfRows (p j); records = recordsOf (q j); ends = endsOf (q j); handed = r j }
 
-module _ (index : ℕ) (ws : List ℕ) (top hand : ℕ) (ready : Ready ws top hand) (more : 9218 < top) where
+module _ (index : ℕ) (ws : List ℕ) (top hand : ℕ) (ready : Ready ws top hand) (more : 8528 < top) where
   fit : top ≤ length ws
   fit = omega (arith, ready .fits, ready .size)
 
@@ -53,18 +53,18 @@ module _ (index : ℕ) (ws : List ℕ) (top hand : ℕ) (ready : Ready ws top ha
   x-below = omega arith
 
   module _ (w : RenderWalk) (s : Shows ws top hand w) where
-    head : w .queue ≡ placeAt ws top ∷ placesOf (slice 9218 (top - 1) ws)
+    head : w .queue ≡ placeAt ws top ∷ placesOf (slice 8528 (top - 1) ws)
     head = sym (s .queue) ∙ queue-head ws top more fit
 
-    at-seen : getD (w .seen) (placeAt ws top) false ≡ taken (getD ws (3584 + placeAt ws top) 0)
+    at-seen : getD (w .seen) (placeAt ws top) false ≡ taken (getD ws (2624 + placeAt ws top) 0)
     at-seen = ap (λ (l : List Bool). getD l (placeAt ws top) false) (sym (s .seen)) ∙ mark-at (seenOf ws) (placeAt ws top) ∙ ap taken (seen-at ws (placeAt ws top) x-below)
 
   -- ---- taken before
-  module _ (seen : 0 < getD ws (3584 + placeAt ws top) 0) where
+  module _ (seen : 0 < getD ws (2624 + placeAt ws top) 0) where
     skips : (w : RenderWalk) → Shows ws top hand w → Shows ws (top - 1) hand (renderStep index (w .queue) w)
     skips w s =
-        shows-to (renderStep index (w .queue) w) (skipBy (placesOf (slice 9218 (top - 1) ws)) w) (record { queue = refl; seen = s .seen; state = s .state })
-        (step-skips index w (placeAt ws top) (placesOf (slice 9218 (top - 1) ws)) (head w s) (at-seen w s ∙ is-taken (getD ws (3584 + placeAt ws top) 0) seen))
+        shows-to (renderStep index (w .queue) w) (skipBy (placesOf (slice 8528 (top - 1) ws)) w) (record { queue = refl; seen = s .seen; state = s .state })
+        (step-skips index w (placeAt ws top) (placesOf (slice 8528 (top - 1) ws)) (head w s) (at-seen w s ∙ is-taken (getD ws (2624 + placeAt ws top) 0) seen))
 
     pub step-seen : Stepped index ws top hand ws (top - 1) hand
     step-seen = record {
@@ -75,23 +75,23 @@ module _ (index : ℕ) (ws : List ℕ) (top hand : ℕ) (ready : Ready ws top ha
     }
 
   -- ---- taken for the first time
-  module _ (first : getD ws (3584 + placeAt ws top) 0 ≤ 0) where
+  module _ (first : getD ws (2624 + placeAt ws top) 0 ≤ 0) where
     abbrev marked : List ℕ
-    marked = set ws (3584 + placeAt ws top) 1
+    marked = set ws (2624 + placeAt ws top) 1
 
-    mark : Kept 3584 4096 ws marked
+    mark : Kept 2624 3136 ws marked
     mark = mark-kept ws (placeAt ws top) 1 x-below
 
     marks : seenOf marked ≡ set (seenOf ws) (placeAt ws top) 1
     marks = mark-seen ws (placeAt ws top) 1 x-below
 
-    word-kept : (j : ℕ) → (j ≡ 3584 + placeAt ws top → ⊥) → getD marked j 0 ≡ getD ws j 0
-    word-kept j h = getD-set-other ws (3584 + placeAt ws top) j 1 0 h
+    word-kept : (j : ℕ) → (j ≡ 2624 + placeAt ws top → ⊥) → getD marked j 0 ≡ getD ws j 0
+    word-kept j h = getD-set-other ws (2624 + placeAt ws top) j 1 0 h
 
-    value-kept : getD marked (4096 + placeAt ws top) 0 ≡ value (rowsOf ws) (placeAt ws top)
-    value-kept = word-kept (4096 + placeAt ws top) (λ e. omega (arith, e)) ∙ sym (value-at ws (ready .size) (placeAt ws top) x-below)
+    value-kept : getD marked (3200 + placeAt ws top) 0 ≡ value (rowsOf ws) (placeAt ws top)
+    value-kept = word-kept (3200 + placeAt ws top) (λ e. omega (arith, e)) ∙ sym (value-at ws (ready .size) (placeAt ws top) x-below)
 
-    passes-is : passesW (getD marked (4096 + placeAt ws top) 0) (getD marked (0 + placeAt ws top) 0) ≡ passesW (value (rowsOf ws) (placeAt ws top)) (getD ws (0 + placeAt ws top) 0)
+    passes-is : passesW (getD marked (3200 + placeAt ws top) 0) (getD marked (0 + placeAt ws top) 0) ≡ passesW (value (rowsOf ws) (placeAt ws top)) (getD ws (0 + placeAt ws top) 0)
     passes-is =
         ap (λ (v : ℕ). passesW v (getD marked (0 + placeAt ws top) 0)) value-kept
         ∙ ap (passesW (value (rowsOf ws) (placeAt ws top))) (word-kept (0 + placeAt ws top) (λ e. omega (arith, e)))
@@ -107,13 +107,13 @@ module _ (index : ℕ) (ws : List ℕ) (top hand : ℕ) (ready : Ready ws top ha
 
     module _ (w : RenderWalk) (s : Shows ws top hand w) where
       fresh : getD (w .seen) (placeAt ws top) false ≡ false
-      fresh = at-seen w s ∙ not-taken (getD ws (3584 + placeAt ws top) 0) first
+      fresh = at-seen w s ∙ not-taken (getD ws (2624 + placeAt ws top) 0) first
 
       remembered : map taken (set (seenOf ws) (placeAt ws top) 1) ≡ set (w .seen) (placeAt ws top) true
       remembered = mark-set (seenOf ws) (placeAt ws top) ∙ ap (λ (l : List Bool). set l (placeAt ws top) true) (s .seen)
 
     -- ---- passed by
-    module _ (passed : passesW (getD marked (4096 + placeAt ws top) 0) (getD marked (0 + placeAt ws top) 0) ≡ true) where
+    module _ (passed : passesW (getD marked (3200 + placeAt ws top) 0) (getD marked (0 + placeAt ws top) 0) ≡ true) where
       why : (nodeAt (stateOf ws hand .graph) (placeAt ws top) ≡ none) ⊎ (hasRecord (getD (stateOf ws hand .records) (placeAt ws top) noRecord) ≡ true)
       why =
           ⊎-map (λ (e : value (rowsOf ws) (placeAt ws top) ≡ 0). graph-missing ws hand (placeAt ws top) x-below e)
@@ -122,13 +122,13 @@ module _ (index : ℕ) (ws : List ℕ) (top hand : ℕ) (ready : Ready ws top ha
 
       passes : (w : RenderWalk) → Shows ws top hand w → Shows marked (top - 1) hand (renderStep index (w .queue) w)
       passes w s =
-          shows-to (renderStep index (w .queue) w) (passBy (placeAt ws top) (placesOf (slice 9218 (top - 1) ws)) w)
+          shows-to (renderStep index (w .queue) w) (passBy (placeAt ws top) (placesOf (slice 8528 (top - 1) ws)) w)
           (record {
-            queue = ap placesOf (slice-above mark 9218 (top - 1) (omega arith) (omega arith));
+            queue = ap placesOf (slice-above mark 8528 (top - 1) (omega arith) (omega arith));
             seen = ap (map taken) marks ∙ remembered w s;
             state = state-same ws marked hand hand (rows-above mark (omega arith)) (nodes-below mark (omega arith)) (slice-above mark 13315 hand (omega arith) (ready .from)) ∙ s .state;
           })
-          (step-passes index w (placeAt ws top) (placesOf (slice 9218 (top - 1) ws)) (head w s) (fresh w s)
+          (step-passes index w (placeAt ws top) (placesOf (slice 8528 (top - 1) ws)) (head w s) (fresh w s)
           (subst (λ (t : State). (nodeAt (t .graph) (placeAt ws top) ≡ none) ⊎ (hasRecord (getD (t .records) (placeAt ws top) noRecord) ≡ true)) (s .state) why))
 
       phi-marked : phi (seenOf marked) (rowsOf marked) 512 ≡ phi (set (seenOf ws) (placeAt ws top) 1) (rowsOf ws) 512
@@ -148,14 +148,14 @@ module _ (index : ℕ) (ws : List ℕ) (top hand : ℕ) (ready : Ready ws top ha
         falls = omega (arith, falls-by, phi-marked);
         unmoved = record {
           nodes = nodes-below mark (omega arith);
-          aside = record { graph = rows-above mark (omega arith); behind = drop-more 4096 13827 marked ws (omega arith) (mark .high); same = mark .same };
+          aside = record { graph = rows-above mark (omega arith); behind = drop-more 3136 13827 marked ws (omega arith) (mark .high); same = mark .same };
         };
       }
 
     -- ---- rendered: the function handed over, the entries pushed
-    module _ (wsH : List ℕ) (h : ℕ) (ph : Pushed marked hand (functionW (getD marked (4096 + placeAt ws top) 0)) wsH h) where
+    module _ (wsH : List ℕ) (h : ℕ) (ph : Pushed marked hand (functionW (getD marked (3200 + placeAt ws top) 0)) wsH h) where
       hand-room : h + unseen (set (seenOf ws) (placeAt ws top) 1) ≤ 13827
-      hand-room = omega (arith, ph .next, function-one (getD marked (4096 + placeAt ws top) 0), ready .room, fewer)
+      hand-room = omega (arith, ph .next, function-one (getD marked (3200 + placeAt ws top) 0), ready .room, fewer)
 
       kept-hand : Kept 13315 13827 marked wsH
       kept-hand = pushed-kept 13315 13827 ph (ready .from) (omega (arith, hand-room))
@@ -175,12 +175,12 @@ module _ (index : ℕ) (ws : List ℕ) (top hand : ℕ) (ready : Ready ws top ha
       }
 
       -- its rows have bounds
-      pub step-used : passesW (getD marked (4096 + placeAt ws top) 0) (getD marked (0 + placeAt ws top) 0) ≡ false → placeAt ws top < used (rowsOf wsH)
+      pub step-used : passesW (getD marked (3200 + placeAt ws top) 0) (getD marked (0 + placeAt ws top) 0) ≡ false → placeAt ws top < used (rowsOf wsH)
       step-used passed =
-          let there = passes-false (getD marked (4096 + placeAt ws top) 0) (getD marked (0 + placeAt ws top) 0) passed .0 in
+          let there = passes-false (getD marked (3200 + placeAt ws top) 0) (getD marked (0 + placeAt ws top) 0) passed .0 in
           subst (λ (g : List ℕ). placeAt ws top < used g) (sym rows₁) (used-below (rowsOf ws) (placeAt ws top) x-below (λ z. there (value-kept ∙ z)))
 
-      module _ (passed : passesW (getD marked (4096 + placeAt ws top) 0) (getD marked (0 + placeAt ws top) 0) ≡ false)
+      module _ (passed : passesW (getD marked (3200 + placeAt ws top) 0) (getD marked (0 + placeAt ws top) 0) ≡ false)
           (ws₂ : List ℕ) (r : ℕ) (p : Pushed wsH (top - 1) (originsW (rowsOf wsH) (placeAt ws top) index) ws₂ r) where
         abbrev pushed : List ℕ
         pushed = originsW (rowsOf ws) (placeAt ws top) index
@@ -194,8 +194,8 @@ module _ (index : ℕ) (ws : List ℕ) (top hand : ℕ) (ready : Ready ws top ha
         room : r ≤ 13315
         room = omega (arith, p′ .next, falls-by, few, ready .fits)
 
-        kept-queue : Kept 9218 13315 wsH ws₂
-        kept-queue = pushed-kept 9218 13315 p′ (omega arith) room
+        kept-queue : Kept 8528 13315 wsH ws₂
+        kept-queue = pushed-kept 8528 13315 p′ (omega arith) room
 
         nodes₂ : nodesOf ws₂ ≡ nodesOf ws
         nodes₂ = nodes-below kept-queue (omega arith) ∙ nodes-below kept-hand (omega arith) ∙ nodes-below mark (omega arith)
@@ -206,16 +206,16 @@ module _ (index : ℕ) (ws : List ℕ) (top hand : ℕ) (ready : Ready ws top ha
         rows₂ : rowsOf ws₂ ≡ rowsOf ws
         rows₂ = rows-below kept-queue (omega arith) ∙ rows₁
 
-        queue₂ : slice 9218 r ws₂ ≡ slice 9218 (top - 1) ws ++ pushed
+        queue₂ : slice 8528 r ws₂ ≡ slice 8528 (top - 1) ws ++ pushed
         queue₂ =
-            pushed-part 9218 p′ (omega arith) (omega (arith, room, length₁, ready .size))
-            ∙ ap (λ (q : List ℕ). q ++ pushed) (slice-below kept-hand 9218 (top - 1) (omega (arith, ready .fits)) ∙ slice-above mark 9218 (top - 1) (omega arith) (omega arith))
+            pushed-part 8528 p′ (omega arith) (omega (arith, room, length₁, ready .size))
+            ∙ ap (λ (q : List ℕ). q ++ pushed) (slice-below kept-hand 8528 (top - 1) (omega (arith, ready .fits)) ∙ slice-above mark 8528 (top - 1) (omega arith) (omega arith))
 
         handed₂ : slice 13315 h ws₂ ≡ slice 13315 hand ws ++ functionOf (valueOf (value (rowsOf ws) (placeAt ws top)))
         handed₂ =
             slice-above kept-queue 13315 h (omega arith) (omega (arith, ph .next, ready .from))
             ∙ pushed-part 13315 ph (ready .from) (omega (arith, hand-room, mark .same, ready .size))
-            ∙ ap (λ (q : List ℕ). q ++ functionW (getD marked (4096 + placeAt ws top) 0)) (slice-above mark 13315 hand (omega arith) (ready .from))
+            ∙ ap (λ (q : List ℕ). q ++ functionW (getD marked (3200 + placeAt ws top) 0)) (slice-above mark 13315 hand (omega arith) (ready .from))
             ∙ ap (λ (v : ℕ). slice 13315 hand ws ++ functionW v) value-kept
             ∙ ap (λ (fs : List ℕ). slice 13315 hand ws ++ fs) (function-is (value (rowsOf ws) (placeAt ws top)))
 
@@ -225,21 +225,21 @@ module _ (index : ℕ) (ws : List ℕ) (top hand : ℕ) (ready : Ready ws top ha
         bare : (value (rowsOf ws) (placeAt ws top) ≡ 0 → ⊥) × (not (eqb (getD ws (0 + placeAt ws top) 0 % 16) 0) ≡ false)
         bare = passes-false (value (rowsOf ws) (placeAt ws top)) (getD ws (0 + placeAt ws top) 0) (sym passes-is ∙ passed)
 
-        entries₂ : placesOf (slice 9218 r ws₂) ≡ reverseAux (renderPushes index own) (placesOf (slice 9218 (top - 1) ws))
+        entries₂ : placesOf (slice 8528 r ws₂) ≡ reverseAux (renderPushes index own) (placesOf (slice 8528 (top - 1) ws))
         entries₂ =
-            ap placesOf queue₂ ∙ places-push (slice 9218 (top - 1) ws) pushed
-            ∙ ap (λ (l : List ℕ). reverseAux l (placesOf (slice 9218 (top - 1) ws))) (origin-places (rowsOf ws) (placeAt ws top) index)
+            ap placesOf queue₂ ∙ places-push (slice 8528 (top - 1) ws) pushed
+            ∙ ap (λ (l : List ℕ). reverseAux l (placesOf (slice 8528 (top - 1) ws))) (origin-places (rowsOf ws) (placeAt ws top) index)
 
         renders : (w : RenderWalk) → Shows ws top hand w → Shows ws₂ r h (renderStep index (w .queue) w)
         renders w s =
-            shows-to (renderStep index (w .queue) w) (renderNode index own (placeAt ws top) (placesOf (slice 9218 (top - 1) ws)) w)
+            shows-to (renderStep index (w .queue) w) (renderNode index own (placeAt ws top) (placesOf (slice 8528 (top - 1) ws)) w)
             (record {
               queue = entries₂;
               seen = ap (map taken) seen₂ ∙ remembered w s;
               state = state-more ws ws₂ hand h (functionOf (valueOf (value (rowsOf ws) (placeAt ws top)))) rows₂ nodes₂ handed₂
                   ∙ ap (handOver (functionOf (valueOf (value (rowsOf ws) (placeAt ws top))))) (s .state);
             })
-            (step-renders index w (placeAt ws top) (placesOf (slice 9218 (top - 1) ws)) (head w s) own (fresh w s)
+            (step-renders index w (placeAt ws top) (placesOf (slice 8528 (top - 1) ws)) (head w s) own (fresh w s)
             (ap (λ (t : State). nodeAt (t .graph) (placeAt ws top)) (sym (s .state)) ∙ graph-there ws hand (placeAt ws top) x-below (bare .0))
             (ap (λ (t : State). hasRecord (getD (t .records) (placeAt ws top) noRecord)) (sym (s .state)) ∙ record-at ws hand (placeAt ws top) x-below ∙ bare .1))
 
@@ -262,7 +262,7 @@ module _ (index : ℕ) (ws : List ℕ) (top hand : ℕ) (ready : Ready ws top ha
             nodes = nodes₂;
             aside = record {
               graph = rows₂;
-              behind = drop-more 13315 13827 ws₂ wsH (omega arith) (kept-queue .high) ∙ kept-hand .high ∙ drop-more 4096 13827 marked ws (omega arith) (mark .high);
+              behind = drop-more 13315 13827 ws₂ wsH (omega arith) (kept-queue .high) ∙ kept-hand .high ∙ drop-more 3136 13827 marked ws (omega arith) (mark .high);
               same = kept-queue .same ∙ length₁;
             };
           };

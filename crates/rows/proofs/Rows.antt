@@ -175,7 +175,7 @@ four-bounds ws size good x h =
       few = omega (arith, last .few);
     }
 
-pub rows-length : (ws : List ℕ) → LEAST ≤ length ws → length (rowsOf ws) ≡ 5122
+pub rows-length : (ws : List ℕ) → LEAST ≤ length ws → length (rowsOf ws) ≡ 5328
 unfolding rowsOf
 rows-length ws h = length-slice VALUE QUEUE ws (omega arith)
 

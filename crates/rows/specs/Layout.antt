@@ -20,11 +20,11 @@ TSPAN = 1536
 
 -- the end of the range, after 1,024 words that are not used
 abbrev pub END : ℕ
-END = 3072
+END = 2112
 
 -- what the walk under way has taken, 512 words; while building, the numbers of the blocks that have come
 abbrev pub SEEN : ℕ
-SEEN = 3584
+SEEN = 2624
 
 -- the rows of the graph, from here up to QUEUE: the values, 512 words (0 no node, 1 object, 2 phi, 3 + k function k)
 abbrev pub VALUE : ℕ
@@ -48,11 +48,11 @@ BENTRY = 8194
 
 -- the queue of a walk, 4,097 words
 abbrev pub QUEUE : ℕ
-QUEUE = 9218
+QUEUE = 8528
 
 -- while building, in the queue's words: the log of forward edges, 1,024 words
 abbrev pub EDGES : ℕ
-EDGES = 9218
+EDGES = 8528
 
 -- the log of entries, 1,024 words
 abbrev pub ENTRIES : ℕ

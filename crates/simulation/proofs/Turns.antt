@@ -222,7 +222,7 @@ turned-end {ws₀} {count} {index} {returns} {answer₀} {at} {ws} {answer} {to}
     over s d = after-done s (omega (arith, ap (λ (l : List Place). length l) (d .places), tracked-length ws₀ count)) (p .sofar s d .after)
 
 -- ---- the same from the words before the marks were cleared
-module _ (ws : List ℕ) (indexed : Indexed ws) (l : List ℕ) (is : l ≡ clearW ws 3584 512) where
+module _ (ws : List ℕ) (indexed : Indexed ws) (l : List ℕ) (is : l ≡ clearW ws 2624 512) where
   u : Unmarked ws l
   u = unmarked ws indexed l is
 
