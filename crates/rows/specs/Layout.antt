@@ -48,7 +48,11 @@ BBOUND = 5249
 abbrev pub BENTRY : ℕ
 BENTRY = 7298
 
--- the queue of a walk, 4,097 words, after 206 words that are not used
+-- how many identifiers can have a node: the values from there on are not written
+abbrev pub NODES : ℕ
+NODES = 8322
+
+-- the queue of a walk, 4,097 words, after 205 words that are not used
 abbrev pub QUEUE : ℕ
 QUEUE = 8528
 
