@@ -7,6 +7,7 @@ pub mod Levels
 pub mod Potential
 pub mod Cases
 pub mod Steps
+pub mod Conditional
 pub mod Walks
 pub mod Begin
 pub mod Start

@@ -4,10 +4,11 @@ use native.Mathlib.Omega.{arith}
 use native.Mathlib.Nat.{add-comm}
 use mathlib.Core.Bool.{Bool, true, false}
 use mathlib.Core.List.{List, [], _∷_}
-use mathlib.Core.Path.{_≡_, refl, sym, ap, _∙_}
+use mathlib.Core.Path.{_≡_, refl, sym, ap, subst, _∙_}
 use lib.ListN.{set}
 use lib.Seq.{slice, slice-empty}
 use lib.Dec.{eqb}
+use Rattle.model.specs.Lists.{Every}
 use Rattle.model.specs.Size.{enough}
 use Rattle.model.specs.Mutation.{Mutation}
 use Rattle.model.specs.State.{State, Mode}
@@ -25,7 +26,7 @@ use Rattle.aliasing.specs.declared.Mutation.{Mutation as CodeMutation}
 use Rattle.aliasing.specs.Says.{bit, kindBit, kindSays, modeSays, mutationSays}
 use Rattle.aliasing.specs.State.{seenOf, levels, NoneAbove, recordsOf, stateOf, bare, Handing}
 use Rattle.aliasing.specs.Potential.{phi}
-use Rattle.aliasing.specs.Walks.{Shows, Ready, Callable, Walked, Mutated}
+use Rattle.aliasing.specs.Walks.{Shows, Ready, TransitiveConditional, AllConditional, Callable, Walked, Mutated}
 use Rattle.aliasing.proofs.Walks.{aside-then}
 use Rattle.aliasing.proofs.Levels.{levels-none, above-as, above-more}
 use Rattle.aliasing.proofs.Potential.{phi-bound}
@@ -99,6 +100,11 @@ module _ (ws : List ℕ) (hand : ℕ) (m : CodeMutation) (base : ℕ) (indexed :
     marked = above-more (omega arith) start-marked;
     handing = record { low = handing .low; room = omega (arith, handing .room, ap (λ (ns : List ℕ). bare (recordsOf ns)) (b .nodes)) };
   }
+
+  -- the queue of a mutation that is transitive and Conditional
+  pub start-conditional : m .transitive ≡ true → kindBit (m .kind) ≡ 0 → AllConditional first-words 8529
+  unfolding mutationSays
+  start-conditional t k = record { each = subst (Every TransitiveConditional) (sym queue-is) ((t, sym (kind-is (m .kind)) ∙ ap kindOf k), tt) }
 
   pub walked-is : (ws′ : List ℕ) (count hand′ : ℕ) → Walked m base first-words 8529 hand ws′ count hand′ → Mutated m ws hand ws′ count hand′
   unfolding queueOf enough walkOf

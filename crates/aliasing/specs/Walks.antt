@@ -1,12 +1,14 @@
 -- What the functions of the walk promise, by the walk of document 01.
 use Prim.Native.Nat.{ℕ, _+_, _*_, _≤_, _<_}
-use mathlib.Core.Bool.{false}
+use mathlib.Core.Bool.{true, false}
 use mathlib.Core.List.{List}
 use mathlib.Core.Path.{_≡_}
 use lib.ListN.{length, drop}
 use lib.Seq.{slice}
+use Rattle.model.specs.Lists.{Every}
+use Rattle.model.specs.Mutation.{conditional}
 use Rattle.model.specs.Size.{edges, entries}
-use Rattle.model.specs.Walks.{Walk, step, run, mutate}
+use Rattle.model.specs.Walks.{Item, Walk, step, run, mutate}
 use Rattle.rows.specs.Layout.{LEAST, QUEUE, HANDED, MUTATIONS}
 use Rattle.rows.specs.Rows.{rowsOf, Good}
 use Rattle.pushes.specs.Items.{queueOf}
@@ -30,6 +32,14 @@ pub record Ready (base : ℕ) (ws : List ℕ) (top hand : ℕ) : Type 0 where
   pub few : base ≤ 4096
   pub marked : NoneAbove (base + 2) ws
   pub handing : Handing ws hand
+
+-- an entry that is transitive and Conditional
+abbrev pub TransitiveConditional : Item → Type 0
+TransitiveConditional e = (e .transitive ≡ true) × (e .kind ≡ conditional)
+
+-- so is every entry of the queue
+pub record AllConditional (ws : List ℕ) (top : ℕ) : Type 0 where
+  pub each : Every TransitiveConditional (queueOf (slice QUEUE top ws))
 
 -- what no part of a walk changes: the graph, and what lies behind the functions handed over
 pub record Aside (ws ws′ : List ℕ) : Type 0 where

@@ -10,12 +10,13 @@ ghost use Rattle.rows.specs.Pending.{kindOf};
 ghost use Rattle.aliasing.specs.Says.{bit, kindBit, kindSays};
 ghost use Rattle.aliasing.specs.State.{Handing, NoneAbove};
 ghost use Rattle.aliasing.specs.Accepts.{raiseW, recordW, acceptW, functionW, handW};
-ghost use Rattle.aliasing.specs.Walks.{Ready, Callable, Stepped, Walked, Mutated};
+ghost use Rattle.aliasing.specs.Walks.{Ready, AllConditional, Callable, Stepped, Walked, Mutated};
 ghost use Rattle.aliasing.specs.Pending.{Pending, Made, Processed};
 use hir::EvaluationOrder;
 use hir::IdentifierId;
 use pushes::entry;
 use pushes::push_all;
+use pushes::push_whole;
 use rows::END;
 use rows::HANDED;
 use rows::LSPAN;
@@ -196,6 +197,52 @@ fn walk(ws: &mut [u32], top: usize, hand: usize, m: Mutation, base: u32) -> Take
     }
 }
 
+// Takes the last entry pushed, in a walk whose entries are all transitive and Conditional.
+fn step_conditional(ws: &mut [u32], top: usize, hand: usize, m: Mutation, base: u32) -> Next
+    requires { ⌜ Ready base (now ws) top hand ⌝ }
+    requires { ⌜ Callable m ⌝ }
+    requires { ⌜ (QUEUE < top) × AllConditional (now ws) top ⌝ }
+    ensures { λ r. ⌜ Stepped m base (now (ws .entry)) top hand (now (ws .exit)) (r .top) (r .hand) ⌝ }
+{
+    let t = top - 1;
+    let e = ws[t];
+    let x = (e % 512) as usize;
+    if base < ws[SEEN + x] {
+        return Next { top: t, hand: hand };
+    }
+    ws[SEEN + x] = base + 1;
+    if ws[VALUE + x] == 0 {
+        return Next { top: t, hand: hand };
+    }
+    let index = m.index;
+    let h = record_errors(ws, x, m.should_record_errors, hand);
+    accept(ws, x, 1, 1, m);
+    let r = push_whole(ws, x, e / 1024 % 2, index, t);
+    Next { top: r, hand: h }
+}
+
+// Takes entries, all of them transitive and Conditional, until none is left.
+fn walk_conditional(ws: &mut [u32], top: usize, hand: usize, m: Mutation, base: u32) -> Taken
+    requires { ⌜ Ready base (now ws) top hand ⌝ }
+    requires { ⌜ Callable m ⌝ }
+    requires { ⌜ AllConditional (now ws) top ⌝ }
+    ensures { λ r. ⌜ Walked m base (now (ws .entry)) top hand (now (ws .exit)) (r .count) (r .hand) ⌝ }
+{
+    let mut t = top;
+    let mut h = hand;
+    let mut count: u32 = 0;
+    while QUEUE < t {
+        let r = step_conditional(ws, t, h, m, base);
+        t = r.top;
+        h = r.hand;
+        count += 1;
+    }
+    Taken {
+        count: count,
+        hand: h,
+    }
+}
+
 fn bit_of(b: bool) -> u32
     ensures { λ r. ⌜ r ≡ bit b ⌝ }
 {
@@ -221,6 +268,11 @@ pub fn mutate(ws: &mut [u32], hand: usize, m: Mutation, base: u32) -> Taken
 {
     let kind = m.kind;
     ws[QUEUE] = entry(m.start.0, bit_of(m.transitive), 0, kind_bit(kind));
+    if m.transitive {
+        if kind_bit(kind) == 0 {
+            return walk_conditional(ws, QUEUE + 1, hand, m, base);
+        }
+    }
     walk(ws, QUEUE + 1, hand, m, base)
 }
 

@@ -6,13 +6,13 @@ use native.Mathlib.Nat.{add-zero, add-suc}
 use mathlib.Core.Bool.{Bool, true, false, true≢false}
 use mathlib.Core.List.{List, [], _∷_, _++_, append-assoc, append-nil}
 use mathlib.Core.Path.{_≡_, refl, sym, ap, subst, _∙_}
-use lib.ListN.{length, getD, set, take, drop, length-set, take-append-drop}
-use lib.Seq.{slice, slice-cons, slice-empty, length-slice, take-set-le, drop-set-lt, getD-drop, append-snoc, take-take, drop-append-le, length-take-le}
+use lib.ListN.{length, getD, set, drop, length-set}
+use lib.Seq.{slice, slice-cons, slice-empty, length-slice, take-set-le, drop-set-lt, getD-drop, append-snoc}
 use lib.Dec.{eqb}
 use borrow.Author.Tests.{eq-eqb, ne-eqb}
 use Rattle.model.specs.Lists.{pick}
 use Rattle.rows.specs.Rows.{Kept}
-use Rattle.rows.proofs.Parts.{drop-more, drop-word, slice-at, slice-slice, slice-push, kept-none, kept-set}
+use Rattle.rows.proofs.Parts.{drop-more, drop-word, slice-at, slice-slice, slice-split, slice-push, kept-none, kept-set}
 use Rattle.building.specs.Logs.{ownerW, ownsW, without, anyP}
 use Rattle.building.specs.Held.{Others, Left}
 
@@ -93,11 +93,6 @@ without-others t x (w ∷ l) m p = go (without-others t x l m) (ownsW t x w) p
         → pick b (without t x (l ++ m)) (w ∷ without t x (l ++ m)) ≡ w ∷ (l ++ without t x m)
     go ih true e = absurd (true≢false e)
     go ih false e = ap (λ (r : List ℕ). w ∷ r) (ih e)
-
-pub slice-split : (f m t : ℕ) (l : List ℕ) → f ≤ m → m ≤ t → m ≤ length l → slice f t l ≡ slice f m l ++ slice m t l
-slice-split f m t l h k r =
-    ap (drop f) (sym (take-append-drop m (take t l)) ∙ ap (λ (u : List ℕ). u ++ drop m (take t l)) (take-take m t l k))
-    ∙ drop-append-le f (take m l) (drop m (take t l)) (omega (arith, h, length-take-le m l r))
 
 -- equal slices up to less
 pub slice-front : (f t e : ℕ) (l l′ : List ℕ) → f ≤ t → t ≤ e → e ≤ length l → e ≤ length l′ → slice f e l ≡ slice f e l′ → slice f t l ≡ slice f t l′

@@ -13,12 +13,12 @@ use Rattle.model.specs.Graph.{Graph, intoAliases, relate}
 use Rattle.model.specs.Built.{Waiting}
 use Rattle.model.specs.Building.{waitingFor}
 use Rattle.rows.specs.Layout.{LEAST, VALUE, FBOUND, EDGES, ENTRIES, PREDS, RELATIONS, HANDED}
-use Rattle.rows.proofs.Parts.{drop-more, take-less, drop-word, slice-at, slice-take, slice-drop, slice-push, slice-before, slice-after, slice-less}
+use Rattle.rows.proofs.Parts.{drop-more, take-less, drop-word, slice-at, slice-split, slice-take, slice-drop, slice-push, slice-before, slice-after, slice-less}
 use Rattle.building.specs.declared.Held.{Held}
 use Rattle.building.specs.Logs.{packW, Logs, graphOfLogs, anyP, Clean}
 use Rattle.building.specs.Held.{logsOf, graphOf, operandOf, operandsOf, waitingOf, Room, Builds, Others, Waits, Moved, Wakes}
 use Rattle.building.proofs.Graphs.{Says, says}
-use Rattle.building.proofs.Loops.{none-both, slice-split, slice-front, slice-last}
+use Rattle.building.proofs.Loops.{none-both, slice-front, slice-last}
 use Rattle.building.proofs.Writes.{logs-eq}
 
 operands-both : (ps qs ws vs : List ℕ) → length ps ≡ length ws → operandsOf (ps ++ qs) (ws ++ vs) ≡ operandsOf ps ws ++ operandsOf qs vs

@@ -8,10 +8,10 @@ use lib.ListN.{length, getD}
 use lib.Seq.{slice}
 use lib.Dec.{eqb}
 use Rattle.rows.specs.Layout.{LEAST, PREDS, RELATIONS}
-use Rattle.rows.proofs.Parts.{drop-more, drop-word, slice-drop, slice-less}
+use Rattle.rows.proofs.Parts.{drop-more, drop-word, slice-split, slice-drop, slice-less}
 use Rattle.building.specs.Logs.{anyP}
 use Rattle.building.specs.Held.{downW, fourW, Moved}
-use Rattle.building.proofs.Loops.{none-both, slice-split, slice-front, none-at}
+use Rattle.building.proofs.Loops.{none-both, slice-front, none-at}
 use Rattle.building.proofs.Operands.{test-hit, pred-kept, move-turn}
 
 moved-at : {block from left n i i′ k k′ : ℕ} {ws₀ ws : List ℕ} → Moved block from left n ws₀ i k ws → i ≡ i′ → k ≡ k′ → Moved block from left n ws₀ i′ k′ ws

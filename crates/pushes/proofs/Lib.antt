@@ -1,4 +1,5 @@
 pub mod Sizes
 pub mod Pushing
 pub mod Pushes
+pub mod Whole
 pub mod Items

@@ -94,7 +94,7 @@ module _ (ws : List ℕ) (top x direction index transitive kind : ℕ) (room : R
   is : deg (rowsOf ws) x ≡ (wordsF (rowsOf ws) x + wordsB (rowsOf ws) (4 * x)) + ((wordsB (rowsOf ws) (4 * x + 1) + wordsB (rowsOf ws) (4 * x + 2)) + wordsB (rowsOf ws) (4 * x + 3))
   is = deg-is (rowsOf ws) x (room .good) h
 
-  F-le : length (forwardW index transitive kind (rowF (rowsOf ws) x)) ≤ wordsF (rowsOf ws) x
+  pub F-le : length (forwardW index transitive kind (rowF (rowsOf ws) x)) ≤ wordsF (rowsOf ws) x
   F-le = omega (arith, forward-le index transitive kind (rowF (rowsOf ws) x), rowF-length (rowsOf ws) size (room .good) x h)
 
   pub room-edges : Room ws top (wordsF (rowsOf ws) x)

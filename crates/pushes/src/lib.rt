@@ -186,3 +186,20 @@ pub fn push_all(
     let d = push_aliases(ws, x, direction, index, transitive, kind, b);
     push_captures(ws, x, index, transitive, kind, d)
 }
+
+// All that node x pushes in a transitive walk of kind Conditional: its four lists of entries lie side by side and are pushed alike, but for a phi arrived at forwards.
+pub fn push_whole(ws: &mut [u32], x: usize, direction: u32, index: u32, top: usize) -> usize
+    requires { ⌜ Room (now ws) top (deg (rowsOf (now ws)) x) ⌝ }
+    requires { ⌜ (x < 512) × (x < used (rowsOf (now ws))) ⌝ }
+    ensures { λ r. ⌜ Pushed (now (ws .entry)) top (pushedW (rowsOf (now (ws .entry))) x direction index 1 0) (now (ws .exit)) r ⌝ }
+{
+    let t1 = push_edges(ws, x, index, 1, 0, top);
+    if blocked(ws[VALUE + x], direction) {
+        let b = push_list(ws, 4 * x, index, 1, 0, t1);
+        return push_list(ws, 4 * x + 3, index, 1, 0, b);
+    }
+    let all = wide(ws[BBOUND]);
+    let lo = all - wide(ws[BBOUND + 4 * x]);
+    let hi = all - wide(ws[BBOUND + 4 * x + 4]);
+    push_entries(ws, BENTRY + lo, BENTRY + hi, index, 1, 0, t1)
+}

@@ -5,7 +5,7 @@ use native.Mathlib.Nat.{add-zero, zero-add, add-suc, suc-add}
 use mathlib.Core.Bool.{Bool, true, false}
 use mathlib.Core.List.{List, [], _∷_, _++_}
 use mathlib.Core.Path.{_≡_, refl, sym, ap, subst, _∙_}
-use lib.ListN.{length, getD, set, take, drop, length-set, length-append}
+use lib.ListN.{length, getD, set, take, drop, length-set, length-append, take-append-drop}
 use lib.Seq.{slice, sets, sets-eq, length-sets, length-slice, length-take-le, take-set-le, take-set-lt, drop-set-lt, drop-set-add, getD-take, getD-drop, take-take, drop-drop, take-at, drop-at, drop-append-le, take-suc-set, ext-getD}
 use lib.Dec.{leb, ltb, eqb}
 use Rattle.model.specs.Lists.{pick}
@@ -23,6 +23,12 @@ slice-slice f t a b l h k =
     ext-getD 0 (slice a b (slice f t l)) (slice (f + a) (f + b) l) (omega arith)
     (λ i j. slice-at a b i (slice f t l) (omega arith) ∙ slice-at f t (a + i) l (omega arith)
     ∙ ap (λ (m : ℕ). getD l m 0) (omega arith) ∙ sym (slice-at (f + a) (f + b) i l (omega arith)))
+
+-- two slices side by side
+pub slice-split : (f m t : ℕ) (l : List ℕ) → f ≤ m → m ≤ t → m ≤ length l → slice f t l ≡ slice f m l ++ slice m t l
+slice-split f m t l h k r =
+    ap (drop f) (sym (take-append-drop m (take t l)) ∙ ap (λ (u : List ℕ). u ++ drop m (take t l)) (take-take m t l k))
+    ∙ drop-append-le f (take m l) (drop m (take t l)) (omega (arith, h, length-take-le m l r))
 
 slice-as : (f k : ℕ) (l : List ℕ) → drop f (take (f + k) l) ≡ take k (drop f l)
 slice-as zero k l = ap (λ (n : ℕ). take n l) (zero-add k)

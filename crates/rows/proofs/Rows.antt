@@ -118,26 +118,32 @@ module _ (ws : List ℕ) (size : LEAST ≤ length ws) where
       ∙ sym (slice-slice VALUE QUEUE (1025 + lo) (1025 + hi) ws (omega arith) (omega arith))
       ∙ ap (λ (n : ℕ). slice (1025 + n) (1025 + hi) (rowsOf ws)) p ∙ ap (λ (n : ℕ). slice (1025 + fb (rowsOf ws) x) (1025 + n) (rowsOf ws)) q
 
-  pub rowB-at : (k lo hi : ℕ) → lo ≡ bb (rowsOf ws) k → hi ≡ bb (rowsOf ws) (k + 1) → hi ≤ 1024 → slice (BENTRY + lo) (BENTRY + hi) ws ≡ rowB (rowsOf ws) k
-  unfolding rowB rowsOf
-  rowB-at k lo hi p q h =
+  -- entries of the rows, wherever they begin and end
+  pub entries-at : (lo hi : ℕ) → hi ≤ 1024 → slice (BENTRY + lo) (BENTRY + hi) ws ≡ slice (4098 + lo) (4098 + hi) (rowsOf ws)
+  unfolding rowsOf
+  entries-at lo hi h =
       let a : BENTRY + lo ≡ VALUE + (4098 + lo) = omega arith in
       let b : BENTRY + hi ≡ VALUE + (4098 + hi) = omega arith in
       ap (λ (n : ℕ). slice n (BENTRY + hi) ws) a ∙ ap (λ (n : ℕ). slice (VALUE + (4098 + lo)) n ws) b
       ∙ sym (slice-slice VALUE QUEUE (4098 + lo) (4098 + hi) ws (omega arith) (omega arith))
+
+  pub rowB-at : (k lo hi : ℕ) → lo ≡ bb (rowsOf ws) k → hi ≡ bb (rowsOf ws) (k + 1) → hi ≤ 1024 → slice (BENTRY + lo) (BENTRY + hi) ws ≡ rowB (rowsOf ws) k
+  unfolding rowB
+  rowB-at k lo hi p q h =
+      entries-at lo hi h
       ∙ ap (λ (n : ℕ). slice (4098 + n) (4098 + hi) (rowsOf ws)) p ∙ ap (λ (n : ℕ). slice (4098 + bb (rowsOf ws) k) (4098 + n) (rowsOf ws)) q
 
--- ---- the two bounds of row k, whose words stand from o on, as the code reads them
-pub record Bounds (ws : List ℕ) (o k b b′ : ℕ) : Type 0 where
-  pub in-lo : getD ws (o + k) 0 ≤ getD ws o 0
-  pub in-hi : getD ws (o + k + 1) 0 ≤ getD ws o 0
-  pub is-lo : getD ws o 0 - getD ws (o + k) 0 ≡ b
-  pub is-hi : getD ws o 0 - getD ws (o + k + 1) 0 ≡ b′
+-- ---- the two bounds of a run of words, b and b′, as the code reads them from the words i and j; the word o counts all
+pub record Bounds (ws : List ℕ) (o i j b b′ : ℕ) : Type 0 where
+  pub in-lo : getD ws i 0 ≤ getD ws o 0
+  pub in-hi : getD ws j 0 ≤ getD ws o 0
+  pub is-lo : getD ws o 0 - getD ws i 0 ≡ b
+  pub is-hi : getD ws o 0 - getD ws j 0 ≡ b′
   pub up : b ≤ b′
   pub few : b′ ≤ 1024
 
 module _ (ws : List ℕ) (size : LEAST ≤ length ws) (good : Good (rowsOf ws)) (k : ℕ) where
-  pub list-bounds : k < 4 * used (rowsOf ws) → Bounds ws BBOUND k (bb (rowsOf ws) k) (bb (rowsOf ws) (k + 1))
+  pub list-bounds : k < 4 * used (rowsOf ws) → Bounds ws BBOUND (BBOUND + k) (BBOUND + k + 1) (bb (rowsOf ws) k) (bb (rowsOf ws) (k + 1))
   list-bounds h =
       let few = used-few (rowsOf ws) in
       let all = b-word ws size 0 (omega arith) in
@@ -151,7 +157,7 @@ module _ (ws : List ℕ) (size : LEAST ≤ length ws) (good : Good (rowsOf ws)) 
         few = good .b-top (k + 1) (omega (arith, few));
       }
 
-  pub edge-bounds : k < used (rowsOf ws) → Bounds ws FBOUND k (fb (rowsOf ws) k) (fb (rowsOf ws) (k + 1))
+  pub edge-bounds : k < used (rowsOf ws) → Bounds ws FBOUND (FBOUND + k) (FBOUND + k + 1) (fb (rowsOf ws) k) (fb (rowsOf ws) (k + 1))
   edge-bounds h =
       let few = used-few (rowsOf ws) in
       let all = f-word ws size 0 (omega arith) in
@@ -164,6 +170,25 @@ module _ (ws : List ℕ) (size : LEAST ≤ length ws) (good : Good (rowsOf ws)) 
         up = good .f-up k (omega (arith, few));
         few = good .f-top (k + 1) (omega (arith, few));
       }
+
+-- the four lists of x together
+pub four-bounds : (ws : List ℕ) → LEAST ≤ length ws → Good (rowsOf ws) → (x : ℕ) → x < used (rowsOf ws) → Bounds ws BBOUND (BBOUND + 4 * x) (BBOUND + 4 * x + 4) (bb (rowsOf ws) (4 * x)) (bb (rowsOf ws) (4 * x + 4))
+four-bounds ws size good x h =
+    let few = used-few (rowsOf ws) in
+    let first = list-bounds ws size good (4 * x) (omega arith) in
+    let last = list-bounds ws size good (4 * x + 3) (omega arith) in
+    let n : getD ws (BBOUND + (4 * x + 3) + 1) 0 ≡ getD ws (BBOUND + 4 * x + 4) 0 = ap (λ (i : ℕ). getD ws i 0) (omega arith) in
+    let e₂ : bb (rowsOf ws) (4 * x + 1 + 1) ≡ bb (rowsOf ws) (4 * x + 2) = ap (bb (rowsOf ws)) (omega arith) in
+    let e₃ : bb (rowsOf ws) (4 * x + 2 + 1) ≡ bb (rowsOf ws) (4 * x + 3) = ap (bb (rowsOf ws)) (omega arith) in
+    let e₄ : bb (rowsOf ws) (4 * x + 3 + 1) ≡ bb (rowsOf ws) (4 * x + 4) = ap (bb (rowsOf ws)) (omega arith) in
+    record {
+      in-lo = first .in-lo;
+      in-hi = omega (arith, n, last .in-hi);
+      is-lo = first .is-lo;
+      is-hi = omega (arith, n, last .is-hi);
+      up = omega (arith, first .up, good .b-up (4 * x + 1) (omega (arith, few)), good .b-up (4 * x + 2) (omega (arith, few)), last .up);
+      few = omega (arith, last .few);
+    }
 
 pub rows-length : (ws : List ℕ) → LEAST ≤ length ws → length (rowsOf ws) ≡ 5328
 unfolding rowsOf

@@ -13,7 +13,7 @@ use Rattle.pushes.proofs.push_edges.Lts as lts
 use Rattle.pushes.proofs.push_forward.Reads as push-forward-reads
 use Rattle.pushes.proofs.wide.Reads as wide-reads
 
-bounds : (s : tie.Start) → Bounds (s .args .ws .now) FBOUND (s .args .x) (fb (rowsOf (s .args .ws .now)) (s .args .x)) (fb (rowsOf (s .args .ws .now)) (s .args .x + 1))
+bounds : (s : tie.Start) → Bounds (s .args .ws .now) FBOUND (FBOUND + s .args .x) (FBOUND + s .args .x + 1) (fb (rowsOf (s .args .ws .now)) (s .args .x)) (fb (rowsOf (s .args .ws .now)) (s .args .x + 1))
 bounds s = edge-bounds (s .args .ws .now) (s .pre .0 .size) (s .pre .0 .good) (s .args .x) (s .pre .1 .1 .1 .1)
 
 slice-read-wide : tie.Need-slice-read-wide

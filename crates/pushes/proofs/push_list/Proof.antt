@@ -13,7 +13,7 @@ use Rattle.pushes.proofs.push_list.Lts as lts
 use Rattle.pushes.proofs.push_entries.Reads as push-entries-reads
 use Rattle.pushes.proofs.wide.Reads as wide-reads
 
-bounds : (s : tie.Start) → Bounds (s .args .ws .now) BBOUND (s .args .k) (bb (rowsOf (s .args .ws .now)) (s .args .k)) (bb (rowsOf (s .args .ws .now)) (s .args .k + 1))
+bounds : (s : tie.Start) → Bounds (s .args .ws .now) BBOUND (BBOUND + s .args .k) (BBOUND + s .args .k + 1) (bb (rowsOf (s .args .ws .now)) (s .args .k)) (bb (rowsOf (s .args .ws .now)) (s .args .k + 1))
 bounds s = list-bounds (s .args .ws .now) (s .pre .0 .size) (s .pre .0 .good) (s .args .k) (s .pre .1 .1 .1 .1)
 
 slice-read-wide : tie.Need-slice-read-wide

@@ -1,0 +1,131 @@
+use Rattle.aliasing.proofs.Conditional.{conditional-seen, conditional-missing, conditional-room, conditional-used, conditional-accepted}
+use lib.ListN.{length-set}
+use mathlib.Core.Path.{_∙_}
+use native.Mathlib.Omega.{arith}
+use borrow.Author.Needs.{needs}
+use Rattle.aliasing.proofs.step_conditional.Statement.{statement}
+use Rattle.aliasing.proofs.step_conditional.Tie as tie
+use Rattle.aliasing.proofs.step_conditional.Reads as reads
+use Rattle.aliasing.proofs.step_conditional.Lts as lts
+use Rattle.aliasing.proofs.accept.Reads as accept-reads
+use Rattle.aliasing.proofs.record_errors.Reads as record-errors-reads
+use Rattle.pushes.proofs.push_whole.Reads as push-whole-reads
+
+sub-t : tie.Need-sub-t
+sub-t c = omega arith
+
+mul-e : tie.Need-mul-e
+mul-e c = omega arith
+
+slice-read-e : tie.Need-slice-read-e
+slice-read-e c = omega arith
+
+cast-x : tie.Need-cast-x
+cast-x c = omega arith
+
+add-if1 : tie.Need-add-if1
+add-if1 c = omega arith
+
+mul-if1 : tie.Need-mul-if1
+mul-if1 c = omega arith
+
+slice-read-if1 : tie.Need-slice-read-if1
+slice-read-if1 c = omega arith
+
+returns : tie.Need-returns
+returns c =
+    let b4 = c .before .before .before .before in
+    conditional-seen (b4 .args .m) (b4 .args .base) (b4 .args .ws .now) (b4 .args .top) (b4 .args .hand) (b4 .pre .0) (b4 .pre .1 .0) (b4 .pre .1 .1) (c .if1 .taken)
+
+add-ws : tie.Need-add-ws
+add-ws c =
+    let b4 = c .before .before .before .before in
+    omega (arith, b4 .pre .0 .few)
+
+add-ws-2 : tie.Need-add-ws-2
+add-ws-2 c = omega arith
+
+mul-ws : tie.Need-mul-ws
+mul-ws c = omega arith
+
+slice-write-ws : tie.Need-slice-write-ws
+slice-write-ws c = omega arith
+
+add-if2 : tie.Need-add-if2
+add-if2 c = omega arith
+
+mul-if2 : tie.Need-mul-if2
+mul-if2 c = omega arith
+
+slice-read-if2 : tie.Need-slice-read-if2
+slice-read-if2 c = simp length-set (omega arith)
+
+same-length : tie.Need-same-length
+same-length c = search needs
+
+returns-2 : tie.Need-returns-2
+returns-2 c =
+    let b6 = c .before .before .before .before .before .before in
+    conditional-missing (b6 .args .m) (b6 .args .base) (b6 .args .ws .now) (b6 .args .top) (b6 .args .hand) (b6 .pre .0) (b6 .pre .1 .0) (b6 .pre .1 .1) (c .before .before .if1 .left) (c .if2 .taken)
+
+record-errors-requires : tie.Need-record-errors-requires
+record-errors-requires c κs =
+    let b7 = c .before .before .before .before .before .before .before in
+    (omega arith, (simp length-set (omega arith), omega (arith, b7 .pre .0 .handing .room)))
+
+accept-requires : tie.Need-accept-requires
+accept-requires c κs =
+    let b3 = c .before .before .before in
+    let b11 = b3 .before .before .before .before .before .before .before .before in
+    ((omega arith, (omega (arith, simp length-set at (b3 .record-errors .kept .0)), omega arith)), b11 .pre .1 .0)
+
+push-whole-requires : tie.Need-push-whole-requires
+push-whole-requires c κs =
+    let b3 = c .before .before .before in
+    let b7 = b3 .before .before .before .before in
+    let b9 = b7 .before .before in
+    let b11 = b9 .before .before in
+    let b15 = b11 .before .before .before .before in
+    (conditional-room (b15 .args .m) (b15 .args .base) (b15 .args .ws .now) (b15 .args .top) (b15 .args .hand) (b15 .pre .0) (b15 .pre .1 .0) (b15 .pre .1 .1) (b11 .if1 .left) (b7 .record-errors .last .0) (b7 .record-errors .result) (b7 .record-errors .ensures) (b3 .accept .last .0) (b3 .accept .ensures), (omega arith, conditional-used (b15 .args .m) (b15 .args .base) (b15 .args .ws .now) (b15 .args .top) (b15 .args .hand) (b15 .pre .0) (b15 .pre .1 .0) (b15 .pre .1 .1) (b11 .if1 .left) (b7 .record-errors .last .0) (b7 .record-errors .result) (b7 .record-errors .ensures) (b3 .accept .last .0) (b3 .accept .ensures) (b9 .if2 .left)))
+
+same-length-2 : tie.Need-same-length-2
+same-length-2 c =
+    let b6 = c .before .before .before .before .before .before in
+    let b10 = b6 .before .before .before .before in
+    c .before .before .push-whole .kept .0 ∙ b6 .accept .kept .0 ∙ b10 .record-errors .kept .0 ∙ simp length-set
+
+returns-3 : tie.Need-returns-3
+returns-3 c =
+    let b6 = c .before .before .before .before .before .before in
+    let b10 = b6 .before .before .before .before in
+    let b12 = b10 .before .before in
+    let b14 = b12 .before .before in
+    let b18 = b14 .before .before .before .before in
+    conditional-accepted (b18 .args .m) (b18 .args .base) (b18 .args .ws .now) (b18 .args .top) (b18 .args .hand) (b18 .pre .0) (b18 .pre .1 .0) (b18 .pre .1 .1) (b14 .if1 .left) (b10 .record-errors .last .0) (b10 .record-errors .result) (b10 .record-errors .ensures) (b6 .accept .last .0) (b6 .accept .ensures) (b12 .if2 .left) (c .before .before .push-whole .last .0) (c .before .before .push-whole .result) (c .before .before .push-whole .ensures)
+
+pub step-conditional-spec : {M : Type 1} → statement M
+step-conditional-spec =
+    tie.close
+    (tie.spec
+    sub-t
+    mul-e
+    slice-read-e
+    cast-x
+    add-if1
+    mul-if1
+    slice-read-if1
+    returns
+    add-ws
+    add-ws-2
+    mul-ws
+    slice-write-ws
+    add-if2
+    mul-if2
+    slice-read-if2
+    same-length
+    returns-2
+    record-errors-requires
+    accept-requires
+    push-whole-requires
+    same-length-2
+    returns-3)
