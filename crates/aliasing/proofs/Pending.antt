@@ -30,7 +30,7 @@ use Rattle.aliasing.proofs.Parts.{slice-below, nodes-below, seen-below,
 use Rattle.aliasing.proofs.Hands.{bare-top, records-length}
 use Rattle.aliasing.proofs.Steps.{state-same}
 use Rattle.aliasing.proofs.Levels.{above-as, above-more}
-use Rattle.aliasing.proofs.Begin.{Unmarked, unmarked, unmarked-marks}
+use Rattle.aliasing.proofs.Begin.{Unmarked, unmarked-nodes, unmarked-none}
 
 -- ---- one mutation by its words
 pub kind-definite : (b : ℕ) → (b ≡ 0 → ⊥) → definite ≡ kindOf b
@@ -191,7 +191,7 @@ module _ (errors : Bool) (ws₀ : List ℕ) (count : ℕ) (ws : List ℕ) (i han
         good = subst Good (sym rows-next) (p .indexed .good);
       };
       handing = handing-word ws₁ (13827 + 3 * i + 2) c (omega arith) h (w .handing);
-      marked = above-more (omega arith) (above-as (seen-below (kept-word ws₁ (13827 + 3 * i + 2) c (omega arith)) (omega arith)) marks);
+      marked = above-more (omega arith) (above-as (seen-below (kept-word ws₁ (13827 + 3 * i + 2) c (omega arith)) (omega arith)) (rows-below (kept-word ws₁ (13827 + 3 * i + 2) c (omega arith)) (omega arith)) marks);
       rest = drop-set-lt (13827 + 3 * (i + 1)) ws₁ (13827 + 3 * i + 2) c (omega arith)
           ∙ drop-more 13827 (13827 + 3 * (i + 1)) ws₁ ws (omega arith) (w .aside .behind) ∙ drop-more (13827 + 3 * i) (13827 + 3 * (i + 1)) ws ws₀ (omega arith) (p .rest);
       state = ap (after (real errors) (drop (i + 1) (mutationsOf ws₀ count))) state-next
@@ -227,9 +227,9 @@ process-end errors ws₀ count ws i hand p done =
     }
 
 -- ---- the same from the words before the marks were cleared
-module _ (ws : List ℕ) (indexed : Indexed ws) (l : List ℕ) (is : l ≡ clearW ws 2624 512) (count : ℕ) (pending : Pending ws count) where
+module _ (ws : List ℕ) (indexed : Indexed ws) (l : List ℕ) (is : l ≡ clearW ws 2624 (getD ws 8322 0)) (count : ℕ) (pending : Pending ws count) where
   u : Unmarked ws l
-  u = unmarked ws indexed l is
+  u = unmarked-nodes ws indexed l is
 
   mutations-are : mutationsOf l count ≡ mutationsOf ws count
   mutations-are = mutations-kept ws l count (u .aside .behind)
@@ -237,7 +237,7 @@ module _ (ws : List ℕ) (indexed : Indexed ws) (l : List ℕ) (is : l ≡ clear
   pub cleared-start : (errors : Bool) → Processing errors l count l 0 13315
   cleared-start errors =
       process-start errors l count (u .indexed)
-      (record { few = pending .few; orders = subst (Every (λ (m : Mutation). m .order ≤ 999999)) (sym mutations-are) (pending .orders) }) (unmarked-marks u)
+      (record { few = pending .few; orders = subst (Every (λ (m : Mutation). m .order ≤ 999999)) (sym mutations-are) (pending .orders) }) (unmarked-none ws indexed l is)
 
   pub cleared-end : (errors : Bool) (ws′ : List ℕ) (hand : ℕ) → Processed errors l count ws′ hand → Processed errors ws count ws′ hand
   cleared-end errors ws′ hand p = record {

@@ -9,7 +9,7 @@ use Rattle.model.specs.Lists.{tally, oneIf}
 use Rattle.model.specs.Mutation.{reasonOf}
 use Rattle.model.specs.State.{Info, Record, hasRecord, State}
 use Rattle.rows.specs.Layout.{RECORD, LSPAN, TSPAN, END, SEEN, VALUE, HANDED, MUTATIONS}
-use Rattle.rows.specs.Rows.{rowsOf}
+use Rattle.rows.specs.Rows.{rowsOf, limit}
 use Rattle.rows.specs.Graph.{tab, graphOfRows}
 use Rattle.rows.specs.Pending.{kindOf}
 
@@ -25,9 +25,9 @@ seenOf ws = slice SEEN (SEEN + 512) ws
 unfoldable pub levels : ℕ → List ℕ → List ℕ
 levels base seen = tab 512 (λ (x : ℕ). getD seen x 0 - base)
 
--- no mark is above `most`
+-- no mark of an identifier that can have a node is above `most`
 pub record NoneAbove (most : ℕ) (ws : List ℕ) : Type 0 where
-  pub marks : (x : ℕ) → x < 512 → getD (seenOf ws) x 0 ≤ most
+  pub marks : (x : ℕ) → x < limit (rowsOf ws) → getD (seenOf ws) x 0 ≤ most
 
 -- a record by its kind (0 is none, else the level) and the word of its span
 abbrev pub infoOf : ℕ → ℕ → Option Info

@@ -21,6 +21,7 @@ use rows::END;
 use rows::HANDED;
 use rows::LSPAN;
 use rows::MUTATIONS;
+use rows::NODES;
 use rows::QUEUE;
 use rows::RECORD;
 use rows::SEEN;
@@ -164,6 +165,10 @@ fn step(ws: &mut [u32], top: usize, hand: usize, m: Mutation, base: u32) -> Next
     if base + kind < ws[SEEN + x] {
         return Next { top: t, hand: hand };
     }
+    // From the limit on there is no node, and no value is written.
+    if ws[NODES] <= e % 512 {
+        return Next { top: t, hand: hand };
+    }
     ws[SEEN + x] = base + kind + 1;
     if ws[VALUE + x] == 0 {
         return Next { top: t, hand: hand };
@@ -208,6 +213,10 @@ fn step_conditional(ws: &mut [u32], top: usize, hand: usize, m: Mutation, base: 
     let e = ws[t];
     let x = (e % 512) as usize;
     if base < ws[SEEN + x] {
+        return Next { top: t, hand: hand };
+    }
+    // From the limit on there is no node, and no value is written.
+    if ws[NODES] <= e % 512 {
         return Next { top: t, hand: hand };
     }
     ws[SEEN + x] = base + 1;
@@ -310,7 +319,8 @@ pub fn process_mutations(ws: &mut [u32], count: usize, should_record_errors: boo
     requires { ⌜ Pending (now ws) count ⌝ }
     ensures { λ r. ⌜ Processed «should_record_errors» (now (ws .entry)) count (now (ws .exit)) r ⌝ }
 {
-    clear(ws, SEEN, 512);
+    let nodes = ws[NODES] as usize;
+    clear(ws, SEEN, nodes);
     let mut i = 0;
     let mut hand = HANDED;
     while i < count {
