@@ -10,19 +10,19 @@ use Rattle.model.specs.Mutation.{Mutation as ModelMutation}
 use Rattle.model.specs.State.{real}
 use Rattle.model.specs.Walks.{Walk}
 use Rattle.model.specs.Runs.{walksOf, after}
-use Rattle.rows.specs.Layout.{KEPT, HANDED, MUTATIONS, RENDERS}
-use Rattle.rows.specs.Rows.{rowsOf, limit}
+use Rattle.rows.specs.Layout.{HANDED, MUTATIONS, RENDERS}
+use Rattle.rows.specs.Rows.{rowsOf}
 use Rattle.rows.specs.Graph.{tab}
 use Rattle.rows.specs.Pending.{mutationOf, mutationsOf}
 use Rattle.aliasing.specs.Says.{modeSays, mutationSays}
-use Rattle.aliasing.specs.State.{stateOf, Handing}
+use Rattle.aliasing.specs.State.{Covered, stateOf, Handing}
 use Rattle.aliasing.specs.Walks.{Callable}
 use Rattle.aliasing.specs.declared.Mutation.{Mutation}
 
--- `count` mutations are pending, each of an instruction's order; every identifier that can have a node has its record
+-- `count` mutations are pending, each of an instruction's order; every identifier that can have a node has its words
 pub record Pending (ws : List ℕ) (count : ℕ) : Type 0 where
   pub few : count ≤ mostMutations
-  pub covered : limit (rowsOf ws) ≤ getD ws KEPT 0
+  pub covered : Covered ws
   pub orders : Every (λ (m : ModelMutation). m .order ≤ mostOrder) (mutationsOf ws count)
 
 -- the code's mutation is that of the three words, and real

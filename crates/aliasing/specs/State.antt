@@ -26,9 +26,9 @@ seenOf ws = slice SEEN (SEEN + 512) ws
 unfoldable pub levels : ℕ → List ℕ → List ℕ
 levels base seen = tab 512 (λ (x : ℕ). getD seen x 0 - base)
 
--- no mark is above `most`
+-- no mark of an identifier that can have a node is above `most`
 pub record NoneAbove (most : ℕ) (ws : List ℕ) : Type 0 where
-  pub marks : (x : ℕ) → x < 512 → getD (seenOf ws) x 0 ≤ most
+  pub marks : (x : ℕ) → x < limit (rowsOf ws) → getD (seenOf ws) x 0 ≤ most
 
 -- a record by its kind (0 is none, else the level) and the word of its span
 abbrev pub infoOf : ℕ → ℕ → Option Info
@@ -47,6 +47,10 @@ recordIn w ts ls = record {
 -- the word of x in the field that begins at f: 0 for an identifier that none is kept for
 unfoldable pub fieldAt : List ℕ → ℕ → ℕ → ℕ
 fieldAt ns f x = pick (ltb x (getD ns KEPT 0)) (getD ns (f + x) 0) 0
+
+-- every identifier that can have a node has its words
+abbrev pub Covered : List ℕ → Type 0
+Covered ws = limit (rowsOf ws) ≤ getD (nodesOf ws) KEPT 0
 
 -- what the fields keep of x
 unfoldable pub recordAt : List ℕ → ℕ → Record
@@ -73,8 +77,8 @@ stateOf ws hand = record {
 unfoldable pub bare : List Record → ℕ
 bare rs = tally (λ (r : Record). oneIf (not (hasRecord r))) rs
 
--- every identifier that can have a node has its record; the functions handed over leave room for one of each identifier without a record: none is handed over by an identifier that has one
+-- every identifier that can have a node has its words; the functions handed over leave room for one of each identifier without a record: none is handed over by an identifier that has one
 pub record Handing (ws : List ℕ) (hand : ℕ) : Type 0 where
   pub low : HANDED ≤ hand
-  pub covered : limit (rowsOf ws) ≤ getD ws KEPT 0
+  pub covered : Covered ws
   pub room : hand + bare (recordsOf (nodesOf ws)) ≤ MUTATIONS
