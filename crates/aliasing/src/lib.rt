@@ -227,7 +227,7 @@ fn step_conditional(ws: &mut [u32], top: usize, hand: usize, m: Mutation, base: 
     if base < ws[SEEN + x] {
         return Next { top: t, hand: hand };
     }
-    // From the limit on there is no node, and no value is written.
+    // As in `step`: from the limit on there is no node.
     if ws[NODES] <= e % 512 {
         return Next { top: t, hand: hand };
     }

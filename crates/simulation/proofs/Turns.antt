@@ -28,7 +28,7 @@ use Rattle.aliasing.specs.State.{NoneAbove, stateOf}
 use Rattle.aliasing.specs.Walks.{Callable, Mutated}
 use Rattle.aliasing.proofs.Parts.{slice-below, nodes-below, seen-below, rows-below}
 use Rattle.aliasing.proofs.Levels.{above-as, above-more}
-use Rattle.aliasing.proofs.Begin.{Unmarked, unmarked, unmarked-marks}
+use Rattle.aliasing.proofs.Begin.{Unmarked, unmarked-nodes, unmarked-none}
 use Rattle.aliasing.proofs.Steps.{state-same}
 use Rattle.writing.specs.Wrote.{Wrote}
 use Rattle.writing.proofs.Writing.{wrote-none, wrote-then, wrote-as}
@@ -196,7 +196,7 @@ module _ {ws₀ : List ℕ} {count index returns : ℕ} {answer₀ : List ℕ} {
   turned-turn sd f e = record {
     sofar = λ s d. sofar-next s d f (p .sofar s d);
     indexed = record { size = stored-size; good = subst Good (sym stored-rows) (p .indexed .good) };
-    marks = above-more (omega arith) (above-as (seen-below stored-kept (omega arith)) (mutated .1));
+    marks = above-more (omega arith) (above-as (seen-below stored-kept (omega arith)) (rows-below stored-kept (omega arith)) (mutated .1));
     mid = omega arith;
     number = omega (arith, p .number);
     places = stored-places;
@@ -222,12 +222,12 @@ turned-end {ws₀} {count} {index} {returns} {answer₀} {at} {ws} {answer} {to}
     over s d = after-done s (omega (arith, ap (λ (l : List Place). length l) (d .places), tracked-length ws₀ count)) (p .sofar s d .after)
 
 -- ---- the same from the words before the marks were cleared
-module _ (ws : List ℕ) (indexed : Indexed ws) (l : List ℕ) (is : l ≡ clearW ws 2624 512) where
+module _ (ws : List ℕ) (indexed : Indexed ws) (l : List ℕ) (is : l ≡ clearW ws 2624 (getD ws 8322 0)) where
   u : Unmarked ws l
-  u = unmarked ws indexed l is
+  u = unmarked-nodes ws indexed l is
 
   pub cleared-start : (count index returns : ℕ) (answer : List ℕ) (at : ℕ) → Turned l count index returns answer at l answer at 0 index
-  cleared-start count index returns answer at = turned-start l count index returns answer at (u .indexed) (unmarked-marks u)
+  cleared-start count index returns answer at = turned-start l count index returns answer at (u .indexed) (unmarked-none ws indexed l is)
 
   pub cleared-marked : (s : Sheet) {count index returns : ℕ} → Marked s ws count index returns → Marked s l count index returns
   cleared-marked s {count} d = record {

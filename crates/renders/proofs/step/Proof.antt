@@ -10,6 +10,7 @@ use Rattle.renders.proofs.step.Lts as lts
 use Rattle.aliasing.proofs.append_function_errors.Reads as append-function-errors-reads
 use Rattle.renders.proofs.passes_by.Reads as passes-by-reads
 use Rattle.renders.proofs.push_origins.Reads as push-origins-reads
+use Rattle.renders.proofs.value_of.Reads as value-of-reads
 
 sub-t : tie.Need-sub-t
 sub-t c = omega arith
@@ -46,6 +47,9 @@ mul-ws c = omega arith
 slice-write-ws : tie.Need-slice-write-ws
 slice-write-ws c = omega arith
 
+value-of-requires : tie.Need-value-of-requires
+value-of-requires c κs = (omega arith, simp length-set (omega arith))
+
 add-passes-by : tie.Need-add-passes-by
 add-passes-by c = omega arith
 
@@ -55,15 +59,6 @@ mul-passes-by c = omega arith
 slice-read-passes-by : tie.Need-slice-read-passes-by
 slice-read-passes-by c = simp length-set (omega arith)
 
-add-passes-by-2 : tie.Need-add-passes-by-2
-add-passes-by-2 c = omega arith
-
-mul-passes-by-2 : tie.Need-mul-passes-by-2
-mul-passes-by-2 c = omega arith
-
-slice-read-passes-by-2 : tie.Need-slice-read-passes-by-2
-slice-read-passes-by-2 c = simp length-set (omega arith)
-
 passes-by-requires : tie.Need-passes-by-requires
 passes-by-requires c κs = omega arith
 
@@ -72,24 +67,26 @@ same-length c = search needs
 
 returns-2 : tie.Need-returns-2
 returns-2 c =
-    let b4 = c .before .before .before .before in
-    let b8 = b4 .before .before .before .before in
-    step-passed (b8 .args .index) (b8 .args .ws .now) (b8 .args .top) (b8 .args .hand) (b8 .pre .0) (b8 .pre .1) (b4 .if1 .left) (sym (c .before .passes-by .ensures)
+    let b3 = c .before .before .before in
+    let b5 = b3 .before .before in
+    let b9 = b5 .before .before .before .before in
+    step-passed (b9 .args .index) (b9 .args .ws .now) (b9 .args .top) (b9 .args .hand) (b9 .pre .0) (b9 .pre .1) (b5 .if1 .left) (b3 .value-of .result) (b3 .value-of .ensures) (sym (c .before .passes-by .ensures)
     ∙ c .if2 .taken)
 
 append-function-errors-requires : tie.Need-append-function-errors-requires
 append-function-errors-requires c κs =
-    let b9 = c .before .before .before .before .before .before .before .before .before in
-    (omega arith, (simp length-set (omega arith), omega (arith, b9 .pre .0 .room)))
+    let b10 = c .before .before .before .before .before .before .before .before .before .before in
+    (omega arith, (simp length-set (omega arith), omega (arith, b10 .pre .0 .room)))
 
 push-origins-requires : tie.Need-push-origins-requires
 push-origins-requires c κs =
     let b3 = c .before .before .before in
     let b5 = b3 .before .before in
     let b6 = b5 .before in
-    let b9 = b6 .before .before .before in
-    let b13 = b9 .before .before .before .before in
-    (step-room (b13 .args .index) (b13 .args .ws .now) (b13 .args .top) (b13 .args .hand) (b13 .pre .0) (b13 .pre .1) (b9 .if1 .left) (b3 .append-function-errors .last .0) (b3 .append-function-errors .result) (b3 .append-function-errors .ensures), (omega arith, step-used (b13 .args .index) (b13 .args .ws .now) (b13 .args .top) (b13 .args .hand) (b13 .pre .0) (b13 .pre .1) (b9 .if1 .left) (b3 .append-function-errors .last .0) (b3 .append-function-errors .result) (b3 .append-function-errors .ensures) (sym (b6 .passes-by .ensures) ∙ b5 .if2 .left)))
+    let b8 = b6 .before .before in
+    let b10 = b8 .before .before in
+    let b14 = b10 .before .before .before .before in
+    (step-room (b14 .args .index) (b14 .args .ws .now) (b14 .args .top) (b14 .args .hand) (b14 .pre .0) (b14 .pre .1) (b10 .if1 .left) (b8 .value-of .result) (b8 .value-of .ensures) (b3 .append-function-errors .last .0) (b3 .append-function-errors .result) (b3 .append-function-errors .ensures), (omega arith, step-used (b14 .args .index) (b14 .args .ws .now) (b14 .args .top) (b14 .args .hand) (b14 .pre .0) (b14 .pre .1) (b10 .if1 .left) (b8 .value-of .result) (b8 .value-of .ensures) (b3 .append-function-errors .last .0) (b3 .append-function-errors .result) (b3 .append-function-errors .ensures) (sym (b6 .passes-by .ensures) ∙ b5 .if2 .left)))
 
 same-length-2 : tie.Need-same-length-2
 same-length-2 c =
@@ -101,9 +98,10 @@ returns-3 c =
     let b6 = c .before .before .before .before .before .before in
     let b8 = b6 .before .before in
     let b9 = b8 .before in
-    let b12 = b9 .before .before .before in
-    let b16 = b12 .before .before .before .before in
-    step-rendered (b16 .args .index) (b16 .args .ws .now) (b16 .args .top) (b16 .args .hand) (b16 .pre .0) (b16 .pre .1) (b12 .if1 .left) (b6 .append-function-errors .last .0) (b6 .append-function-errors .result) (b6 .append-function-errors .ensures) (sym (b9 .passes-by .ensures)
+    let b11 = b9 .before .before in
+    let b13 = b11 .before .before in
+    let b17 = b13 .before .before .before .before in
+    step-rendered (b17 .args .index) (b17 .args .ws .now) (b17 .args .top) (b17 .args .hand) (b17 .pre .0) (b17 .pre .1) (b13 .if1 .left) (b11 .value-of .result) (b11 .value-of .ensures) (b6 .append-function-errors .last .0) (b6 .append-function-errors .result) (b6 .append-function-errors .ensures) (sym (b9 .passes-by .ensures)
     ∙ b8 .if2 .left) (c .before .before .push-origins .last .0) (c .before .before .push-origins .result) (c .before .before .push-origins .ensures)
 
 pub step-spec : {M : Type 1} → statement M
@@ -121,12 +119,10 @@ step-spec =
     add-ws
     mul-ws
     slice-write-ws
+    value-of-requires
     add-passes-by
     mul-passes-by
     slice-read-passes-by
-    add-passes-by-2
-    mul-passes-by-2
-    slice-read-passes-by-2
     passes-by-requires
     same-length
     returns-2
