@@ -18,7 +18,7 @@ use Rattle.rows.proofs.Rows.{used-below, limit-at, value-at, value-beyond, rows
 use Rattle.rows.proofs.Parts.{drop-more}
 use Rattle.pushes.specs.Pushes.{Pushed, Room, deg}
 use Rattle.pushes.proofs.Pushes.{value-used, pushed-part, pushed-kept}
-use Rattle.aliasing.specs.State.{nodesOf, seenOf, recordsOf, endsOf, stateOf}
+use Rattle.aliasing.specs.State.{fieldAt, nodesOf, seenOf, recordsOf, endsOf, stateOf}
 use Rattle.aliasing.specs.Accepts.{functionW}
 use Rattle.aliasing.specs.Potential.{phi}
 use Rattle.aliasing.proofs.Hands.{function-is}
@@ -44,9 +44,9 @@ pub value-none : (ws : List ℕ) → 16384 ≤ length ws → (x : ℕ) → getD 
 value-none ws size x k = sym (value-beyond (rowsOf ws) x (omega (arith, k, limit-at ws size)))
 
 -- ---- the state by its parts
-record-at : (ws : List ℕ) (hand x : ℕ) → x < 512 → hasRecord (getD (stateOf ws hand .records) x noRecord) ≡ not (eqb (getD ws (0 + x) 0 % 16) 0)
-unfolding stateOf nodesOf
-record-at ws hand x h = has-record (take 2624 ws) x h ∙ ap (λ (w : ℕ). not (eqb (w % 16) 0)) (getD-take 2624 ws (0 + x) 0 (omega arith))
+record-at : (ws : List ℕ) (hand x : ℕ) → x < 512 → hasRecord (getD (stateOf ws hand .records) x noRecord) ≡ not (eqb (fieldAt (nodesOf ws) 0 x % 16) 0)
+unfolding stateOf
+record-at ws hand x h = has-record (nodesOf ws) x h
 
 state-more : (ws ws′ : List ℕ) (hand hand′ : ℕ) (fs : List ℕ) → rowsOf ws′ ≡ rowsOf ws → nodesOf ws′ ≡ nodesOf ws → slice 13315 hand′ ws′ ≡ slice 13315 hand ws ++ fs → stateOf ws′ hand′ ≡ handOver fs (stateOf ws hand)
 unfolding stateOf
@@ -81,8 +81,9 @@ module _ (index : ℕ) (ws : List ℕ) (top hand : ℕ) (ready : Ready ws top ha
       unmoved = record { nodes = refl; aside = record { graph = refl; behind = refl; same = refl } };
     }
 
-  -- ---- taken for the first time; v is the value that is read once it is marked
-  module _ (first : getD ws (2624 + placeAt ws top) 0 ≤ 0) (v : ℕ) (is : v ≡ value (rowsOf (set ws (2624 + placeAt ws top) 1)) (placeAt ws top)) where
+  -- ---- taken for the first time; v is the value and u the record's word that are read once it is marked
+  module _ (first : getD ws (2624 + placeAt ws top) 0 ≤ 0) (v : ℕ) (is : v ≡ value (rowsOf (set ws (2624 + placeAt ws top) 1)) (placeAt ws top))
+      (u : ℕ) (word-is : u ≡ fieldAt (nodesOf (set ws (2624 + placeAt ws top) 1)) 0 (placeAt ws top)) where
     abbrev marked : List ℕ
     marked = set ws (2624 + placeAt ws top) 1
 
@@ -98,10 +99,10 @@ module _ (index : ℕ) (ws : List ℕ) (top hand : ℕ) (ready : Ready ws top ha
     value-is : v ≡ value (rowsOf ws) (placeAt ws top)
     value-is = is ∙ ap (λ (g : List ℕ). value g (placeAt ws top)) (rows-above mark (omega arith))
 
-    passes-is : passesW v (getD marked (0 + placeAt ws top) 0) ≡ passesW (value (rowsOf ws) (placeAt ws top)) (getD ws (0 + placeAt ws top) 0)
+    passes-is : passesW v u ≡ passesW (value (rowsOf ws) (placeAt ws top)) (fieldAt (nodesOf ws) 0 (placeAt ws top))
     passes-is =
-        ap (λ (u : ℕ). passesW u (getD marked (0 + placeAt ws top) 0)) value-is
-        ∙ ap (passesW (value (rowsOf ws) (placeAt ws top))) (word-kept (0 + placeAt ws top) (λ e. omega (arith, e)))
+        ap (λ (y : ℕ). passesW y u) value-is
+        ∙ ap (passesW (value (rowsOf ws) (placeAt ws top))) (word-is ∙ ap (λ (l : List ℕ). fieldAt l 0 (placeAt ws top)) (nodes-below mark (omega arith)))
 
     not-seen : getD (seenOf ws) (placeAt ws top) 0 ≡ 0
     not-seen = omega (arith, seen-at ws (placeAt ws top) x-below)
@@ -120,12 +121,12 @@ module _ (index : ℕ) (ws : List ℕ) (top hand : ℕ) (ready : Ready ws top ha
       remembered = mark-set (seenOf ws) (placeAt ws top) ∙ ap (λ (l : List Bool). set l (placeAt ws top) true) (s .seen)
 
     -- ---- passed by
-    module _ (passed : passesW v (getD marked (0 + placeAt ws top) 0) ≡ true) where
+    module _ (passed : passesW v u ≡ true) where
       why : (nodeAt (stateOf ws hand .graph) (placeAt ws top) ≡ none) ⊎ (hasRecord (getD (stateOf ws hand .records) (placeAt ws top) noRecord) ≡ true)
       why =
           ⊎-map (λ (e : value (rowsOf ws) (placeAt ws top) ≡ 0). graph-missing ws hand (placeAt ws top) x-below e)
-          (λ (e : not (eqb (getD ws (0 + placeAt ws top) 0 % 16) 0) ≡ true). record-at ws hand (placeAt ws top) x-below ∙ e)
-          (passes-true (value (rowsOf ws) (placeAt ws top)) (getD ws (0 + placeAt ws top) 0) (sym passes-is ∙ passed))
+          (λ (e : not (eqb (fieldAt (nodesOf ws) 0 (placeAt ws top) % 16) 0) ≡ true). record-at ws hand (placeAt ws top) x-below ∙ e)
+          (passes-true (value (rowsOf ws) (placeAt ws top)) (fieldAt (nodesOf ws) 0 (placeAt ws top)) (sym passes-is ∙ passed))
 
       passes : (w : RenderWalk) → Shows ws top hand w → Shows marked (top - 1) hand (renderStep index (w .queue) w)
       passes w s =
@@ -160,10 +161,10 @@ module _ (index : ℕ) (ws : List ℕ) (top hand : ℕ) (ready : Ready ws top ha
       }
 
     -- ---- one that is not passed by has a node
-    bare : passesW v (getD marked (0 + placeAt ws top) 0) ≡ false → (value (rowsOf ws) (placeAt ws top) ≡ 0 → ⊥) × (not (eqb (getD ws (0 + placeAt ws top) 0 % 16) 0) ≡ false)
-    bare passed = passes-false (value (rowsOf ws) (placeAt ws top)) (getD ws (0 + placeAt ws top) 0) (sym passes-is ∙ passed)
+    bare : passesW v u ≡ false → (value (rowsOf ws) (placeAt ws top) ≡ 0 → ⊥) × (not (eqb (fieldAt (nodesOf ws) 0 (placeAt ws top) % 16) 0) ≡ false)
+    bare passed = passes-false (value (rowsOf ws) (placeAt ws top)) (fieldAt (nodesOf ws) 0 (placeAt ws top)) (sym passes-is ∙ passed)
 
-    has-node : passesW v (getD marked (0 + placeAt ws top) 0) ≡ false → placeAt ws top < used (rowsOf ws)
+    has-node : passesW v u ≡ false → placeAt ws top < used (rowsOf ws)
     has-node passed = used-below (rowsOf ws) (placeAt ws top) x-below (bare passed .0)
 
     -- ---- rendered: the function handed over, the entries pushed
@@ -189,10 +190,10 @@ module _ (index : ℕ) (ws : List ℕ) (top hand : ℕ) (ready : Ready ws top ha
       }
 
       -- its rows have bounds
-      pub step-used : passesW v (getD marked (0 + placeAt ws top) 0) ≡ false → placeAt ws top < used (rowsOf wsH)
+      pub step-used : passesW v u ≡ false → placeAt ws top < used (rowsOf wsH)
       step-used passed = subst (λ (g : List ℕ). placeAt ws top < used g) (sym rows₁) (has-node passed)
 
-      module _ (passed : passesW v (getD marked (0 + placeAt ws top) 0) ≡ false)
+      module _ (passed : passesW v u ≡ false)
           (ws₂ : List ℕ) (r : ℕ) (p : Pushed wsH (top - 1) (originsW (rowsOf wsH) (placeAt ws top) index) ws₂ r) where
         abbrev pushed : List ℕ
         pushed = originsW (rowsOf ws) (placeAt ws top) index

@@ -8,6 +8,7 @@ ghost use Rattle.pushes.specs.Pushes.{Pushed, Room, deg};
 ghost use Rattle.renders.specs.Renders.{passesW, originsW, Ready, Stepped, Walked, Rendered};
 use aliasing::Taken;
 use aliasing::append_function_errors;
+use aliasing::field;
 use hir::IdentifierId;
 use pushes::push_list;
 use rows::HANDED;
@@ -68,7 +69,7 @@ fn step(ws: &mut [u32], top: usize, hand: usize, index: u32) -> Next
         return Next { top: t, hand: hand };
     }
     ws[SEEN + x] = 1;
-    if passes_by(value_of(ws, x), ws[RECORD + x]) {
+    if passes_by(value_of(ws, x), field(ws, RECORD, x)) {
         return Next { top: t, hand: hand };
     }
     let h = append_function_errors(ws, x, hand);
