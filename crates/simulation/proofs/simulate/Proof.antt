@@ -39,7 +39,7 @@ clear-requires c κs =
 loop-holds : tie.Need-loop-holds Inv-loop μ-loop
 loop-holds c =
     let b5 = c .before .before .before .before .before in
-    let b7 = b5 .before .before in cleared-start (b7 .args .ws .now) (b7 .pre .0) (c .before .before .clear .last .0) (c .before .before .clear .ensures) (b7 .args .count) (b7 .args .index) (b7 .args .returns .0) (b7 .args .answer .now) (b7 .args .at)
+    let b7 = b5 .before .before in cleared-start (b7 .args .ws .now) (b7 .pre .0) (c .before .before .clear .last .0) (c .before .before .clear .ensures) (b7 .args .count) (b7 .args .index) (b7 .args .returns .0) (b7 .args .answer .now) (b7 .args .at) (b7 .pre .1 .0 .1 .covered)
 
 tracked-requires : tie.Need-tracked-requires Inv-loop μ-loop
 tracked-requires c κs = (omega arith, c .before .before .loop .inv .indexed .size)
@@ -69,7 +69,7 @@ mutate-requires c κs =
     let b4 = b3 .before in
     let b5 = b4 .before in
     let b13 = b5 .before .before .before .before .before .before .before .before in
-    (b5 .loop .inv .indexed, (handing-start _, (c .simulated .ensures .1 .1, (omega (arith, b13 .pre .1 .1 .0, b4 .loop-test .taken), b5 .loop .inv .marks))))
+    (b5 .loop .inv .indexed, (handing-start _ (b5 .loop .inv .covered), (c .simulated .ensures .1 .1, (omega (arith, b13 .pre .1 .1 .0, b4 .loop-test .taken), b5 .loop .inv .marks))))
 
 add-ws : tie.Need-add-ws Inv-loop μ-loop
 add-ws c =
