@@ -2,7 +2,7 @@
 use Prim.Native.Nat.{ℕ, _+_, _-_, _≤_, _<_, max}
 use native.Mathlib.Omega.{arith}
 use native.Mathlib.Decide.{decLt}
-use mathlib.Core.Path.{_≡_, refl, sym, ap, _∙_}
+use mathlib.Core.Path.{_≡_, refl, sym, ap, subst, _∙_}
 use mathlib.Core.List.{List}
 use lib.ListN.{length, getD, set, take, drop, length-set}
 use lib.Seq.{getD-take, getD-set-same, getD-set-other, drop-set-lt}
@@ -20,25 +20,24 @@ use Rattle.aliasing.proofs.Fields.{field-there, field-beyond, field-word}
 use Rattle.aliasing.proofs.Parts.{rows-above}
 use Rattle.inference.specs.Whole.{Keeps}
 
+pub kept-most : (ws : List ℕ) (n kept : ℕ) → Indexed ws → n ≤ 512 → kept ≡ max (getD ws 8322 0) n → kept ≤ 512
+kept-most ws n kept indexed few is = omega (arith, is, few, limit-at ws (indexed .size), indexed .good .few)
+
 module _ (ws : List ℕ) (n kept : ℕ) (indexed : Indexed ws) (few : n ≤ 512) (is : kept ≡ max (getD ws 8322 0) n)
     (ws₁ : List ℕ) (is₁ : ws₁ ≡ clearW ws RECORD kept) (ws₂ : List ℕ) (is₂ : ws₂ ≡ clearW ws₁ (END + n) (kept - n)) where
-  pub kept-few : (kept ≤ 512) × (n ≤ kept)
-  kept-few = (omega (arith, is, few, limit-at ws (indexed .size), indexed .good .few), omega (arith, is))
+  kept-few : (kept ≤ 512) × (n ≤ kept)
+  kept-few = (kept-most ws n kept indexed few is, omega (arith, is))
 
-  k₁ : Kept 0 kept ws ws₁
-  k₁ = record { low = ap (take 0) is₁ ∙ kept-clear ws 0 kept .low; high = ap (drop kept) is₁ ∙ kept-clear ws 0 kept .high; same = ap length is₁ ∙ kept-clear ws 0 kept .same }
+  k₁ : Kept 0 (0 + kept) ws ws₁
+  k₁ = subst (Kept 0 (0 + kept) ws) (sym is₁) (kept-clear ws 0 kept)
 
   k₂ : Kept (2112 + n) (2112 + n + (kept - n)) ws₁ ws₂
-  k₂ = record {
-    low = ap (take (2112 + n)) is₂ ∙ kept-clear ws₁ (2112 + n) (kept - n) .low;
-    high = ap (drop (2112 + n + (kept - n))) is₂ ∙ kept-clear ws₁ (2112 + n) (kept - n) .high;
-    same = ap length is₂ ∙ kept-clear ws₁ (2112 + n) (kept - n) .same;
-  }
+  k₂ = subst (Kept (2112 + n) (2112 + n + (kept - n)) ws₁) (sym is₂) (kept-clear ws₁ (2112 + n) (kept - n))
 
-  pub size₁ : LEAST ≤ length ws₁
+  size₁ : LEAST ≤ length ws₁
   size₁ = omega (arith, k₁ .same, indexed .size)
 
-  pub size₂ : LEAST ≤ length ws₂
+  size₂ : LEAST ≤ length ws₂
   size₂ = omega (arith, k₂ .same, size₁)
 
   abbrev done : List ℕ
@@ -62,7 +61,7 @@ module _ (ws : List ℕ) (n kept : ℕ) (indexed : Indexed ws) (few : n ≤ 512)
   end-there x h =
       other (2112 + x) (λ e. omega (arith, e))
       ∙ take-word (2112 + n) (2112 + x) ws₁ ws₂ (omega (arith, h)) (k₂ .low)
-      ∙ drop-word kept (2112 + x) ws ws₁ (omega (arith, kept-few .0)) (k₁ .high)
+      ∙ drop-word (0 + kept) (2112 + x) ws ws₁ (omega (arith, kept-few .0)) (k₁ .high)
 
   end-none : (x : ℕ) → n ≤ x → x < kept → getD done (2112 + x) 0 ≡ 0
   end-none x low h =
@@ -77,9 +76,13 @@ module _ (ws : List ℕ) (n kept : ℕ) (indexed : Indexed ws) (few : n ≤ 512)
     high =
         drop-set-lt 2624 ws₂ 2048 kept (omega arith)
         ∙ drop-more (2112 + n + (kept - n)) 2624 ws₂ ws₁ (omega (arith, kept-few .0, kept-few .1)) (k₂ .high)
-        ∙ drop-more kept 2624 ws₁ ws (omega (arith, kept-few .0)) (k₁ .high);
+        ∙ drop-more (0 + kept) 2624 ws₁ ws (omega (arith, kept-few .0)) (k₁ .high);
     same = length-set ws₂ 2048 kept ∙ k₂ .same ∙ k₁ .same;
   }
+
+  covered-now : Covered done
+  unfolding nodesOf
+  covered-now = omega (arith, ap limit (rows-above low-alone (omega arith)), limit-at ws (indexed .size), is, count, getD-take 2624 done 2048 0 (omega arith))
 
   pub keeps : Keeps n ws done
   keeps = record {
@@ -98,7 +101,3 @@ module _ (ws : List ℕ) (n kept : ℕ) (indexed : Indexed ws) (few : n ≤ 512)
       ended x (yes h) d = field-there done 2112 x (omega (arith, h, count, kept-few .1)) ∙ end-there x h ∙ sym (rw (lt-ltb x n h))
       ended x (no h) (yes k) = field-there done 2112 x (omega (arith, k, count)) ∙ end-none x (omega (arith, h)) k ∙ sym (rw (le-ltb x n (omega (arith, h))))
       ended x (no h) (no k) = field-beyond done 2112 x (omega (arith, k, count)) ∙ sym (rw (le-ltb x n (omega (arith, h))))
-
-      covered-now : Covered done
-      unfolding nodesOf
-      covered-now = omega (arith, ap limit (rows-above low-alone (omega arith)), limit-at ws (indexed .size), is, count, getD-take 2624 done 2048 0 (omega arith))
