@@ -23,7 +23,7 @@ use Rattle.aliasing.specs.Says.{modeSays, mutationSays}
 use Rattle.aliasing.specs.State.{seenOf, levels, stateOf}
 use Rattle.aliasing.specs.Accepts.{acceptW, handW}
 use Rattle.aliasing.specs.Walks.{Ready, Callable, TransitiveConditional, AllConditional, Stepped}
-use Rattle.aliasing.proofs.Steps.{last, placeAt, kindAt, transitiveAt, directionAt, queue-head, step-seen, step-missing, step-room, step-used, step-accepted}
+use Rattle.aliasing.proofs.Steps.{last, placeAt, kindAt, transitiveAt, directionAt, queue-head, step-beyond, step-seen, step-missing, step-room, step-used, step-accepted}
 
 -- ---- what such an entry pushes
 module _ {A : Type 0} (P : A → Type 0) where
@@ -98,7 +98,10 @@ module _ (m : CodeMutation) (base : ℕ) (ws : List ℕ) (top hand : ℕ) (ready
   pub conditional-seen : base < getD ws (2624 + placeAt ws top) 0 → Stepped m base ws top hand ws (top - 1) hand
   conditional-seen seen = step-seen m base ws top hand ready callable (more .0) (omega (arith, seen, is-conditional))
 
-  module _ (unseen : getD ws (2624 + placeAt ws top) 0 ≤ base) where
+  pub conditional-beyond : getD ws 8322 0 ≤ placeAt ws top → Stepped m base ws top hand ws (top - 1) hand
+  conditional-beyond beyond = step-beyond m base ws top hand ready callable (more .0) beyond
+
+  module _ (unseen : getD ws (2624 + placeAt ws top) 0 ≤ base) (below : placeAt ws top < getD ws 8322 0) where
     abbrev marked : List ℕ
     marked = set ws (2624 + placeAt ws top) (base + 1)
 
@@ -115,7 +118,7 @@ module _ (m : CodeMutation) (base : ℕ) (ws : List ℕ) (top hand : ℕ) (ready
     value-is = ap (λ (l : List ℕ). getD l (3200 + placeAt ws top) 0) mark-is
 
     pub conditional-missing : getD marked (3200 + placeAt ws top) 0 ≡ 0 → Stepped m base ws top hand marked (top - 1) hand
-    conditional-missing gone = subst (λ (l : List ℕ). Stepped m base ws top hand l (top - 1) hand) (sym mark-is) (step-missing m base ws top hand ready callable (more .0) lower (sym value-is ∙ gone))
+    conditional-missing gone = subst (λ (l : List ℕ). Stepped m base ws top hand l (top - 1) hand) (sym mark-is) (step-missing m base ws top hand ready callable (more .0) lower below (sym value-is ∙ gone))
 
     module _ (wsH : List ℕ) (h : ℕ) (ph : Pushed marked hand (handW marked (getD marked (3200 + placeAt ws top) 0) (placeAt ws top) (m .«should_record_errors»)) wsH h)
         (ws₂ : List ℕ) (is₂ : ws₂ ≡ acceptW wsH (placeAt ws top) 1 1 m) where
@@ -127,15 +130,15 @@ module _ (m : CodeMutation) (base : ℕ) (ws : List ℕ) (top hand : ℕ) (ready
       accepted = is₂ ∙ sym (rw (is-transitive, is-conditional))
 
       pub conditional-room : Room ws₂ (top - 1) (deg (rowsOf ws₂) (placeAt ws top))
-      conditional-room = step-room m base ws top hand ready callable (more .0) lower wsH h handed ws₂ accepted
+      conditional-room = step-room m base ws top hand ready callable (more .0) lower below wsH h handed ws₂ accepted
 
       module _ (there : getD marked (3200 + placeAt ws top) 0 ≡ 0 → ⊥) where
         pub conditional-used : placeAt ws top < used (rowsOf ws₂)
-        conditional-used = step-used m base ws top hand ready callable (more .0) lower wsH h handed ws₂ accepted (λ z. there (value-is ∙ z))
+        conditional-used = step-used m base ws top hand ready callable (more .0) lower below wsH h handed ws₂ accepted (λ z. there (value-is ∙ z))
 
         pub conditional-accepted : (ws₃ : List ℕ) (r : ℕ) → Pushed ws₂ (top - 1) (pushedW (rowsOf ws₂) (placeAt ws top) (directionAt ws top) (m .index) 1 0) ws₃ r → Stepped m base ws top hand ws₃ r h
         conditional-accepted ws₃ r p =
-            step-accepted m base ws top hand ready callable (more .0) lower wsH h handed ws₂ accepted (λ z. there (value-is ∙ z)) ws₃ r
+            step-accepted m base ws top hand ready callable (more .0) lower below wsH h handed ws₂ accepted (λ z. there (value-is ∙ z)) ws₃ r
             (subst (λ (vs : List ℕ). Pushed ws₂ (top - 1) vs ws₃ r)
             (ap (λ (t : ℕ). pushedW (rowsOf ws₂) (placeAt ws top) (directionAt ws top) (m .index) t 0) (sym is-transitive)
             ∙ ap (pushedW (rowsOf ws₂) (placeAt ws top) (directionAt ws top) (m .index) (transitiveAt ws top)) (sym is-conditional)) p)

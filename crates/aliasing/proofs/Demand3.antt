@@ -1,10 +1,8 @@
 -- Demand 3 is about this code: where the words hold the sheet as built, the ends that `process_mutations` leaves are demand 3's.
 use Prim.Native.Nat.{ℕ}
 use mathlib.Core.List.{List}
-use mathlib.Core.Path.{_≡_, sym, ap, _∙_}
-use lib.ListN.{getD, drop}
-use lib.Seq.{slice, take-take}
-use native.Mathlib.Omega.{arith}
+use mathlib.Core.Path.{_≡_, refl, sym, ap, _∙_}
+use lib.ListN.{getD}
 use Rattle.model.specs.Sheet.{Sheet}
 use Rattle.model.specs.State.{State}
 use Rattle.model.specs.Runs.{after}
@@ -18,13 +16,13 @@ use Rattle.aliasing.specs.Pending.{Processed}
 use Rattle.aliasing.specs.Demand3.{EndsOf}
 
 -- the ends of the state are the words of the ends
-pub state-ends : (ws : List ℕ) (hand : ℕ) → stateOf ws hand .ends ≡ slice 2112 2624 ws
-unfolding stateOf endsOf nodesOf
-state-ends ws hand = ap (drop 2112) (take-take 2624 2624 ws (omega arith))
+pub state-ends : (ws : List ℕ) (hand : ℕ) → stateOf ws hand .ends ≡ endsOf (nodesOf ws)
+unfolding stateOf
+state-ends ws hand = refl
 
 pub process-demand3 : (s : Sheet) (ws : List ℕ) (count : ℕ) (ws′ : List ℕ) (hand : ℕ) → stateOf ws HANDED ≡ built s → Processed (errors s) ws count ws′ hand → EndsOf s (mutationsOf ws count) ws′
 process-demand3 s ws count ws′ hand is p =
-    let ends : slice 2112 2624 ws′ ≡ after (how s) (mutationsOf ws count) (built s) .ends =
+    let ends : endsOf (nodesOf ws′) ≡ after (how s) (mutationsOf ws count) (built s) .ends =
     sym (state-ends ws′ hand) ∙ ap (λ (t : State). t .ends) (p .state ∙ ap (after (how s) (mutationsOf ws count)) is) in
     record {
       claim = demand3 s (mutationsOf ws count);

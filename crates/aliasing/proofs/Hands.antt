@@ -17,10 +17,11 @@ use Rattle.rows.specs.Graph.{valueOf}
 use Rattle.rows.proofs.Tables.{tab-at, tab-length}
 use Rattle.aliasing.specs.declared.Mutation.{Mutation as CodeMutation}
 use Rattle.aliasing.specs.Says.{modeOf, modeSays}
-use Rattle.aliasing.specs.State.{recordAt, recordsOf, bare}
+use Rattle.aliasing.specs.State.{fieldAt, recordAt, recordsOf, bare}
 use Rattle.aliasing.specs.Accepts.{functionW, handW}
 use Rattle.aliasing.specs.Walks.{Callable}
 use Rattle.aliasing.proofs.Packed.{has-word}
+use Rattle.aliasing.proofs.Fields.{field-there}
 
 -- ---- which
 pub function-is : (v : ℕ) → functionW v ≡ functionOf (valueOf v)
@@ -40,12 +41,13 @@ errors-are zero errors q = q refl
 errors-are (suc e) errors q = refl
 
 -- the function of x, as document 01 has it
-pub handed-is : (ns : List ℕ) (v x : ℕ) (m : CodeMutation) → x < 512 → Callable m
+pub handed-is : (ns : List ℕ) (v x : ℕ) (m : CodeMutation) → x < 512 → x < getD ns 2048 0 → Callable m
     → handW ns v x (m .«should_record_errors») ≡ listIf (recordsErrors (modeSays m) && not (hasRecord (getD (recordsOf ns) x noRecord))) (functionOf (valueOf v))
 unfolding handW recordsOf recordAt modeSays
-handed-is ns v x m hx callable =
+handed-is ns v x m hx there callable =
     hand-is (m .«should_record_errors») (eqb (getD ns (0 + x) 0 % 16) 0) (functionW v)
-    ∙ ap (λ (b : Bool). listIf (m .«should_record_errors» && not b) (functionW v)) (sym (has-word (getD ns (0 + x) 0) (getD ns (1536 + x) 0) (getD ns (512 + x) 0)))
+    ∙ ap (λ (w : ℕ). listIf (m .«should_record_errors» && not (not (eqb (w % 16) 0))) (functionW v)) (sym (field-there ns 0 x there))
+    ∙ ap (λ (b : Bool). listIf (m .«should_record_errors» && not b) (functionW v)) (sym (has-word (fieldAt ns 0 x) (getD ns (1536 + x) 0) (getD ns (512 + x) 0)))
     ∙ ap (listIf (m .«should_record_errors» && not (hasRecord (recordAt ns x)))) (function-is v)
     ∙ ap (λ (b : Bool). listIf (b && not (hasRecord (recordAt ns x))) (functionOf (valueOf v))) (errors-are (m .end .0) (m .«should_record_errors») (callable .quiet))
     ∙ ap (λ (r : Record). listIf (recordsErrors (modeOf (m .end .0) (m .«should_record_errors»)) && not (hasRecord r)) (functionOf (valueOf v))) (sym (tab-at 512 (recordAt ns) x noRecord hx))

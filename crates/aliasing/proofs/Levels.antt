@@ -4,11 +4,12 @@ use native.Mathlib.Omega.{arith}
 use native.Mathlib.Decide.{ℕ-discrete}
 use mathlib.Core.List.{List}
 use mathlib.Core.Path.{_≡_, sym, ap, _∙_}
-use lib.ListN.{length, getD, set, replicate, length-replicate, getD-replicate}
-use lib.Seq.{getD-set-same, getD-set-other, ext-getD}
+use lib.ListN.{length, getD, set, take, length-take, replicate, length-replicate, getD-replicate}
+use lib.Seq.{getD-set-same, getD-set-other, getD-take, ext-getD}
+use Rattle.rows.specs.Rows.{rowsOf, limit, Good}
 use Rattle.rows.proofs.Tables.{tab-length, tab-at, tab-set}
 use Rattle.aliasing.specs.State.{seenOf, levels, NoneAbove}
-use Rattle.aliasing.proofs.Parts.{mark-seen, seen-length}
+use Rattle.aliasing.proofs.Parts.{rows-above, mark-kept, mark-seen, seen-length}
 
 pub levels-length : (base : ℕ) (seen : List ℕ) → length (levels base seen) ≡ 512
 unfolding levels
@@ -26,21 +27,29 @@ levels-set base seen x v k h is =
     (λ y q other. ap (λ (w : ℕ). w - base) (getD-set-other seen x y v 0 other))
 
 -- marks no higher than the base are none
-pub levels-none : (base : ℕ) (ws : List ℕ) → NoneAbove base ws → levels base (seenOf ws) ≡ replicate 512 0
-levels-none base ws m =
-    ext-getD 0 (levels base (seenOf ws)) (replicate {A = ℕ} 512 0) (levels-length base (seenOf ws) ∙ sym (length-replicate {A = ℕ} 512 0))
-    (λ i h. let k : i < 512 = omega (arith, h, levels-length base (seenOf ws)) in
-    levels-at base (seenOf ws) i k ∙ omega (arith, m .marks i k) ∙ sym (getD-replicate {A = ℕ} 512 i 0 0 k))
+pub levels-none : (base : ℕ) (ws : List ℕ) → Good (rowsOf ws) → NoneAbove base ws → take (limit (rowsOf ws)) (levels base (seenOf ws)) ≡ take (limit (rowsOf ws)) (replicate 512 0)
+levels-none base ws good m =
+    let n : ℕ = limit (rowsOf ws) in
+    let l : List ℕ = levels base (seenOf ws) in
+    let z : List ℕ = replicate 512 0 in
+    let one : length (take n l) ≡ n = omega (arith, length-take n l, levels-length base (seenOf ws), good .few) in
+    let two : length (take n z) ≡ n = omega (arith, length-take n z, length-replicate {A = ℕ} 512 0, good .few) in
+    ext-getD 0 (take n l) (take n z) (one ∙ sym two)
+    (λ i h. let k : i < n = omega (arith, h, one) in
+    let j : i < 512 = omega (arith, k, good .few) in
+    getD-take n l i 0 k ∙ levels-at base (seenOf ws) i j ∙ omega (arith, m .marks i k) ∙ sym (getD-replicate {A = ℕ} 512 i 0 0 j) ∙ sym (getD-take n z i 0 k))
 
-pub above-as : {most : ℕ} {ws ws′ : List ℕ} → seenOf ws′ ≡ seenOf ws → NoneAbove most ws → NoneAbove most ws′
-above-as e m = record { marks = λ x h. omega (arith, m .marks x h, ap (λ (l : List ℕ). getD l x 0) e) }
+pub above-as : {most : ℕ} {ws ws′ : List ℕ} → seenOf ws′ ≡ seenOf ws → rowsOf ws′ ≡ rowsOf ws → NoneAbove most ws → NoneAbove most ws′
+above-as e g m = record { marks = λ x h. omega (arith, m .marks x (omega (arith, h, ap limit g)), ap (λ (l : List ℕ). getD l x 0) e) }
 
 pub above-more : {most more : ℕ} {ws : List ℕ} → most ≤ more → NoneAbove most ws → NoneAbove more ws
 above-more q m = record { marks = λ x h. omega (arith, m .marks x h) }
 
 pub above-set : {most : ℕ} (ws : List ℕ) (x v : ℕ) → 16384 ≤ length ws → x < 512 → v ≤ most → NoneAbove most ws → NoneAbove most (set ws (2624 + x) v)
-above-set {most} ws x v size h q m = record { marks = λ y l. omega (arith, ap (λ (s : List ℕ). getD s y 0) (mark-seen ws x v h), here y l (ℕ-discrete y x)) }
+above-set {most} ws x v size h q m = record {
+  marks = λ y l. omega (arith, ap (λ (s : List ℕ). getD s y 0) (mark-seen ws x v h), here y (omega (arith, l, ap limit (rows-above (mark-kept ws x v h) (omega arith)))) (ℕ-discrete y x));
+}
   where
-    here : (y : ℕ) → y < 512 → Dec (y ≡ x) → getD (set (seenOf ws) x v) y 0 ≤ most
+    here : (y : ℕ) → y < limit (rowsOf ws) → Dec (y ≡ x) → getD (set (seenOf ws) x v) y 0 ≤ most
     here y l (yes e) = omega (arith, ap (λ (k : ℕ). getD (set (seenOf ws) x v) k 0) e, getD-set-same (seenOf ws) x v 0 (omega (arith, seen-length ws size)))
     here y l (no e) = omega (arith, getD-set-other (seenOf ws) x y v 0 e, m .marks y l)

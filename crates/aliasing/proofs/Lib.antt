@@ -1,5 +1,6 @@
 pub mod Packed
 pub mod Writes
+pub mod Fields
 pub mod Records
 pub mod Hands
 pub mod Parts

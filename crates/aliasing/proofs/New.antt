@@ -3,22 +3,23 @@ use Prim.Native.Nat.{ℕ, _+_, _<_}
 use native.Mathlib.Omega.{arith}
 use mathlib.Core.List.{List, []}
 use mathlib.Core.Path.{_≡_, sym, ap, _∙_}
-use lib.ListN.{getD, take, drop, replicate, length-replicate, getD-replicate}
-use lib.Seq.{slice, slice-empty, ext-getD, getD-take, take-take}
+use lib.ListN.{getD, replicate, length-replicate, getD-replicate}
+use lib.Seq.{slice-empty, ext-getD}
 use Rattle.model.specs.Graph.{Graph}
 use Rattle.model.specs.State.{noRecord}
-use Rattle.rows.specs.Layout.{RECORD, END, SEEN, HANDED}
+use Rattle.rows.specs.Layout.{RECORD, HANDED}
 use Rattle.rows.specs.Rows.{rowsOf}
 use Rattle.rows.specs.Graph.{tab, graphOfRows}
 use Rattle.rows.proofs.Tables.{tab-length, tab-at}
-use Rattle.aliasing.specs.State.{nodesOf, recordIn, recordAt, recordsOf, endsOf, stateOf}
+use Rattle.aliasing.specs.State.{nodesOf, recordIn, fieldAt, recordAt, recordsOf, endsOf, stateOf}
+use Rattle.aliasing.proofs.Fields.{field-word}
 
 -- the words of the records are 0
 abbrev pub Bare : List ℕ → Type 0
-Bare ws = (x : ℕ) → x < 512 → getD ws (RECORD + x) 0 ≡ 0
+Bare ws = (x : ℕ) → x < 512 → fieldAt ws RECORD x ≡ 0
 
-bare-nodes : (ws : List ℕ) → Bare ws → Bare (take 2624 ws)
-bare-nodes ws z x h = getD-take 2624 ws (0 + x) 0 (omega arith) ∙ z x h
+bare-nodes : (ws : List ℕ) → Bare ws → Bare (nodesOf ws)
+bare-nodes ws z x h = field-word ws 0 x (omega arith) ∙ z x h
 
 no-record : (ns : List ℕ) → Bare ns → (x : ℕ) → x < 512 → recordAt ns x ≡ noRecord
 unfolding recordAt
@@ -31,12 +32,7 @@ no-records ns z =
     (λ i h. let k : i < 512 = omega (arith, tab-length 512 (recordAt ns)) in
     tab-at 512 (recordAt ns) i noRecord k ∙ no-record ns z i k ∙ sym (getD-replicate 512 i noRecord noRecord k))
 
-pub state-new : (ws : List ℕ) (g : Graph) (ends : List ℕ) → graphOfRows (rowsOf ws) ≡ g → Bare ws → slice END SEEN ws ≡ ends
+pub state-new : (ws : List ℕ) (g : Graph) (ends : List ℕ) → graphOfRows (rowsOf ws) ≡ g → Bare ws → endsOf (nodesOf ws) ≡ ends
     → stateOf ws HANDED ≡ record { graph = g; records = replicate 512 noRecord; ends = ends; handed = [] }
-unfolding stateOf endsOf nodesOf
-state-new ws g ends p z q = λ j. record {
-  graph = p j;
-  records = no-records (take 2624 ws) (bare-nodes ws z) j;
-  ends = (ap (drop 2112) (take-take 2624 2624 ws (omega arith)) ∙ q) j;
-  handed = slice-empty 13315 ws j;
-}
+unfolding stateOf
+state-new ws g ends p z q = λ j. record { graph = p j; records = no-records (nodesOf ws) (bare-nodes ws z) j; ends = q j; handed = slice-empty 13315 ws j }

@@ -23,14 +23,15 @@ use Rattle.rows.proofs.Pending.{mutations-next, mutations-end, mutations-kept}
 use Rattle.aliasing.specs.declared.MutationKind.{MutationKind}
 use Rattle.aliasing.specs.declared.Mutation.{Mutation as CodeMutation}
 use Rattle.aliasing.specs.Says.{kindSays, modeOf, modeSays, mutationSays}
-use Rattle.aliasing.specs.State.{nodesOf, recordsOf, NoneAbove, stateOf, bare, Handing}
+use Rattle.aliasing.specs.State.{nodesOf, recordsOf, NoneAbove, Covered, stateOf, bare, Handing}
+use Rattle.aliasing.proofs.Fields.{covered-nodes}
 use Rattle.aliasing.specs.Walks.{Mutated}
 use Rattle.aliasing.specs.Pending.{Pending, Made, takenOf, Processed}
 use Rattle.aliasing.proofs.Parts.{slice-below, nodes-below, seen-below, rows-below}
 use Rattle.aliasing.proofs.Hands.{bare-top, records-length}
 use Rattle.aliasing.proofs.Steps.{state-same}
 use Rattle.aliasing.proofs.Levels.{above-as, above-more}
-use Rattle.aliasing.proofs.Begin.{Unmarked, unmarked, unmarked-marks}
+use Rattle.aliasing.proofs.Begin.{Unmarked, unmarked-nodes, unmarked-none}
 
 -- ---- one mutation by its words
 pub kind-definite : (b : ℕ) → (b ≡ 0 → ⊥) → definite ≡ kindOf b
@@ -103,7 +104,7 @@ module _ (ws : List ℕ) (i v : ℕ) (low : 13827 ≤ i) where
   state-word hand h = state-same ws (set ws i v) hand hand (rows-below kept-word (omega arith)) (nodes-below kept-word (omega arith)) (slice-below kept-word 13315 hand h)
 
   handing-word : (hand : ℕ) → Handing ws hand → Handing (set ws i v) hand
-  handing-word hand h = record { low = h .low; room = omega (arith, h .room, ap (λ (ns : List ℕ). bare (recordsOf ns)) (nodes-below kept-word (omega arith))) }
+  handing-word hand h = record { low = h .low; covered = covered-nodes ws (set ws i v) (rows-below kept-word (omega arith)) (nodes-below kept-word (omega arith)) (h .covered); room = omega (arith, h .room, ap (λ (ns : List ℕ). bare (recordsOf ns)) (nodes-below kept-word (omega arith))) }
 
 taken-next : (ws ws′ : List ℕ) (i c : ℕ) → ((j : ℕ) → j < i → getD ws′ (13827 + 3 * j + 2) 0 ≡ getD ws (13827 + 3 * j + 2) 0) → getD ws′ (13827 + 3 * i + 2) 0 ≡ c
     → takenOf ws′ (i + 1) ≡ takenOf ws i ++ (c ∷ [])
@@ -131,15 +132,15 @@ pub record Processing (errors : Bool) (ws₀ : List ℕ) (count : ℕ) (ws : Lis
   pub same : length ws ≡ length ws₀
 
 -- at the beginning there is room for all
-pub handing-start : (ws : List ℕ) → Handing ws 13315
-handing-start ws = record { low = omega arith; room = omega (arith, bare-top (recordsOf (nodesOf ws)), records-length (nodesOf ws)) }
+pub handing-start : (ws : List ℕ) → Covered ws → Handing ws 13315
+handing-start ws covered = record { low = omega arith; covered = covered; room = omega (arith, bare-top (recordsOf (nodesOf ws)), records-length (nodesOf ws)) }
 
 pub process-start : (errors : Bool) (ws : List ℕ) (count : ℕ) → Indexed ws → Pending ws count → NoneAbove 0 ws → Processing errors ws count ws 0 13315
 process-start errors ws count indexed pending marked = record {
   pending = pending;
   mid = omega arith;
   indexed = indexed;
-  handing = handing-start ws;
+  handing = handing-start ws (pending .covered);
   marked = above-more (omega arith) marked;
   rest = refl;
   state = refl;
@@ -191,7 +192,7 @@ module _ (errors : Bool) (ws₀ : List ℕ) (count : ℕ) (ws : List ℕ) (i han
         good = subst Good (sym rows-next) (p .indexed .good);
       };
       handing = handing-word ws₁ (13827 + 3 * i + 2) c (omega arith) h (w .handing);
-      marked = above-more (omega arith) (above-as (seen-below (kept-word ws₁ (13827 + 3 * i + 2) c (omega arith)) (omega arith)) marks);
+      marked = above-more (omega arith) (above-as (seen-below (kept-word ws₁ (13827 + 3 * i + 2) c (omega arith)) (omega arith)) (rows-below (kept-word ws₁ (13827 + 3 * i + 2) c (omega arith)) (omega arith)) marks);
       rest = drop-set-lt (13827 + 3 * (i + 1)) ws₁ (13827 + 3 * i + 2) c (omega arith)
           ∙ drop-more 13827 (13827 + 3 * (i + 1)) ws₁ ws (omega arith) (w .aside .behind) ∙ drop-more (13827 + 3 * i) (13827 + 3 * (i + 1)) ws ws₀ (omega arith) (p .rest);
       state = ap (after (real errors) (drop (i + 1) (mutationsOf ws₀ count))) state-next
@@ -227,9 +228,9 @@ process-end errors ws₀ count ws i hand p done =
     }
 
 -- ---- the same from the words before the marks were cleared
-module _ (ws : List ℕ) (indexed : Indexed ws) (l : List ℕ) (is : l ≡ clearW ws 2624 512) (count : ℕ) (pending : Pending ws count) where
+module _ (ws : List ℕ) (indexed : Indexed ws) (l : List ℕ) (is : l ≡ clearW ws 2624 (getD ws 8322 0)) (count : ℕ) (pending : Pending ws count) where
   u : Unmarked ws l
-  u = unmarked ws indexed l is
+  u = unmarked-nodes ws indexed l is
 
   mutations-are : mutationsOf l count ≡ mutationsOf ws count
   mutations-are = mutations-kept ws l count (u .aside .behind)
@@ -237,7 +238,7 @@ module _ (ws : List ℕ) (indexed : Indexed ws) (l : List ℕ) (is : l ≡ clear
   pub cleared-start : (errors : Bool) → Processing errors l count l 0 13315
   cleared-start errors =
       process-start errors l count (u .indexed)
-      (record { few = pending .few; orders = subst (Every (λ (m : Mutation). m .order ≤ 999999)) (sym mutations-are) (pending .orders) }) (unmarked-marks u)
+      (record { few = pending .few; covered = covered-nodes ws l (u .aside .graph) (u .nodes) (pending .covered); orders = subst (Every (λ (m : Mutation). m .order ≤ 999999)) (sym mutations-are) (pending .orders) }) (unmarked-none ws indexed l is)
 
   pub cleared-end : (errors : Bool) (ws′ : List ℕ) (hand : ℕ) → Processed errors l count ws′ hand → Processed errors ws count ws′ hand
   cleared-end errors ws′ hand p = record {

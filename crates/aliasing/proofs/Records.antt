@@ -1,12 +1,13 @@
 -- What accepting a node writes is what document 01 has it keep.
-use Prim.Native.Nat.{ℕ, zero, suc, _+_, _-_, _/_, _%_, _<_, max}
+use Prim.Native.Nat.{ℕ, zero, suc, _+_, _-_, _/_, _%_, _≤_, _<_, max}
 use native.Mathlib.Omega.{arith}
+use native.Mathlib.Decide.{ℕ-discrete}
 use mathlib.Core.Bool.{Bool, true, false}
 use mathlib.Core.List.{List}
 use mathlib.Core.Option.{some}
 use mathlib.Core.Path.{_≡_, refl, sym, ap, _∙_}
 use lib.ListN.{length, getD, set, length-set}
-use lib.Seq.{slice, set-getD, getD-set-same, getD-set-other}
+use lib.Seq.{set-getD, getD-set-same, getD-set-other}
 use lib.Dec.{ltb, eqb}
 use borrow.Author.Tests.{ltb-true, ltb-false, lt-ltb, le-ltb}
 use Rattle.model.specs.Lists.{pick}
@@ -14,14 +15,14 @@ use Rattle.model.specs.Mutation.{level, reasonOf}
 use Rattle.model.specs.State.{Info, noRecord, moves, firstReason, highest, touch, raised}
 use Rattle.rows.specs.Pending.{kindOf}
 use Rattle.rows.specs.Graph.{tab}
-use Rattle.rows.proofs.Parts.{slice-at, slice-before, slice-set-in}
 use Rattle.rows.proofs.Tables.{tab-at, tab-set, tab-same}
 use Rattle.aliasing.specs.declared.Mutation.{Mutation as CodeMutation}
 use Rattle.aliasing.specs.Says.{modeOf, modeSays, mutationSays}
-use Rattle.aliasing.specs.State.{infoOf, recordIn, recordAt, recordsOf, endsOf}
+use Rattle.aliasing.specs.State.{infoOf, recordIn, fieldAt, recordAt, recordsOf, endsOf}
 use Rattle.aliasing.specs.Accepts.{raiseW, recordWord, keptWord, spanW, writeW, recordW, acceptW}
 use Rattle.aliasing.proofs.Packed.{word-record}
-use Rattle.aliasing.proofs.Writes.{raise-other, span-other, span-same, span-below}
+use Rattle.aliasing.proofs.Writes.{raise-other, raise-same, span-other, span-same, span-below, local-record}
+use Rattle.aliasing.proofs.Fields.{field-there, field-same}
 
 -- ---- field by field
 reason-is : (a v : ℕ) → reasonOf (max a v) ≡ firstReason (reasonOf a) (reasonOf v)
@@ -64,12 +65,14 @@ info-is a sp k s h = ap (λ (n : ℕ). infoOf n (pick (ltb a (k + 1)) s sp)) (ma
 -- the write of an end is above them
 records-end : (l : List ℕ) (x v : ℕ) → recordsOf (raiseW l (2112 + x) v) ≡ recordsOf l
 unfolding recordsOf recordAt
-records-end l x v = tab-same 512 (recordAt (raiseW l (2112 + x) v)) (recordAt l) (λ y h. λ j. recordIn (same y 0 h (omega arith) j) (same y 1536 h (omega arith) j) (same y 512 h (omega arith) j))
+records-end l x v =
+    tab-same 512 (recordAt (raiseW l (2112 + x) v)) (recordAt l)
+    (λ y h. λ j. recordIn (field-same l (raiseW l (2112 + x) v) 0 y (same 2048 (omega arith)) (same (0 + y) (omega arith)) j) (same (1536 + y) (omega arith) j) (same (512 + y) (omega arith) j))
   where
-    same : (y f : ℕ) → y < 512 → f < 1600 → getD (raiseW l (2112 + x) v) (f + y) 0 ≡ getD l (f + y) 0
-    same y f hy hf = raise-other l (2112 + x) v (f + y) (λ p. omega (arith, p))
+    same : (i : ℕ) → i < 2112 → getD (raiseW l (2112 + x) v) i 0 ≡ getD l i 0
+    same i h = raise-other l (2112 + x) v i (λ p. omega (arith, p))
 
-module _ (ns : List ℕ) (size : length ns ≡ 2624) (x k : ℕ) (hx : x < 512) (hk : k < 2) (m : CodeMutation) (hr : m .reason < 2) where
+module _ (ns : List ℕ) (size : length ns ≡ 2624) (x k : ℕ) (hx : x < 512) (there : x < getD ns 2048 0) (hk : k < 2) (m : CodeMutation) (hr : m .reason < 2) where
   abbrev w : ℕ
   w = getD ns (0 + x) 0
 
@@ -105,6 +108,14 @@ module _ (ns : List ℕ) (size : length ns ≡ 2624) (x k : ℕ) (hx : x < 512) 
       span-same (worded b) (spanAt b) (kindAt b) (k + 1) (m .span) (omega (arith, length-set ns (0 + x) (word b), size, span-below b x hx))
       ∙ ap (pick (ltb (kindAt b) (k + 1)) (m .span)) (getD-set-other ns (0 + x) (spanAt b) (word b) 0 p)
 
+  -- how many are kept stays
+  after-kept : (b : Bool) → getD (after b) 2048 0 ≡ getD ns 2048 0
+  after-kept true = after-other true 2048 (λ p. omega (arith, p)) (λ p. omega (arith, p))
+  after-kept false = after-other false 2048 (λ p. omega (arith, p)) (λ p. omega (arith, p))
+
+  after-field : (b : Bool) → (0 + x ≡ spanAt b → ⊥) → fieldAt (after b) 0 x ≡ word b
+  after-field b p = field-there (after b) 0 x (omega (arith, after-kept b, there)) ∙ after-word b p
+
   -- the record of x
   written : (b : Bool) → recordAt (after b) x ≡ touch b (mutationSays m) info (recordAt ns x)
   unfolding recordAt mutationSays
@@ -112,7 +123,7 @@ module _ (ns : List ℕ) (size : length ns ≡ 2624) (x k : ℕ) (hx : x < 512) 
       let l : ℕ = getD ns (512 + x) 0 in
       let t : ℕ = getD ns (1536 + x) 0 in
       let t′ : ℕ = pick (ltb (w / 4 % 4) (k + 1)) (m .span) t in
-      (λ j. recordIn (after-word true (λ p. omega (arith, p)) j) (after-span true (λ p. omega (arith, p)) j)
+      (λ j. recordIn (after-field true (λ p. omega (arith, p)) j) (after-span true (λ p. omega (arith, p)) j)
       (after-other true (512 + x) (λ p. omega (arith, p)) (λ p. omega (arith, p)) j))
       ∙ word-record (w % 4) (max (w / 4 % 4) (k + 1)) (max (w / 16 % 2) (m .reason)) (max (w / 32) (m .index)) (omega arith) (omega (arith, hk)) (omega (arith, hr)) t′ l
       ∙ (λ j. record {
@@ -121,11 +132,12 @@ module _ (ns : List ℕ) (size : length ns ≡ 2624) (x k : ℕ) (hx : x < 512) 
         transitive = info-is (w / 4 % 4) t k (m .span) hk j;
         local = infoOf (w % 4) l;
       })
+      ∙ (λ j. touch true (mutationSays m) info (recordIn (sym (field-there ns 0 x there) j) t l))
   written false =
       let l : ℕ = getD ns (512 + x) 0 in
       let t : ℕ = getD ns (1536 + x) 0 in
       let l′ : ℕ = pick (ltb (w % 4) (k + 1)) (m .span) l in
-      (λ j. recordIn (after-word false (λ p. omega (arith, p)) j)
+      (λ j. recordIn (after-field false (λ p. omega (arith, p)) j)
       (after-other false (1536 + x) (λ p. omega (arith, p)) (λ p. omega (arith, p)) j) (after-span false (λ p. omega (arith, p)) j))
       ∙ word-record (max (w % 4) (k + 1)) (w / 4 % 4) (max (w / 16 % 2) (m .reason)) (max (w / 32) (m .index)) (omega (arith, hk)) (omega arith) (omega (arith, hr)) t l′
       ∙ (λ j. record {
@@ -134,11 +146,12 @@ module _ (ns : List ℕ) (size : length ns ≡ 2624) (x k : ℕ) (hx : x < 512) 
         transitive = infoOf (w / 4 % 4) t;
         local = info-is (w % 4) l k (m .span) hk j;
       })
+      ∙ (λ j. touch false (mutationSays m) info (recordIn (sym (field-there ns 0 x there) j) t l))
 
   -- another identifier's
   written-other : (b : Bool) (y : ℕ) → y < 512 → (y ≡ x → ⊥) → recordAt (after b) y ≡ recordAt ns y
   unfolding recordAt
-  written-other b y hy ne = λ j. recordIn (kept b 0 (omega arith) (omega arith) j) (kept b 1536 (omega arith) (omega arith) j) (kept b 512 (omega arith) (omega arith) j)
+  written-other b y hy ne = λ j. recordIn (field-same ns (after b) 0 y (after-kept b) (kept b 0 (omega arith) (omega arith)) j) (kept b 1536 (omega arith) (omega arith) j) (kept b 512 (omega arith) (omega arith) j)
     where
       kept : (b : Bool) (f : ℕ) → f < 2112 → f % 512 ≡ 0 → getD (after b) (f + y) 0 ≡ getD ns (f + y) 0
       kept true f hf e = after-other true (f + y) (λ p. ne (omega (arith, p))) (λ p. ne (omega (arith, p)))
@@ -156,24 +169,6 @@ module _ (ns : List ℕ) (size : length ns ≡ 2624) (x k : ℕ) (hx : x < 512) 
   accept-records t = records-end (recordW ns x t (k + 1) m) x (m .end .0) ∙ record-records t
 
 -- ---- all ends
-pick-slice : (b : Bool) (l m : List ℕ) → slice 2112 2624 m ≡ slice 2112 2624 l → slice 2112 2624 (pick b m l) ≡ slice 2112 2624 l
-pick-slice true l m h = h
-pick-slice false l m h = refl
-
--- a write below the ends
-ends-span : (l : List ℕ) (i kind level s : ℕ) → i < 2112 → slice 2112 2624 (spanW l i kind level s) ≡ slice 2112 2624 l
-unfolding spanW
-ends-span l i kind level s h = pick-slice (ltb kind level) l (set l i s) (slice-before 2112 2624 i s l h (omega arith))
-
--- the write among the ends
-ends-end : (l : List ℕ) (x v : ℕ) → x < 512 → slice 2112 2624 (raiseW l (2112 + x) v) ≡ raiseW (slice 2112 2624 l) x v
-unfolding raiseW
-ends-end l x v h = go (ltb (getD l (2112 + x) 0) v) ∙ ap (λ (w : ℕ). pick (ltb w v) (set (slice 2112 2624 l) x v) (slice 2112 2624 l)) (sym (slice-at 2112 2624 x l (omega arith)))
-  where
-    go : (b : Bool) → slice 2112 2624 (pick b (set l (2112 + x) v) l) ≡ pick b (set (slice 2112 2624 l) x v) (slice 2112 2624 l)
-    go true = slice-set-in 2112 2624 x l v (omega arith)
-    go false = refl
-
 -- an unset end moves nothing, any other is the order plus one
 raised-is : (ends : List ℕ) (x e : ℕ) (errors : Bool) → raiseW ends x e ≡ raised (moves (modeOf e errors)) x (e - 1) ends
 unfolding raiseW
@@ -188,18 +183,58 @@ raised-is ends x (suc o) errors = go (ltb (getD ends x 0) (suc o)) refl
         let p : getD ends x 0 ≡ max (getD ends x 0) (suc (suc o - 1)) = omega (arith, ltb-false (getD ends x 0) (suc o) h) in
         sym (set-getD ends x 0) ∙ ap (set ends x) p
 
-ends-record : (ns : List ℕ) (x t k : ℕ) (m : CodeMutation) → x < 512 → slice 2112 2624 (recordW ns x t k m) ≡ slice 2112 2624 ns
+-- a write below the ends
+record-below : (ns : List ℕ) (x t k : ℕ) (m : CodeMutation) → x < 512 → (i : ℕ) → 2048 ≤ i → getD (recordW ns x t k m) i 0 ≡ getD ns i 0
 unfolding recordW writeW
-ends-record ns x t k m hx =
+record-below ns x t k m hx i h =
     let w : ℕ = getD ns (0 + x) 0 in
     let v : ℕ = keptWord w t k (m .reason) (m .index) in
-    ends-span (set ns (0 + x) v) (pick (eqb t 1) (1536 + x) (512 + x)) (pick (eqb t 1) (w / 4 % 4) (w % 4)) k (m .span) (span-below (eqb t 1) x hx)
-    ∙ slice-before 2112 2624 (0 + x) v ns (omega arith) (omega arith)
+    span-other (set ns (0 + x) v) (pick (eqb t 1) (1536 + x) (512 + x)) (pick (eqb t 1) (w / 4 % 4) (w % 4)) k (m .span) i (λ p. omega (arith, p, span-below (eqb t 1) x hx, h))
+    ∙ getD-set-other ns (0 + x) i v 0 (λ p. omega (arith, p))
 
-pub accept-ends : (ns : List ℕ) (x t k : ℕ) (m : CodeMutation) → x < 512
-    → endsOf (acceptW ns x t k m) ≡ raised (moves (modeSays m)) x (mutationSays m .order) (endsOf ns)
-unfolding endsOf acceptW modeSays mutationSays
-accept-ends ns x t k m hx =
-    ends-end (recordW ns x t k m) x (m .end .0) hx
-    ∙ ap (λ (l : List ℕ). raiseW l x (m .end .0)) (ends-record ns x t k m hx)
-    ∙ raised-is (slice 2112 2624 ns) x (m .end .0) (m .«should_record_errors»)
+module _ (ns : List ℕ) (size : length ns ≡ 2624) (x t k : ℕ) (m : CodeMutation) (hx : x < 512) (there : x < getD ns 2048 0) where
+  abbrev written-words : List ℕ
+  written-words = recordW ns x t k m
+
+  accept-other : (i : ℕ) → 2048 ≤ i → (i ≡ 2112 + x → ⊥) → getD (acceptW ns x t k m) i 0 ≡ getD ns i 0
+  unfolding acceptW
+  accept-other i h ne = raise-other written-words (2112 + x) (m .end .0) i ne ∙ record-below ns x t k m hx i h
+
+  pub accept-kept-count : getD (acceptW ns x t k m) 2048 0 ≡ getD ns 2048 0
+  accept-kept-count = accept-other 2048 (omega arith) (λ p. omega (arith, p))
+
+  accept-same : getD (acceptW ns x t k m) (2112 + x) 0 ≡ pick (ltb (getD ns (2112 + x) 0) (m .end .0)) (m .end .0) (getD ns (2112 + x) 0)
+  unfolding acceptW
+  accept-same =
+      raise-same written-words (2112 + x) (m .end .0) (omega (arith, local-record x t k m hx .len ns, size))
+      ∙ ap (λ (w : ℕ). pick (ltb w (m .end .0)) (m .end .0) w) (record-below ns x t k m hx (2112 + x) (omega arith))
+
+  end-there : fieldAt ns 2112 x ≡ getD ns (2112 + x) 0
+  end-there = field-there ns 2112 x there
+
+  end-after : fieldAt (acceptW ns x t k m) 2112 x ≡ pick (ltb (getD ns (2112 + x) 0) (m .end .0)) (m .end .0) (getD ns (2112 + x) 0)
+  end-after = field-there (acceptW ns x t k m) 2112 x (omega (arith, accept-kept-count, there)) ∙ accept-same
+
+  end-other : (y : ℕ) → y < 512 → (y ≡ x → ⊥) → fieldAt (acceptW ns x t k m) 2112 y ≡ fieldAt ns 2112 y
+  end-other y hy ne = field-same ns (acceptW ns x t k m) 2112 y accept-kept-count (accept-other (2112 + y) (omega arith) (λ p. ne (omega (arith, p))))
+
+  ends-raise : tab 512 (fieldAt (acceptW ns x t k m) 2112) ≡ raiseW (tab 512 (fieldAt ns 2112)) x (m .end .0)
+  unfolding raiseW
+  ends-raise =
+      go (ltb (getD ns (2112 + x) 0) (m .end .0)) end-after
+      ∙ ap (λ (w : ℕ). pick (ltb w (m .end .0)) (set (tab 512 (fieldAt ns 2112)) x (m .end .0)) (tab 512 (fieldAt ns 2112))) (sym (tab-at 512 (fieldAt ns 2112) x 0 hx ∙ end-there))
+    where
+      go : (b : Bool) → fieldAt (acceptW ns x t k m) 2112 x ≡ pick b (m .end .0) (getD ns (2112 + x) 0)
+          → tab 512 (fieldAt (acceptW ns x t k m) 2112) ≡ pick b (set (tab 512 (fieldAt ns 2112)) x (m .end .0)) (tab 512 (fieldAt ns 2112))
+      go true e = tab-set 512 x (fieldAt ns 2112) (fieldAt (acceptW ns x t k m) 2112) (m .end .0) e end-other
+      go false e =
+          tab-same 512 (fieldAt (acceptW ns x t k m) 2112) (fieldAt ns 2112)
+          (λ y h. either y h (ℕ-discrete y x) e)
+        where
+          either : (y : ℕ) → y < 512 → Dec (y ≡ x) → fieldAt (acceptW ns x t k m) 2112 x ≡ getD ns (2112 + x) 0 → fieldAt (acceptW ns x t k m) 2112 y ≡ fieldAt ns 2112 y
+          either y h (no n) q = end-other y h n
+          either y h (yes z) q = ap (fieldAt (acceptW ns x t k m) 2112) z ∙ q ∙ sym end-there ∙ ap (fieldAt ns 2112) (sym z)
+
+  pub accept-ends : endsOf (acceptW ns x t k m) ≡ raised (moves (modeSays m)) x (mutationSays m .order) (endsOf ns)
+  unfolding endsOf modeSays mutationSays
+  accept-ends = ends-raise ∙ raised-is (tab 512 (fieldAt ns 2112)) x (m .end .0) (m .«should_record_errors»)

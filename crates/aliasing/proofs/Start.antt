@@ -5,7 +5,7 @@ use native.Mathlib.Nat.{add-comm}
 use mathlib.Core.Bool.{Bool, true, false}
 use mathlib.Core.List.{List, [], _∷_}
 use mathlib.Core.Path.{_≡_, refl, sym, ap, subst, _∙_}
-use lib.ListN.{set}
+use lib.ListN.{set, take}
 use lib.Seq.{slice, slice-empty}
 use lib.Dec.{eqb}
 use Rattle.model.specs.Lists.{Every}
@@ -15,7 +15,7 @@ use Rattle.model.specs.State.{State, Mode}
 use Rattle.model.specs.Walks.{Item, Walk, run, startItem, start, walkOf, mutate}
 use Rattle.model.proofs.Fuel.{run-add, run-rest}
 use Rattle.model.proofs.Potential.{walk-ends, walk-enough}
-use Rattle.rows.specs.Rows.{rowsOf, Indexed}
+use Rattle.rows.specs.Rows.{rowsOf, limit, Indexed}
 use Rattle.rows.specs.Pending.{kindOf}
 use Rattle.pushes.specs.Pushes.{entryW}
 use Rattle.pushes.specs.Items.{itemOf, queueOf}
@@ -27,6 +27,7 @@ use Rattle.aliasing.specs.Says.{bit, kindBit, kindSays, modeSays, mutati
 use Rattle.aliasing.specs.State.{seenOf, levels, NoneAbove, recordsOf, stateOf, bare, Handing}
 use Rattle.aliasing.specs.Potential.{phi}
 use Rattle.aliasing.specs.Walks.{Shows, Ready, TransitiveConditional, AllConditional, Callable, Walked, Mutated}
+use Rattle.aliasing.proofs.Fields.{covered-nodes}
 use Rattle.aliasing.proofs.Walks.{aside-then}
 use Rattle.aliasing.proofs.Levels.{levels-none, above-as, above-more}
 use Rattle.aliasing.proofs.Potential.{phi-bound}
@@ -78,7 +79,7 @@ module _ (ws : List ℕ) (hand : ℕ) (m : CodeMutation) (base : ℕ) (indexed :
   b = entered ws indexed e
 
   start-marked : NoneAbove base first-words
-  start-marked = above-as (b .marks) (new .1)
+  start-marked = above-as (b .marks) (b .aside .graph) (new .1)
 
   first-fits : 8529 + phi (levels base (seenOf first-words)) (rowsOf first-words) 512 ≤ 13315
   first-fits = omega (arith, phi-bound (levels base (seenOf first-words)) (rowsOf first-words) (b .good))
@@ -88,7 +89,7 @@ module _ (ws : List ℕ) (hand : ℕ) (m : CodeMutation) (base : ℕ) (indexed :
   queue-is = ap queueOf (b .entry) ∙ ap (λ (i : Item). i ∷ []) (start-item m e (callable .start) ent)
 
   shows-start : Shows base first-words 8529 hand (start (mutationSays m) (stateOf ws hand))
-  shows-start = record { queue = queue-is; seen = levels-none base first-words start-marked ∙ levels-long ws hand; state = b .state hand (handing .low) }
+  shows-start = record { queue = queue-is; seen = levels-none base first-words (b .good) start-marked ∙ ap (take (limit (rowsOf first-words))) (levels-long ws hand); state = b .state hand (handing .low) }
 
   pub start-ready : Ready base first-words 8529 hand
   start-ready = record {
@@ -98,7 +99,7 @@ module _ (ws : List ℕ) (hand : ℕ) (m : CodeMutation) (base : ℕ) (indexed :
     fits = first-fits;
     few = new .0;
     marked = above-more (omega arith) start-marked;
-    handing = record { low = handing .low; room = omega (arith, handing .room, ap (λ (ns : List ℕ). bare (recordsOf ns)) (b .nodes)) };
+    handing = record { low = handing .low; covered = covered-nodes ws first-words (b .aside .graph) (b .nodes) (handing .covered); room = omega (arith, handing .room, ap (λ (ns : List ℕ). bare (recordsOf ns)) (b .nodes)) };
   }
 
   -- the queue of a mutation that is transitive and Conditional

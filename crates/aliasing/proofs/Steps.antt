@@ -1,20 +1,21 @@
--- One entry taken: the three ways that a step ends.
+-- One entry taken: the four ways that a step ends.
 use Prim.Native.Nat.{ℕ, suc, _+_, _-_, _/_, _%_, _≤_, _<_}
 use native.Mathlib.Omega.{arith}
+use native.Mathlib.Decide.{decLt}
 use mathlib.Core.Bool.{_&&_, not}
 use mathlib.Core.List.{List, [], _∷_, _++_, reverseAux}
 use mathlib.Core.Option.{none, some}
 use mathlib.Core.Path.{_≡_, refl, sym, ap, subst, _∙_}
 use lib.ListN.{length, getD, set, take, drop}
-use lib.Seq.{slice, length-take-le, take-suc, drop-append-le, getD-set-other}
+use lib.Seq.{slice, length-take-le, take-suc, drop-append-le, getD-set-other, getD-take, take-set-le, take-set-lt}
 use Rattle.model.specs.Lists.{listIf}
 use Rattle.model.specs.Graph.{Graph, Node, nodeAt}
 use Rattle.model.specs.Mutation.{level}
 use Rattle.model.specs.State.{Record, noRecord, hasRecord, recordsErrors, touch, functionOf, State, accepts}
 use Rattle.model.specs.Walks.{Item, Walk, pushes, remember, skipped, missed, accept, step}
-use Rattle.rows.specs.Rows.{rowsOf, used, value, rowF, rowB, Good, Kept}
+use Rattle.rows.specs.Rows.{rowsOf, limit, used, value, rowF, rowB, Good, Kept}
 use Rattle.rows.specs.Graph.{valueOf, ownNode, graphOfRows}
-use Rattle.rows.proofs.Rows.{used-below, value-at, rows-length}
+use Rattle.rows.proofs.Rows.{used-below, limit-at, value-at, value-beyond, rows-length}
 use Rattle.rows.proofs.Graph.{row-there, row-missing}
 use Rattle.rows.proofs.Parts.{drop-more}
 use Rattle.pushes.specs.Pushes.{pushedW, Pushed, Room, deg}
@@ -30,7 +31,8 @@ use Rattle.aliasing.specs.Potential.{phi}
 use Rattle.aliasing.specs.Walks.{Shows, Ready, Callable, Stepped}
 use Rattle.aliasing.proofs.Parts.{slice-below, slice-above, nodes-below, seen-below, seen-above, rows-below, rows-above, mark-kept, mark-seen, seen-at, seen-length, accept-kept, accept-nodes, nodes-length}
 use Rattle.aliasing.proofs.Levels.{levels-length, levels-at, levels-set, above-as, above-set}
-use Rattle.aliasing.proofs.Records.{level-is, accept-records, accept-ends}
+use Rattle.aliasing.proofs.Records.{level-is, accept-records, accept-kept-count, accept-ends}
+use Rattle.aliasing.proofs.Fields.{covered-as, covered-nodes}
 use Rattle.aliasing.proofs.Hands.{handed-is, hand-same, room-kept, records-length}
 use Rattle.aliasing.proofs.Potential.{phi-falls}
 use Rattle.aliasing.proofs.Cases.{step-skips, step-misses, step-accepts}
@@ -100,30 +102,63 @@ module _ (m : Mutation) (base : ℕ) (ws : List ℕ) (top hand : ℕ) (ready : R
     head : w .queue ≡ itemOf (last ws top) ∷ queueOf (slice 8528 (top - 1) ws)
     head = sym (s .queue) ∙ queue-head ws top more fit
 
-    at-seen : getD (w .seen) (itemOf (last ws top) .identifier) 0 ≡ getD ws (2624 + placeAt ws top) 0 - base
+    at-seen : placeAt ws top < limit (rowsOf ws) → getD (w .seen) (itemOf (last ws top) .identifier) 0 ≡ getD ws (2624 + placeAt ws top) 0 - base
     unfolding itemOf
-    at-seen =
-        ap (λ (l : List ℕ). getD l (placeAt ws top) 0) (sym (s .seen)) ∙ levels-at base (seenOf ws) (placeAt ws top) x-below
+    at-seen under =
+        sym (getD-take (limit (rowsOf ws)) (w .seen) (placeAt ws top) 0 under) ∙ ap (λ (l : List ℕ). getD l (placeAt ws top) 0) (sym (s .seen))
+        ∙ getD-take (limit (rowsOf ws)) (levels base (seenOf ws)) (placeAt ws top) 0 under ∙ levels-at base (seenOf ws) (placeAt ws top) x-below
         ∙ ap (λ (v : ℕ). v - base) (seen-at ws (placeAt ws top) x-below)
 
-  -- ---- seen at this kind or a higher one
-  module _ (seen : base + kindAt ws top < getD ws (2624 + placeAt ws top) 0) where
-    skips : (w : Walk) → Shows base ws top hand w → Shows base ws (top - 1) hand (step (modeSays m) (mutationSays m) (w .queue) w)
-    skips w s =
+    skips : level (itemOf (last ws top) .kind) ≤ getD (w .seen) (itemOf (last ws top) .identifier) 0 → Shows base ws (top - 1) hand (step (modeSays m) (mutationSays m) (w .queue) w)
+    skips seen =
         shows-to (step (modeSays m) (mutationSays m) (w .queue) w) (skipped (queueOf (slice 8528 (top - 1) ws)) w) (record { queue = refl; seen = s .seen; state = s .state })
-        (step-skips (modeSays m) (mutationSays m) w (itemOf (last ws top)) (queueOf (slice 8528 (top - 1) ws)) (head w s)
-        (omega (arith, at-seen w s, item-level (last ws top))))
+        (step-skips (modeSays m) (mutationSays m) w (itemOf (last ws top)) (queueOf (slice 8528 (top - 1) ws)) head seen)
 
-    pub step-seen : Stepped m base ws top hand ws (top - 1) hand
-    step-seen = record {
-      follows = skips;
-      ready = record { size = ready .size; low = omega arith; good = ready .good; fits = omega (arith, ready .fits); few = ready .few; marked = ready .marked; handing = ready .handing };
-      falls = omega arith;
-      aside = record { graph = refl; behind = refl; same = refl };
-    }
+    -- an entry from the limit on does nothing, whether it is fresh or not
+    nothing : limit (rowsOf ws) ≤ placeAt ws top → Shows base ws (top - 1) hand (step (modeSays m) (mutationSays m) (w .queue) w)
+    unfolding itemOf
+    nothing beyond = go (decLt (getD (w .seen) (placeAt ws top) 0) (level (itemOf (last ws top) .kind)))
+      where
+        gone : nodeAt (stateOf ws hand .graph) (placeAt ws top) ≡ none
+        gone = graph-missing ws hand (placeAt ws top) x-below (value-beyond (rowsOf ws) (placeAt ws top) beyond)
+
+        go : Dec (getD (w .seen) (placeAt ws top) 0 < level (itemOf (last ws top) .kind)) → Shows base ws (top - 1) hand (step (modeSays m) (mutationSays m) (w .queue) w)
+        go (yes h) =
+            shows-to (step (modeSays m) (mutationSays m) (w .queue) w) (missed (itemOf (last ws top)) (queueOf (slice 8528 (top - 1) ws)) w)
+            (record { queue = refl; seen = s .seen ∙ sym (take-set-le (limit (rowsOf ws)) (w .seen) (placeAt ws top) (level (itemOf (last ws top) .kind)) beyond); state = s .state })
+            (step-misses (modeSays m) (mutationSays m) w (itemOf (last ws top)) (queueOf (slice 8528 (top - 1) ws)) head h
+            (ap (λ (t : State). nodeAt (t .graph) (placeAt ws top)) (sym (s .state)) ∙ gone))
+        go (no h) = skips (omega (arith, h))
+
+  -- ---- the entry is taken, and no word written
+  stays : ((w : Walk) → Shows base ws top hand w → Shows base ws (top - 1) hand (step (modeSays m) (mutationSays m) (w .queue) w)) → Stepped m base ws top hand ws (top - 1) hand
+  stays follows = record {
+    follows = follows;
+    ready = record { size = ready .size; low = omega arith; good = ready .good; fits = omega (arith, ready .fits); few = ready .few; marked = ready .marked; handing = ready .handing };
+    falls = omega arith;
+    aside = record { graph = refl; behind = refl; same = refl };
+  }
+
+  -- ---- from the limit on
+  pub step-beyond : getD ws 8322 0 ≤ placeAt ws top → Stepped m base ws top hand ws (top - 1) hand
+  step-beyond beyond = stays (λ w s. nothing w s (omega (arith, beyond, limit-at ws (ready .size))))
+
+  -- ---- seen at this kind or a higher one; what stands from the limit on is no mark
+  pub step-seen : base + kindAt ws top < getD ws (2624 + placeAt ws top) 0 → Stepped m base ws top hand ws (top - 1) hand
+  step-seen seen = stays (λ w s. go w s (decLt (placeAt ws top) (limit (rowsOf ws))))
+    where
+      go : (w : Walk) → Shows base ws top hand w → Dec (placeAt ws top < limit (rowsOf ws)) → Shows base ws (top - 1) hand (step (modeSays m) (mutationSays m) (w .queue) w)
+      go w s (yes h) = skips w s (omega (arith, at-seen w s h, item-level (last ws top)))
+      go w s (no h) = nothing w s (omega (arith, h))
 
   -- ---- not seen
-  module _ (unseen : getD ws (2624 + placeAt ws top) 0 ≤ base + kindAt ws top) where
+  module _ (unseen : getD ws (2624 + placeAt ws top) 0 ≤ base + kindAt ws top) (below : placeAt ws top < getD ws 8322 0) where
+    under : placeAt ws top < limit (rowsOf ws)
+    under = omega (arith, below, limit-at ws (ready .size))
+
+    kept-there : placeAt ws top < getD (nodesOf ws) 2048 0
+    kept-there = omega (arith, under, ready .handing .covered)
+
     abbrev marked : List ℕ
     marked = set ws (2624 + placeAt ws top) (base + kindAt ws top + 1)
 
@@ -144,17 +179,24 @@ module _ (m : Mutation) (base : ℕ) (ws : List ℕ) (top hand : ℕ) (ready : R
         (omega (arith, levels-at base (seenOf ws) (placeAt ws top) x-below, seen-at ws (placeAt ws top) x-below)) (omega arith)
 
     value-kept : getD marked (3200 + placeAt ws top) 0 ≡ value (rowsOf ws) (placeAt ws top)
-    value-kept = getD-set-other ws (2624 + placeAt ws top) (3200 + placeAt ws top) (base + kindAt ws top + 1) 0 (omega arith) ∙ sym (value-at ws (ready .size) (placeAt ws top) x-below)
+    value-kept = getD-set-other ws (2624 + placeAt ws top) (3200 + placeAt ws top) (base + kindAt ws top + 1) 0 (omega arith) ∙ sym (value-at ws (ready .size) (placeAt ws top) x-below under)
 
     module _ (w : Walk) (s : Shows base ws top hand w) where
       higher : getD (w .seen) (itemOf (last ws top) .identifier) 0 < level (itemOf (last ws top) .kind)
-      higher = omega (arith, at-seen w s, item-level (last ws top))
+      higher = omega (arith, at-seen w s under, item-level (last ws top))
 
-      remembered : set (levels base (seenOf ws)) (placeAt ws top) (kindAt ws top + 1) ≡ remember (itemOf (last ws top)) (w .seen)
+      -- once marked
+      remembered : (ws′ : List ℕ) → rowsOf ws′ ≡ rowsOf ws → levels base (seenOf ws′) ≡ set (levels base (seenOf ws)) (placeAt ws top) (kindAt ws top + 1)
+          → take (limit (rowsOf ws′)) (levels base (seenOf ws′)) ≡ take (limit (rowsOf ws′)) (remember (itemOf (last ws top)) (w .seen))
       unfolding itemOf
-      remembered =
-          ap (λ (l : List ℕ). set l (placeAt ws top) (kindAt ws top + 1)) (s .seen)
-          ∙ ap (set (w .seen) (placeAt ws top)) (sym (level-is (kindAt ws top) k-below))
+      remembered ws′ rows marks =
+          let n : ℕ = limit (rowsOf ws) in
+          ap (λ (g : List ℕ). take (limit g) (levels base (seenOf ws′))) rows ∙ ap (take n) marks
+          ∙ take-set-lt n (levels base (seenOf ws)) (placeAt ws top) (kindAt ws top + 1) under
+          ∙ ap (λ (l : List ℕ). set l (placeAt ws top) (kindAt ws top + 1)) (s .seen)
+          ∙ sym (take-set-lt n (w .seen) (placeAt ws top) (kindAt ws top + 1) under)
+          ∙ ap (λ (k : ℕ). take n (set (w .seen) (placeAt ws top) k)) (sym (level-is (kindAt ws top) k-below))
+          ∙ ap (λ (g : List ℕ). take (limit g) (set (w .seen) (placeAt ws top) (level (itemOf (last ws top) .kind)))) (sym rows)
 
     -- ---- missing
     module _ (none-there : getD marked (3200 + placeAt ws top) 0 ≡ 0) where
@@ -164,7 +206,7 @@ module _ (m : Mutation) (base : ℕ) (ws : List ℕ) (top hand : ℕ) (ready : R
           shows-to (step (modeSays m) (mutationSays m) (w .queue) w) (missed (itemOf (last ws top)) (queueOf (slice 8528 (top - 1) ws)) w)
           (record {
             queue = ap queueOf (slice-above mark 8528 (top - 1) (omega arith) (omega arith));
-            seen = mark-levels ∙ remembered w s;
+            seen = remembered w s marked (rows-above mark (omega arith)) mark-levels;
             state = state-same ws marked hand hand (rows-above mark (omega arith)) (nodes-below mark (omega arith)) (slice-above mark 13315 hand (omega arith) (ready .handing .low)) ∙ s .state;
           })
           (step-misses (modeSays m) (mutationSays m) w (itemOf (last ws top)) (queueOf (slice 8528 (top - 1) ws)) (head w s) (higher w s)
@@ -183,7 +225,7 @@ module _ (m : Mutation) (base : ℕ) (ws : List ℕ) (top hand : ℕ) (ready : R
           fits = omega (arith, ready .fits, falls-by, phi-marked);
           few = ready .few;
           marked = mark-most;
-          handing = record { low = ready .handing .low; room = omega (arith, ready .handing .room, ap (λ (l : List ℕ). bare (recordsOf l)) (nodes-below mark (omega arith))) };
+          handing = record { low = ready .handing .low; covered = covered-nodes ws marked (rows-above mark (omega arith)) (nodes-below mark (omega arith)) (ready .handing .covered); room = omega (arith, ready .handing .room, ap (λ (l : List ℕ). bare (recordsOf l)) (nodes-below mark (omega arith))) };
         };
         falls = omega (arith, falls-by, phi-marked);
         aside = record { graph = rows-above mark (omega arith); behind = drop-more 3136 13827 marked ws (omega arith) (mark .high); same = mark .same };
@@ -208,7 +250,7 @@ module _ (m : Mutation) (base : ℕ) (ws : List ℕ) (top hand : ℕ) (ready : R
           hand-same marked (getD marked (3200 + placeAt ws top) 0) (placeAt ws top) (m .«should_record_errors») x-below
           ∙ ap (λ (l : List ℕ). handW l (getD marked (3200 + placeAt ws top) 0) (placeAt ws top) (m .«should_record_errors»)) (nodes-below mark (omega arith))
           ∙ ap (λ (v : ℕ). handW (take 2624 ws) v (placeAt ws top) (m .«should_record_errors»)) value-kept
-          ∙ handed-is (take 2624 ws) (value (rowsOf ws) (placeAt ws top)) (placeAt ws top) m x-below callable
+          ∙ handed-is (take 2624 ws) (value (rowsOf ws) (placeAt ws top)) (placeAt ws top) m x-below kept-there callable
 
       ph′ : Pushed marked hand handing wsH h
       ph′ = subst (λ (vs : List ℕ). Pushed marked hand vs wsH h) hands ph
@@ -296,7 +338,7 @@ module _ (m : Mutation) (base : ℕ) (ws : List ℕ) (top hand : ℕ) (ready : R
 
           records₃ : recordsOf (nodesOf ws₃) ≡ touched
           unfolding itemOf
-          records₃ = ap recordsOf nodes₃ ∙ accept-records (nodesOf ws) (nodes-length ws (ready .size)) (placeAt ws top) (kindAt ws top) x-below k-below m (callable .reason) (transitiveAt ws top)
+          records₃ = ap recordsOf nodes₃ ∙ accept-records (nodesOf ws) (nodes-length ws (ready .size)) (placeAt ws top) (kindAt ws top) x-below kept-there k-below m (callable .reason) (transitiveAt ws top)
 
           state₃ : stateOf ws₃ h
               ≡ accepts (modeSays m) (mutationSays m) (placeAt ws top) (valueOf (value (rowsOf ws) (placeAt ws top))) (itemOf (last ws top) .transitive) (itemOf (last ws top) .kind) (stateOf ws hand)
@@ -304,7 +346,7 @@ module _ (m : Mutation) (base : ℕ) (ws : List ℕ) (top hand : ℕ) (ready : R
           state₃ = λ j. record {
             graph = graphOfRows (rows₃ j);
             records = records₃ j;
-            ends = (ap endsOf nodes₃ ∙ accept-ends (nodesOf ws) (placeAt ws top) (transitiveAt ws top) (kindAt ws top + 1) m x-below) j;
+            ends = (ap endsOf nodes₃ ∙ accept-ends (nodesOf ws) (nodes-length ws (ready .size)) (placeAt ws top) (transitiveAt ws top) (kindAt ws top + 1) m x-below kept-there) j;
             handed = handed₃ j;
           }
 
@@ -327,7 +369,7 @@ module _ (m : Mutation) (base : ℕ) (ws : List ℕ) (top hand : ℕ) (ready : R
               shows-to (step (modeSays m) (mutationSays m) (w .queue) w) (accept (modeSays m) (mutationSays m) own (itemOf (last ws top)) (queueOf (slice 8528 (top - 1) ws)) w)
               (record {
                 queue = entries₃;
-                seen = seen₃ ∙ remembered w s;
+                seen = remembered w s ws₃ rows₃ seen₃;
                 state = state₃ ∙ ap (accepts (modeSays m) (mutationSays m) (placeAt ws top) (valueOf (value (rowsOf ws) (placeAt ws top))) (itemOf (last ws top) .transitive) (itemOf (last ws top) .kind)) (s .state);
               })
               (step-accepts (modeSays m) (mutationSays m) w (itemOf (last ws top)) (queueOf (slice 8528 (top - 1) ws)) (head w s) own (higher w s)
@@ -345,8 +387,8 @@ module _ (m : Mutation) (base : ℕ) (ws : List ℕ) (top hand : ℕ) (ready : R
               good = subst Good (sym rows₃) (ready .good);
               fits = omega (arith, p′ .next, few, falls-by, phi₃, ready .fits);
               few = ready .few;
-              marked = above-as marks₃ mark-most;
-              handing = record { low = omega (arith, ph′ .next, ready .handing .low); room = omega (arith, hand-room, ap bare records₃) };
+              marked = above-as marks₃ (rows₃ ∙ sym (rows-above mark (omega arith))) mark-most;
+              handing = record { low = omega (arith, ph′ .next, ready .handing .low); covered = covered-as ws ws₃ rows₃ (ap (λ (l : List ℕ). getD l 2048 0) nodes₃ ∙ accept-kept-count (nodesOf ws) (nodes-length ws (ready .size)) (placeAt ws top) (transitiveAt ws top) (kindAt ws top + 1) m x-below kept-there) (ready .handing .covered); room = omega (arith, hand-room, ap bare records₃) };
             };
             falls = omega (arith, p′ .next, few, falls-by, phi₃);
             aside = record {

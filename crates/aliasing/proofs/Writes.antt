@@ -27,6 +27,10 @@ pub raise-other : (l : List ℕ) (i v j : ℕ) → (j ≡ i → ⊥) → getD (r
 unfolding raiseW
 raise-other l i v j h = pick-other (ltb (getD l i 0) v) l (set l i v) j (getD-set-other l i j v 0 h)
 
+pub raise-same : (l : List ℕ) (i v : ℕ) → i < length l → getD (raiseW l i v) i 0 ≡ pick (ltb (getD l i 0) v) v (getD l i 0)
+unfolding raiseW
+raise-same l i v h = pick-at (ltb (getD l i 0) v) l (set l i v) i v (getD-set-same l i v 0 h)
+
 -- nothing is below 0, and so an unset end moves none
 pub raise-unset : (l : List ℕ) (i v : ℕ) (t : Bool) → t ≡ eqb v 0 → t ≡ true → l ≡ raiseW l i v
 unfolding raiseW
@@ -67,7 +71,7 @@ local-word n i f h a = record {
   post = λ l. a (getD l i 0) .post l;
 }
 
-pub span-below : (b : Bool) (x : ℕ) → x < 512 → pick b (1536 + x) (512 + x) < 2112
+pub span-below : (b : Bool) (x : ℕ) → x < 512 → pick b (1536 + x) (512 + x) < 2048
 span-below true x h = omega arith
 span-below false x h = omega arith
 
@@ -77,7 +81,7 @@ local-write w x t k m h =
     local-then (local-set 2624 (0 + x) (keptWord w t k (m .reason) (m .index)) (omega arith))
     (local-span 2624 (pick (eqb t 1) (1536 + x) (512 + x)) (pick (eqb t 1) (w / 4 % 4) (w % 4)) k (m .span) (omega (arith, span-below (eqb t 1) x h)))
 
-local-record : (x t k : ℕ) (m : Mutation) → x < 512 → Local 2624 (λ (l : List ℕ). recordW l x t k m)
+pub local-record : (x t k : ℕ) (m : Mutation) → x < 512 → Local 2624 (λ (l : List ℕ). recordW l x t k m)
 unfolding recordW
 local-record x t k m h = local-word 2624 (0 + x) (λ w l. writeW w l x t k m) (omega arith) (λ w. local-write w x t k m h)
 

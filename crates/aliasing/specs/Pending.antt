@@ -15,13 +15,14 @@ use Rattle.rows.specs.Rows.{rowsOf}
 use Rattle.rows.specs.Graph.{tab}
 use Rattle.rows.specs.Pending.{mutationOf, mutationsOf}
 use Rattle.aliasing.specs.Says.{modeSays, mutationSays}
-use Rattle.aliasing.specs.State.{stateOf, Handing}
+use Rattle.aliasing.specs.State.{Covered, stateOf, Handing}
 use Rattle.aliasing.specs.Walks.{Callable}
 use Rattle.aliasing.specs.declared.Mutation.{Mutation}
 
--- `count` mutations are pending, each of an instruction's order
+-- `count` mutations are pending, each of an instruction's order; every identifier that can have a node has its words
 pub record Pending (ws : List ℕ) (count : ℕ) : Type 0 where
   pub few : count ≤ mostMutations
+  pub covered : Covered ws
   pub orders : Every (λ (m : ModelMutation). m .order ≤ mostOrder) (mutationsOf ws count)
 
 -- the code's mutation is that of the three words, and real

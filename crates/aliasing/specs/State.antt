@@ -5,11 +5,12 @@ use mathlib.Core.List.{List}
 use mathlib.Core.Option.{Option, none, some}
 use lib.ListN.{getD, take}
 use lib.Seq.{slice}
-use Rattle.model.specs.Lists.{tally, oneIf}
+use lib.Dec.{ltb}
+use Rattle.model.specs.Lists.{pick, tally, oneIf}
 use Rattle.model.specs.Mutation.{reasonOf}
 use Rattle.model.specs.State.{Info, Record, hasRecord, State}
-use Rattle.rows.specs.Layout.{RECORD, LSPAN, TSPAN, END, SEEN, VALUE, HANDED, MUTATIONS}
-use Rattle.rows.specs.Rows.{rowsOf}
+use Rattle.rows.specs.Layout.{RECORD, LSPAN, TSPAN, KEPT, END, SEEN, HANDED, MUTATIONS}
+use Rattle.rows.specs.Rows.{rowsOf, limit}
 use Rattle.rows.specs.Graph.{tab, graphOfRows}
 use Rattle.rows.specs.Pending.{kindOf}
 
@@ -25,9 +26,9 @@ seenOf ws = slice SEEN (SEEN + 512) ws
 unfoldable pub levels : ℕ → List ℕ → List ℕ
 levels base seen = tab 512 (λ (x : ℕ). getD seen x 0 - base)
 
--- no mark is above `most`
+-- no mark of an identifier that can have a node is above `most`
 pub record NoneAbove (most : ℕ) (ws : List ℕ) : Type 0 where
-  pub marks : (x : ℕ) → x < 512 → getD (seenOf ws) x 0 ≤ most
+  pub marks : (x : ℕ) → x < limit (rowsOf ws) → getD (seenOf ws) x 0 ≤ most
 
 -- a record by its kind (0 is none, else the level) and the word of its span
 abbrev pub infoOf : ℕ → ℕ → Option Info
@@ -43,9 +44,17 @@ recordIn w ts ls = record {
   local = infoOf (w % 4) ls;
 }
 
+-- the word of x in the field that begins at f: 0 for an identifier that none is kept for
+unfoldable pub fieldAt : List ℕ → ℕ → ℕ → ℕ
+fieldAt ns f x = pick (ltb x (getD ns KEPT 0)) (getD ns (f + x) 0) 0
+
+-- every identifier that can have a node has its words
+abbrev pub Covered : List ℕ → Type 0
+Covered ws = limit (rowsOf ws) ≤ getD (nodesOf ws) KEPT 0
+
 -- what the fields keep of x
 unfoldable pub recordAt : List ℕ → ℕ → Record
-recordAt ns x = recordIn (getD ns (RECORD + x) 0) (getD ns (TSPAN + x) 0) (getD ns (LSPAN + x) 0)
+recordAt ns x = recordIn (fieldAt ns RECORD x) (getD ns (TSPAN + x) 0) (getD ns (LSPAN + x) 0)
 
 -- the records of all identifiers
 unfoldable pub recordsOf : List ℕ → List Record
@@ -53,7 +62,7 @@ recordsOf ns = tab 512 (recordAt ns)
 
 -- the ends of all identifiers
 unfoldable pub endsOf : List ℕ → List ℕ
-endsOf ns = slice END SEEN ns
+endsOf ns = tab 512 (fieldAt ns END)
 
 -- the state; `hand` is where the next function is to be handed over
 unfoldable pub stateOf : List ℕ → ℕ → State
@@ -68,7 +77,8 @@ stateOf ws hand = record {
 unfoldable pub bare : List Record → ℕ
 bare rs = tally (λ (r : Record). oneIf (not (hasRecord r))) rs
 
--- the functions handed over leave room for one of each identifier without a record: none is handed over by an identifier that has one
+-- every identifier that can have a node has its words; the functions handed over leave room for one of each identifier without a record: none is handed over by an identifier that has one
 pub record Handing (ws : List ℕ) (hand : ℕ) : Type 0 where
   pub low : HANDED ≤ hand
+  pub covered : Covered ws
   pub room : hand + bare (recordsOf (nodesOf ws)) ≤ MUTATIONS

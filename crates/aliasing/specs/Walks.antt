@@ -3,24 +3,24 @@ use Prim.Native.Nat.{ℕ, _+_, _*_, _≤_, _<_}
 use mathlib.Core.Bool.{true, false}
 use mathlib.Core.List.{List}
 use mathlib.Core.Path.{_≡_}
-use lib.ListN.{length, drop}
+use lib.ListN.{length, take, drop}
 use lib.Seq.{slice}
 use Rattle.model.specs.Lists.{Every}
 use Rattle.model.specs.Mutation.{conditional}
 use Rattle.model.specs.Size.{edges, entries}
 use Rattle.model.specs.Walks.{Item, Walk, step, run, mutate}
 use Rattle.rows.specs.Layout.{LEAST, QUEUE, HANDED, MUTATIONS}
-use Rattle.rows.specs.Rows.{rowsOf, Good}
+use Rattle.rows.specs.Rows.{rowsOf, limit, Good}
 use Rattle.pushes.specs.Items.{queueOf}
 use Rattle.aliasing.specs.Says.{modeSays, mutationSays}
 use Rattle.aliasing.specs.State.{seenOf, levels, NoneAbove, stateOf, Handing}
 use Rattle.aliasing.specs.Potential.{phi}
 use Rattle.aliasing.specs.declared.Mutation.{Mutation}
 
--- the words hold the walk w, its accepted entries and its count aside: the queue up to `top`, the levels from `base` on, the state
+-- the words hold the walk w, its accepted entries and its count aside: the queue up to `top`, the levels from `base` on of the identifiers that can have a node, the state
 pub record Shows (base : ℕ) (ws : List ℕ) (top hand : ℕ) (w : Walk) : Type 0 where
   pub queue : queueOf (slice QUEUE top ws) ≡ w .queue
-  pub seen : levels base (seenOf ws) ≡ w .seen
+  pub seen : take (limit (rowsOf ws)) (levels base (seenOf ws)) ≡ take (limit (rowsOf ws)) (w .seen)
   pub state : stateOf ws hand ≡ w .state
 
 -- what a walk needs at each entry

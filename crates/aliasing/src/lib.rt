@@ -3,12 +3,12 @@ ghost use mathlib.Core.Path.{_≡_};
 ghost use Prim.Native.Nat.{_+_, _-_, _*_, _≤_, _<_, max};
 ghost use lib.ListN.{length, getD};
 ghost use Rattle.model.specs.Limits.{mostOrder};
-ghost use Rattle.rows.specs.Layout.{LEAST, MUTATIONS, QUEUE, VALUE};
+ghost use Rattle.rows.specs.Layout.{LEAST, SEEN, MUTATIONS, QUEUE, VALUE};
 ghost use Rattle.rows.specs.Rows.{Indexed};
 ghost use Rattle.pushes.specs.Pushes.{Pushed};
 ghost use Rattle.rows.specs.Pending.{kindOf};
 ghost use Rattle.aliasing.specs.Says.{bit, kindBit, kindSays};
-ghost use Rattle.aliasing.specs.State.{Handing, NoneAbove};
+ghost use Rattle.aliasing.specs.State.{nodesOf, fieldAt, Handing, NoneAbove};
 ghost use Rattle.aliasing.specs.Accepts.{raiseW, recordW, acceptW, functionW, handW};
 ghost use Rattle.aliasing.specs.Walks.{Ready, AllConditional, Callable, Stepped, Walked, Mutated};
 ghost use Rattle.aliasing.specs.Pending.{Pending, Made, Processed};
@@ -19,8 +19,10 @@ use pushes::push_all;
 use pushes::push_whole;
 use rows::END;
 use rows::HANDED;
+use rows::KEPT;
 use rows::LSPAN;
 use rows::MUTATIONS;
+use rows::NODES;
 use rows::QUEUE;
 use rows::RECORD;
 use rows::SEEN;
@@ -113,6 +115,17 @@ fn record(ws: &mut [u32], x: usize, transitive: u32, level: u32, m: Mutation)
     }
 }
 
+// The word of x in the field that begins at f: 0 for an identifier that none is kept for.
+pub fn field(ws: &[u32], f: usize, x: usize) -> u32
+    requires { ⌜ (f + x < SEEN) × (LEAST ≤ length (now ws)) ⌝ }
+    ensures { λ r. ⌜ r ≡ fieldAt (nodesOf (now (ws .entry))) f x ⌝ }
+{
+    if (x as u32) < ws[KEPT] {
+        return ws[f + x];
+    }
+    0
+}
+
 // What an accepted node keeps of the mutation.
 fn accept(ws: &mut [u32], x: usize, transitive: u32, level: u32, m: Mutation)
     requires { ⌜ (x < 512) × ((LEAST ≤ length (now ws)) × (level < 4)) ⌝ }
@@ -164,6 +177,10 @@ fn step(ws: &mut [u32], top: usize, hand: usize, m: Mutation, base: u32) -> Next
     if base + kind < ws[SEEN + x] {
         return Next { top: t, hand: hand };
     }
+    // From the limit on there is no node, and no value is written.
+    if ws[NODES] <= e % 512 {
+        return Next { top: t, hand: hand };
+    }
     ws[SEEN + x] = base + kind + 1;
     if ws[VALUE + x] == 0 {
         return Next { top: t, hand: hand };
@@ -208,6 +225,10 @@ fn step_conditional(ws: &mut [u32], top: usize, hand: usize, m: Mutation, base: 
     let e = ws[t];
     let x = (e % 512) as usize;
     if base < ws[SEEN + x] {
+        return Next { top: t, hand: hand };
+    }
+    // As in `step`: from the limit on there is no node.
+    if ws[NODES] <= e % 512 {
         return Next { top: t, hand: hand };
     }
     ws[SEEN + x] = base + 1;
@@ -310,7 +331,8 @@ pub fn process_mutations(ws: &mut [u32], count: usize, should_record_errors: boo
     requires { ⌜ Pending (now ws) count ⌝ }
     ensures { λ r. ⌜ Processed «should_record_errors» (now (ws .entry)) count (now (ws .exit)) r ⌝ }
 {
-    clear(ws, SEEN, 512);
+    let nodes = ws[NODES] as usize;
+    clear(ws, SEEN, nodes);
     let mut i = 0;
     let mut hand = HANDED;
     while i < count {

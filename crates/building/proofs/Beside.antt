@@ -12,7 +12,7 @@ use Rattle.model.specs.Mutation.{Kind, Reason, Mutation, RenderOf}
 use Rattle.model.specs.Graph.{Graph}
 use Rattle.model.specs.Built.{Built, Waiting, mutates, comes}
 use Rattle.model.specs.Built.{renders as rendersPlace}
-use Rattle.rows.specs.Layout.{LEAST, SEEN, VALUE, FBOUND, EDGES, ENTRIES, PREDS, RELATIONS, HANDED, MUTATIONS, RENDERS, FUNCTIONS}
+use Rattle.rows.specs.Layout.{LEAST, SEEN, VALUE, EDGES, ENTRIES, PREDS, RELATIONS, HANDED, MUTATIONS, RENDERS, FUNCTIONS}
 use Rattle.rows.specs.Rows.{Kept}
 use Rattle.rows.specs.Pending.{mutationsOf, rendersOf}
 use Rattle.rows.proofs.Parts.{drop-more, take-less, slice-take, slice-drop}
@@ -47,14 +47,14 @@ module _ (ws ws′ : List ℕ) (b : Building) (sound : Sound ws b) where
 
   stays-low : take HANDED ws′ ≡ take HANDED ws → Stays ws (b .held) ws′
   stays-low e = record {
-    logs = logs-eq (slice-take HANDED VALUE FBOUND ws′ ws (omega arith) e) (slice-take HANDED EDGES (EDGES + b .held .edges) ws′ ws (omega (arith, sound .edges, sound .relations)) e)
+    logs = logs-eq (slice-take HANDED VALUE (VALUE + b .held .nodes) ws′ ws (omega (arith, sound .clean .few)) e) (slice-take HANDED EDGES (EDGES + b .held .edges) ws′ ws (omega (arith, sound .edges, sound .relations)) e)
         (slice-take HANDED ENTRIES (ENTRIES + b .held .entries) ws′ ws (omega (arith, sound .entries, sound .relations)) e);
     operands = low-operands e;
   }
 
   stays-high : drop VALUE ws′ ≡ drop VALUE ws → Stays ws (b .held) ws′
   stays-high e = record {
-    logs = logs-eq (slice-drop VALUE VALUE FBOUND ws′ ws (omega arith) (omega arith) e) (slice-drop VALUE EDGES (EDGES + b .held .edges) ws′ ws (omega arith) (omega arith) e)
+    logs = logs-eq (slice-drop VALUE VALUE (VALUE + b .held .nodes) ws′ ws (omega arith) (omega arith) e) (slice-drop VALUE EDGES (EDGES + b .held .edges) ws′ ws (omega arith) (omega arith) e)
         (slice-drop VALUE ENTRIES (ENTRIES + b .held .entries) ws′ ws (omega arith) (omega arith) e);
     operands = waits-same ws ws′ (b .held) (b .held) (drop-more VALUE PREDS ws′ ws (omega arith) e) refl;
   }

@@ -1,16 +1,15 @@
 -- A missing node holds no word: each step keeps it so, and a new node is one write.
-use Prim.Native.Nat.{ℕ, zero, suc, _+_, _*_, _/_, _%_, _≤_, _<_}
-use native.Mathlib.Omega.{arith}
-use native.Mathlib.Decide.{decLt, ℕ-discrete}
+use Prim.Native.Nat.{ℕ, zero, suc, _*_, _/_, _%_, _≤_, _<_}
+use native.Mathlib.Decide.{ℕ-discrete}
 use mathlib.Core.Bool.{Bool, true, false}
 use mathlib.Core.List.{List, [], _∷_, _++_}
 use mathlib.Core.Path.{_≡_, refl, sym, ap, subst, _∙_}
 use lib.ListN.{length, getD, set}
 use lib.Seq.{getD-set-same, getD-set-other}
-use lib.Dec.{ltb, eqb}
-use borrow.Author.Tests.{eq-eqb, ne-eqb, lt-ltb, le-ltb}
+use lib.Dec.{eqb}
+use borrow.Author.Tests.{eq-eqb, ne-eqb}
 use Rattle.model.specs.Lists.{pick}
-use Rattle.building.specs.Logs.{Logs, ownerW, without, anyW, onceW, Clean, raised, createL, edgeL, entryL}
+use Rattle.building.specs.Logs.{Logs, ownerW, without, anyW, onceW, Clean, createL, edgeL, entryL}
 
 without-last : (t x w : ℕ) → (ownerW t w ≡ x → ⊥) → (l : List ℕ) → without t x (l ++ (w ∷ [])) ≡ without t x l ++ (w ∷ [])
 unfolding without
@@ -61,11 +60,11 @@ module _ (t w x : ℕ) (values l : List ℕ) (there : getD values (ownerW t w) 0
 
 pub clean-edge : (w : ℕ) (s : Logs) → Clean s → (getD (s .values) (ownerW 0 w) 0 ≡ 0 → ⊥) → Clean (edgeL w s)
 unfolding edgeL
-clean-edge w s c h = record { edges = λ x k e. last-clean 0 w x (s .values) (s .edges) h e (c .edges x k e); entries = c .entries; above = c .above; few = c .few }
+clean-edge w s c h = record { edges = λ x k e. last-clean 0 w x (s .values) (s .edges) h e (c .edges x k e); entries = c .entries; few = c .few }
 
 pub clean-entry : (w : ℕ) (s : Logs) → Clean s → (getD (s .values) (ownerW 1 w) 0 ≡ 0 → ⊥) → Clean (entryL w s)
 unfolding entryL
-clean-entry w s c h = record { edges = c .edges; entries = λ x k e. once-clean 1 w x (s .values) (s .entries) h e (c .entries x k e); above = c .above; few = c .few }
+clean-entry w s c h = record { edges = c .edges; entries = λ x k e. once-clean 1 w x (s .values) (s .entries) h e (c .entries x k e); few = c .few }
 
 module _ (x n : ℕ) (v : List ℕ) (below : x < length v) (nonzero : n ≡ 0 → ⊥) (y : ℕ) (e : getD (set v x n) y 0 ≡ 0) where
   differ : y ≡ x → ⊥
@@ -74,33 +73,19 @@ module _ (x n : ℕ) (v : List ℕ) (below : x < length v) (nonzero : n ≡ 0 �
   was : getD v y 0 ≡ 0
   was = sym (getD-set-other v x y n 0 differ) ∙ e
 
--- above x and all that was reached
-pub raised-above : (nodes x : ℕ) → (nodes ≤ raised nodes x) × (x < raised nodes x)
-unfolding raised
-raised-above nodes x = go (decLt x nodes)
-  where
-    go : Dec (x < nodes) → (nodes ≤ pick (ltb x nodes) nodes (x + 1)) × (x < pick (ltb x nodes) nodes (x + 1))
-    go (yes p) = rw (lt-ltb x nodes p) (omega arith, p)
-    go (no p) = rw (le-ltb x nodes (omega (arith, p))) (omega (arith, p), omega arith)
-
-raised-few : (nodes x k : ℕ) → nodes ≤ k → x < k → raised nodes x ≤ k
-unfolding raised
-raised-few nodes x k h q = go (ltb x nodes)
-  where
-    go : (b : Bool) → pick b nodes (x + 1) ≤ k
-    go true = h
-    go false = omega arith
-
-pub clean-create : (x n : ℕ) (s : Logs) → Clean s → x < 512 → x < length (s .values) → (n ≡ 0 → ⊥) → Clean (createL x n s)
+pub clean-create : (x n : ℕ) (s : Logs) → Clean s → x < length (s .values) → (n ≡ 0 → ⊥) → Clean (createL x n s)
 unfolding createL
-clean-create x n s c b h z = record {
+clean-create x n s c h z = record {
   edges = λ y k e. without-swap 0 y x (s .edges) ∙ ap (without 0 x) (c .edges y k (was x n (s .values) h z y e));
   entries = λ y k e. without-swap 1 y x (s .entries) ∙ ap (without 1 x) (c .entries y k (was x n (s .values) h z y e));
-  above = λ y k q. getD-set-other (s .values) x y n 0 (omega (arith, raised-above (s .nodes) x)) ∙ c .above y (omega (arith, raised-above (s .nodes) x)) q;
-  few = raised-few (s .nodes) x 512 (c .few) b;
+  few = c .few;
 }
 
 -- a new node: one write
-pub create-missing : (x n : ℕ) (s : Logs) → Clean s → x < 512 → getD (s .values) x 0 ≡ 0 → createL x n s ≡ record { values = set (s .values) x n; edges = s .edges; entries = s .entries; nodes = raised (s .nodes) x }
+pub create-missing : (x n : ℕ) (s : Logs) → Clean s → x < 512 → getD (s .values) x 0 ≡ 0 → createL x n s ≡ record { values = set (s .values) x n; edges = s .edges; entries = s .entries; nodes = s .nodes }
 unfolding createL
 create-missing x n s c h e = rw (c .edges x h e, c .entries x h e)
+
+-- other values by which the same nodes are there
+pub clean-values : (v v′ l m : List ℕ) (k k′ : ℕ) → ((x : ℕ) → getD v′ x 0 ≡ getD v x 0) → k′ ≤ 512 → Clean (record { values = v; edges = l; entries = m; nodes = k }) → Clean (record { values = v′; edges = l; entries = m; nodes = k′ })
+clean-values v v′ l m k k′ same few c = record { edges = λ x h e. c .edges x h (sym (same x) ∙ e); entries = λ x h e. c .entries x h (sym (same x) ∙ e); few = few }

@@ -1,6 +1,8 @@
 -- The start of building, where no identifier has a node, and its end, where the graph stands in rows.
 use Prim.Native.Nat.{ℕ, zero, suc, _+_, _-_, _*_, _≤_, _<_}
 use native.Mathlib.Omega.{arith}
+use native.Mathlib.Nat.{add-zero}
+use native.Mathlib.Decide.{decLt}
 use mathlib.Core.List.{List, [], _∷_, _++_}
 use mathlib.Core.Option.{Option, none, some}
 use mathlib.Core.Path.{_≡_, refl, sym, ap, subst, _∙_}
@@ -14,17 +16,18 @@ use Rattle.rows.specs.Rows.{Kept}
 use Rattle.rows.specs.Sort.{clearW, sel}
 use Rattle.rows.specs.Graph.{nodeOf, tab}
 use Rattle.rows.specs.Pending.{mutationsOf, rendersOf}
-use Rattle.rows.proofs.Parts.{drop-more, slice-at}
+use Rattle.rows.proofs.Parts.{drop-more, kept-none}
 use Rattle.rows.proofs.Clearing.{kept-clear, clear-at}
 use Rattle.rows.proofs.Tables.{tab-length, tab-at}
 use Rattle.rows.proofs.Graph.{node-none}
 use Rattle.rows.proofs.Pending.{mutations-kept, renders-kept}
 use Rattle.building.specs.declared.Held.{Held}
 use Rattle.building.specs.declared.Building.{Building}
-use Rattle.building.specs.Logs.{Logs, graphOfLogs, without, raised, Clean}
-use Rattle.building.specs.Held.{logsOf, graphOf, operandsOf, waitingOf, Left, Laid}
+use Rattle.building.specs.Logs.{Logs, graphOfLogs, without, Clean}
+use Rattle.building.specs.Held.{valuesOf, logsOf, graphOf, operandsOf, waitingOf, Raises, Left, Laid}
 use Rattle.building.specs.Built.{comeOf, builtOf, Sound, Steps, begun, nothing, Starts, LaysOut}
-use Rattle.building.proofs.Writes.{logs-eq, again-builds}
+use Rattle.building.proofs.Values.{value-word, value-unwritten}
+use Rattle.building.proofs.Writes.{logs-eq, create-again}
 use Rattle.building.proofs.Stages.{built-eq, room-none, created}
 use Rattle.building.proofs.Counts.{held-edges, held-entries}
 
@@ -38,24 +41,28 @@ without-nil : (t x : ℕ) → without t x [] ≡ []
 unfolding without
 without-nil t x = refl
 
-clean-nil : (values : List ℕ) (nodes : ℕ) → nodes ≤ 512 → ((x : ℕ) → x < 512 → getD values x 0 ≡ 0) → Clean (record { values = values; edges = []; entries = []; nodes = nodes })
-clean-nil values nodes few zeros = record { edges = λ x h e. without-nil 0 x; entries = λ x h e. without-nil 1 x; above = λ x h q. zeros x q; few = few }
+clean-nil : (values : List ℕ) (nodes : ℕ) → nodes ≤ 512 → Clean (record { values = values; edges = []; entries = []; nodes = nodes })
+clean-nil values nodes few = record { edges = λ x h e. without-nil 0 x; entries = λ x h e. without-nil 1 x; few = few }
 
-module _ (ws ws′ : List ℕ) (size : LEAST ≤ length ws) (is : ws′ ≡ clearW ws VALUE 512) (nodes : ℕ) (few : nodes ≤ 512) where
-  cleared : Kept VALUE FBOUND ws ws′
-  cleared = subst (λ (l : List ℕ). Kept VALUE FBOUND ws l) (sym is) (kept-clear ws VALUE 512)
+module _ (ws ws′ : List ℕ) (size : LEAST ≤ length ws) (nodes : ℕ) (few : nodes ≤ 512) (is : ws′ ≡ clearW ws VALUE nodes) where
+  cleared : Kept VALUE (VALUE + nodes) ws ws′
+  cleared = subst (λ (l : List ℕ). Kept VALUE (VALUE + nodes) ws l) (sym is) (kept-clear ws VALUE nodes)
 
-  no-logs : logsOf ws′ (begun nodes .held) ≡ record { values = slice VALUE FBOUND ws′; edges = []; entries = []; nodes = nodes }
+  no-logs : logsOf ws′ (begun nodes .held) ≡ record { values = valuesOf ws′ nodes; edges = []; entries = []; nodes = nodes }
   no-logs = logs-eq refl (slice-empty EDGES ws′) (slice-empty ENTRIES ws′)
 
-  no-value : (x : ℕ) → x < 512 → getD (slice VALUE FBOUND ws′) x 0 ≡ 0
-  no-value x h = slice-at VALUE FBOUND x ws′ (omega arith) ∙ ap (λ (l : List ℕ). getD l (VALUE + x) 0) is ∙ clear-at ws VALUE 512 x (omega arith) h
+  no-value : (x : ℕ) → getD (valuesOf ws′ nodes) x 0 ≡ 0
+  no-value x = go (decLt x nodes)
+    where
+      go : Dec (x < nodes) → getD (valuesOf ws′ nodes) x 0 ≡ 0
+      go (yes h) = value-word ws′ nodes x h ∙ ap (λ (l : List ℕ). getD l (VALUE + x) 0) is ∙ clear-at ws VALUE nodes x (omega arith) h
+      go (no h) = value-unwritten ws′ nodes x (omega (arith, h))
 
   no-graph : graphOf ws′ (begun nodes .held) ≡ noNodes 512
   unfolding graphOf graphOfLogs
   no-graph =
-      tab-all 512 (nodeOf (slice VALUE FBOUND ws′) (λ x. sel 0 x (slice EDGES EDGES ws′)) (λ k. sel 1 k (slice ENTRIES ENTRIES ws′))) none
-      (λ x h. node-none (slice VALUE FBOUND ws′) (λ x. sel 0 x (slice EDGES EDGES ws′)) (λ k. sel 1 k (slice ENTRIES ENTRIES ws′)) x (no-value x h))
+      tab-all 512 (nodeOf (valuesOf ws′ nodes) (λ x. sel 0 x (slice EDGES EDGES ws′)) (λ k. sel 1 k (slice ENTRIES ENTRIES ws′))) none
+      (λ x h. node-none (valuesOf ws′ nodes) (λ x. sel 0 x (slice EDGES EDGES ws′)) (λ k. sel 1 k (slice ENTRIES ENTRIES ws′)) x (no-value x))
 
   no-operands : waitingOf ws′ (begun nodes .held) ≡ []
   unfolding waitingOf operandsOf
@@ -70,7 +77,7 @@ module _ (ws ws′ : List ℕ) (size : LEAST ≤ length ws) (is : ws′ ≡ clea
     built = none-yet;
     sound = record {
       size = omega (arith, cleared .same);
-      clean = subst Clean (sym no-logs) (clean-nil (slice VALUE FBOUND ws′) nodes few no-value);
+      clean = subst Clean (sym no-logs) (clean-nil (valuesOf ws′ nodes) nodes few);
       edges = omega arith;
       entries = omega arith;
       relations = omega arith;
@@ -83,30 +90,21 @@ module _ (ws ws′ : List ℕ) (size : LEAST ≤ length ws) (is : ws′ ≡ clea
     renders = refl;
     come = refl;
     low = cleared .low;
-    high = cleared .high;
+    high = drop-more (VALUE + nodes) FBOUND ws′ ws (omega (arith, few)) (cleared .high);
     same = cleared .same;
   }
 
 -- ---- a node while there are only nodes: nothing leaves the logs
-module _ (ws : List ℕ) (nodes x : ℕ) (sound : Sound ws (begun nodes)) (below : x < 512) where
-  no-edge-leaves : Left 0 EDGES 0 x ws ws 0
-  no-edge-leaves = record {
-    log = slice-empty EDGES ws ∙ sym (without-nil 0 x) ∙ ap (without 0 x) (sym (slice-empty EDGES ws));
-    kept = record { low = refl; high = refl; same = refl };
-    few = omega arith;
-  }
+no-word-leaves : (t at x : ℕ) (ws : List ℕ) → Left t at 0 x ws ws 0
+no-word-leaves t at x ws =
+    let e : slice at (at + 0) ws ≡ [] = ap (λ (k : ℕ). slice at k ws) (add-zero at) ∙ slice-empty at ws in
+    record { log = e ∙ sym (without-nil t x) ∙ ap (without t x) (sym e); kept = kept-none at (at + 0) ws; few = omega arith }
 
-  no-entry-leaves : Left 1 ENTRIES 0 x ws ws 0
-  no-entry-leaves = record {
-    log = slice-empty ENTRIES ws ∙ sym (without-nil 1 x) ∙ ap (without 1 x) (sym (slice-empty ENTRIES ws));
-    kept = record { low = refl; high = refl; same = refl };
-    few = omega arith;
-  }
-
-  pub first-created : (k : ℕ) → k ≡ raised nodes x → Steps (changed (create x object)) 0 0 0 0 ws (begun nodes) (set ws (VALUE + x) 1) (begun k)
-  first-created k is =
-      created (create x object) (create x object) refl ws (begun nodes) (set ws (VALUE + x) 1) (begun k .held) sound
-      (again-builds ws (begun nodes .held) x 1 (room-none ws (begun nodes) sound) below (omega arith) ws 0 no-edge-leaves ws 0 no-entry-leaves k is)
+module _ (ws : List ℕ) (nodes x : ℕ) (sound : Sound ws (begun nodes)) where
+  pub first-created : (ws₁ : List ℕ) (k : ℕ) → Raises nodes x ws ws₁ k → Steps (changed (create x object)) 0 0 0 0 ws (begun nodes) (set ws₁ (VALUE + x) 1) (begun k)
+  first-created ws₁ k up =
+      created (create x object) (create x object) refl ws (begun nodes) (set ws₁ (VALUE + x) 1) (begun k .held) sound
+      (create-again ws (begun nodes .held) x 1 (room-none ws (begun nodes) sound) (omega arith) ws₁ k up ws₁ 0 (no-word-leaves 0 EDGES x ws₁) ws₁ 0 (no-word-leaves 1 ENTRIES x ws₁))
 
 -- ---- the end
 module _ (ws : List ℕ) (b : Building) (sound : Sound ws b) (ws′ : List ℕ) (s : Laid ws (b .held) ws′) where

@@ -5,20 +5,22 @@ use native.Mathlib.Numerals.{add-one}
 use native.Mathlib.Decide.{decLt}
 use mathlib.Core.List.{List, [], _∷_, _++_}
 use mathlib.Core.Path.{_≡_, refl, sym, ap, subst, _∙_}
-use lib.ListN.{length, getD, set, take, drop}
-use lib.Seq.{slice, take-take, getD-take}
-use Rattle.rows.specs.Layout.{LEAST, VALUE, FBOUND, FEDGE, BBOUND, BENTRY, QUEUE, EDGES, ENTRIES}
-use Rattle.rows.specs.Rows.{rowsOf, used, fb, bb, rowF, rowB, Good, Indexed, Kept}
+use lib.ListN.{length, getD, set, take, drop, length-set}
+use lib.Seq.{slice, take-take, take-set-le, drop-set-lt, getD-set-same}
+use Rattle.rows.specs.Layout.{LEAST, VALUE, FBOUND, FEDGE, BBOUND, BENTRY, NODES, QUEUE, EDGES, ENTRIES}
+use Rattle.rows.specs.Rows.{rowsOf, limit, values, value, used, fb, bb, rowF, rowB, Good, Indexed, Kept}
 use Rattle.rows.specs.Sort.{keyW, sel, cnt, low, Lay, logOf, Sorted}
 use Rattle.rows.specs.Graph.{nodeOf, tab, graphOfRows}
-use Rattle.rows.proofs.Parts.{slice-at, slice-take, drop-more, take-less, kept-at}
+use Rattle.rows.proofs.Parts.{slice-take, slice-before, slice-after, drop-more, drop-word, take-word, kept-at}
 use Rattle.rows.proofs.Counting.{kept-log, log-length, low-suc, low-mono, low-le, low-zero, low-all}
-use Rattle.rows.proofs.Rows.{used-few, used-above, used-under, f-word, b-word, fb-at, bb-at, fb-behind, bb-behind, rowF-at, rowB-at, keys₀, keys₁}
+use Rattle.rows.proofs.Rows.{limit-at, value-at, value-beyond, used-few, used-above, used-under, f-word, b-word, fb-at, bb-at, fb-behind, bb-behind, rowF-at, rowB-at, keys₀, keys₁}
 use Rattle.rows.proofs.Tables.{tab-same}
 use Rattle.rows.proofs.Graph.{node-same, node-none}
 use Rattle.building.specs.declared.Held.{Held}
-use Rattle.building.specs.Logs.{graphOfLogs}
-use Rattle.building.specs.Held.{logsOf, graphOf, Room, Laid}
+use Rattle.building.specs.Logs.{graphOfLogs, Clean}
+use Rattle.building.specs.Held.{valuesOf, logsOf, graphOf, Room, Laid}
+use Rattle.building.proofs.Values.{value-word, value-unwritten}
+use Rattle.building.proofs.Writes.{logs-eq}
 use Rattle.building.proofs.Counts.{edges-under, entries-under}
 
 -- where all have a key below m, all have one below k
@@ -48,9 +50,12 @@ module _ (ws : List ℕ) (h : Held) (room : Room 0 0 ws h) where
   unfolding N
   N-length = log-length ws ENTRIES (h .entries) (omega (arith, few-n, room .size))
 
-  -- the values
+  -- the values, none from `nodes` on
   abbrev Vs : List ℕ
-  Vs = slice VALUE FBOUND ws
+  Vs = valuesOf ws (h .nodes)
+
+  Vs-above : (x : ℕ) → h .nodes ≤ x → x < 512 → getD Vs x 0 ≡ 0
+  Vs-above x k q = value-unwritten ws (h .nodes) x k
 
   -- from m on no identifier has a node, so no word has such a key
   E-under : (m : ℕ) → m ≤ 512 → ((x : ℕ) → m ≤ x → x < 512 → getD Vs x 0 ≡ 0) → low 0 m E ≡ h .edges
@@ -71,7 +76,7 @@ module _ (ws : List ℕ) (h : Held) (room : Room 0 0 ws h) where
     bounds = omega (arith, few-k);
     after = omega (arith, few-e);
     fits = omega (arith, few-e, room .size);
-    keys = E-under (h .nodes) few-k (room .clean .above);
+    keys = E-under (h .nodes) few-k Vs-above;
     small = omega (arith, few-k);
   }
 
@@ -86,29 +91,35 @@ module _ (ws : List ℕ) (h : Held) (room : Room 0 0 ws h) where
       bounds = omega (arith, few-k);
       after = omega (arith, few-n);
       fits = omega (arith, few-n, room .size, s₁ .kept .same);
-      keys = ap (low 1 (4 * h .nodes)) log₁ ∙ N-under (h .nodes) few-k (room .clean .above);
+      keys = ap (low 1 (4 * h .nodes)) log₁ ∙ N-under (h .nodes) few-k Vs-above;
       small = omega (arith, few-k);
     }
 
-    module _ (ws₂ : List ℕ) (s₂ : Sorted ws₁ 1 BBOUND (4 * h .nodes) BENTRY ENTRIES (h .entries) ws₂) where
+    -- where it was noted how many values there are
+    module _ (ws₂ : List ℕ) (s₂ : Sorted ws₁ 1 BBOUND (4 * h .nodes) BENTRY ENTRIES (h .entries) ws₂) (noted : getD ws NODES 0 ≡ h .nodes) where
       long : LEAST ≤ length ws₂
       long = omega (arith, room .size, s₁ .kept .same, s₂ .kept .same)
 
       nodes : take FBOUND ws₂ ≡ take FBOUND ws
       nodes = sym (take-take FBOUND BBOUND ws₂ (omega arith)) ∙ ap (take FBOUND) (s₂ .kept .low) ∙ take-take FBOUND BBOUND ws₁ (omega arith) ∙ s₁ .kept .low
 
-      value-is : (x : ℕ) → x < 512 → getD (rowsOf ws₂) x 0 ≡ getD Vs x 0
-      unfolding rowsOf
-      value-is x q =
-          slice-at VALUE QUEUE x ws₂ (omega arith) ∙ sym (getD-take FBOUND ws₂ (VALUE + x) 0 (omega arith)) ∙ ap (λ (l : List ℕ). getD l (VALUE + x) 0) nodes
-          ∙ getD-take FBOUND ws (VALUE + x) 0 (omega arith) ∙ sym (slice-at VALUE FBOUND x ws (omega arith))
+      limit-is : limit (rowsOf ws₂) ≡ h .nodes
+      limit-is =
+          limit-at ws₂ long ∙ drop-word (BENTRY + h .entries) NODES ws₁ ws₂ (omega (arith, few-n)) (s₂ .kept .high) ∙ drop-word (FEDGE + h .edges) NODES ws ws₁ (omega (arith, few-e)) (s₁ .kept .high) ∙ noted
+
+      value-is : (x : ℕ) → x < 512 → value (rowsOf ws₂) x ≡ getD Vs x 0
+      value-is x q = go (decLt x (h .nodes))
+        where
+          go : Dec (x < h .nodes) → value (rowsOf ws₂) x ≡ getD Vs x 0
+          go (yes p) = value-at ws₂ long x q (omega (arith, p, limit-is)) ∙ take-word FBOUND (VALUE + x) ws ws₂ (omega (arith, q)) nodes ∙ sym (value-word ws (h .nodes) x p)
+          go (no p) = value-beyond (rowsOf ws₂) x (omega (arith, p, limit-is)) ∙ sym (Vs-above x (omega (arith, p)) q)
 
       -- the rows end no later than the bounds that were laid
       abbrev U : ℕ
       U = used (rowsOf ws₂)
 
       U-few : U ≤ h .nodes
-      U-few = used-under (rowsOf ws₂) (h .nodes) (λ x k q. value-is x q ∙ room .clean .above x k q)
+      U-few = used-under (rowsOf ws₂) (h .nodes) (λ x k q. value-is x q ∙ Vs-above x k q)
 
       no-value : (x : ℕ) → U ≤ x → x < 512 → getD Vs x 0 ≡ 0
       no-value x k q = sym (value-is x q) ∙ used-above (rowsOf ws₂) x k q
@@ -145,6 +156,7 @@ module _ (ws : List ℕ) (h : Held) (room : Room 0 0 ws h) where
 
       good : Good (rowsOf ws₂)
       good = record {
+        few = omega (arith, limit-is, few-k);
         f-in = λ k q. omega (arith, f-word ws₂ long 0 (omega arith), f-all, f-word ws₂ long k (omega (arith, U-few, few-k)), f-bound k (omega (arith, U-few)));
         f-up = λ k q. omega (arith, fb-is k, fb-is (k + 1), next 0 k E, low-suc 0 k E);
         f-top = λ k q. omega (arith, fb-is k, low-le 0 k E, E-length, few-e);
@@ -170,22 +182,23 @@ module _ (ws : List ℕ) (h : Held) (room : Room 0 0 ws h) where
 
       -- the node of x: its rows, or none
       same-node : (x : ℕ) → x < 512 → Dec (x < h .nodes)
-          → nodeOf (rowsOf ws₂) (rowF (rowsOf ws₂)) (rowB (rowsOf ws₂)) x ≡ nodeOf Vs (λ y. sel 0 y E) (λ k. sel 1 k N) x
+          → nodeOf (values (rowsOf ws₂)) (rowF (rowsOf ws₂)) (rowB (rowsOf ws₂)) x ≡ nodeOf Vs (λ y. sel 0 y E) (λ k. sel 1 k N) x
+      unfolding value
       same-node x q (yes p) =
-          node-same (rowsOf ws₂) Vs (rowF (rowsOf ws₂)) (λ y. sel 0 y E) (rowB (rowsOf ws₂)) (λ k. sel 1 k N) x (value-is x q) (row-edges x p)
+          node-same (values (rowsOf ws₂)) Vs (rowF (rowsOf ws₂)) (λ y. sel 0 y E) (rowB (rowsOf ws₂)) (λ k. sel 1 k N) x (value-is x q) (row-edges x p)
           (row-entries (4 * x) (omega arith)) (row-entries (4 * x + 1) (omega arith)) (row-entries (4 * x + 2) (omega arith)) (row-entries (4 * x + 3) (omega arith))
       same-node x q (no p) =
-          let e : getD Vs x 0 ≡ 0 = room .clean .above x (omega (arith, p)) q in
-          node-none (rowsOf ws₂) (rowF (rowsOf ws₂)) (rowB (rowsOf ws₂)) x (value-is x q ∙ e) ∙ sym (node-none Vs (λ y. sel 0 y E) (λ k. sel 1 k N) x e)
+          let e : getD Vs x 0 ≡ 0 = Vs-above x (omega (arith, p)) q in
+          node-none (values (rowsOf ws₂)) (rowF (rowsOf ws₂)) (rowB (rowsOf ws₂)) x (value-is x q ∙ e) ∙ sym (node-none Vs (λ y. sel 0 y E) (λ k. sel 1 k N) x e)
 
       same-graph : graphOfRows (rowsOf ws₂) ≡ graphOf ws h
       unfolding graphOfRows graphOf graphOfLogs logOf E N
       same-graph =
-          tab-same 512 (nodeOf (rowsOf ws₂) (rowF (rowsOf ws₂)) (rowB (rowsOf ws₂)))
+          tab-same 512 (nodeOf (values (rowsOf ws₂)) (rowF (rowsOf ws₂)) (rowB (rowsOf ws₂)))
           (nodeOf Vs (λ x. sel 0 x (slice EDGES (EDGES + h .edges) ws)) (λ k. sel 1 k (slice ENTRIES (ENTRIES + h .entries) ws)))
           (λ x q. same-node x q (decLt x (h .nodes)))
 
-      pub laid : Laid ws h ws₂
+      laid : Laid ws h ws₂
       unfolding logOf E N
       laid = record {
         indexed = record { size = long; good = good };
@@ -195,4 +208,35 @@ module _ (ws : List ℕ) (h : Held) (room : Room 0 0 ws h) where
         low = nodes;
         high = drop-more (BENTRY + h .entries) QUEUE ws₂ ws₁ (omega (arith, few-n)) (s₂ .kept .high) ∙ drop-more (FEDGE + h .edges) QUEUE ws₁ ws (omega (arith, few-e)) (s₁ .kept .high);
         same = s₂ .kept .same ∙ s₁ .kept .same;
+      }
+
+-- ---- noting first how many values there are
+module _ (ws : List ℕ) (h : Held) (room : Room 0 0 ws h) where
+  abbrev noting : List ℕ
+  noting = set ws NODES (h .nodes)
+
+  noting-logs : logsOf noting h ≡ logsOf ws h
+  noting-logs =
+      logs-eq (slice-after VALUE (VALUE + h .nodes) NODES (h .nodes) ws (omega (arith, room .clean .few)))
+      (slice-before EDGES (EDGES + h .edges) NODES (h .nodes) ws (omega arith) (omega arith))
+      (slice-before ENTRIES (ENTRIES + h .entries) NODES (h .nodes) ws (omega arith) (omega arith))
+
+  pub noting-room : Room 0 0 noting h
+  noting-room = record { size = omega (arith, room .size, length-set ws NODES (h .nodes)); edges = room .edges; entries = room .entries; clean = subst Clean (sym noting-logs) (room .clean) }
+
+  noting-graph : graphOf noting h ≡ graphOf ws h
+  unfolding graphOf
+  noting-graph = ap graphOfLogs noting-logs
+
+  pub noted-laid : (ws₁ : List ℕ) (s₁ : Sorted noting 0 FBOUND (h .nodes) FEDGE EDGES (h .edges) ws₁) (ws₂ : List ℕ) → Sorted ws₁ 1 BBOUND (4 * h .nodes) BENTRY ENTRIES (h .entries) ws₂ → Laid ws h ws₂
+  noted-laid ws₁ s₁ ws₂ s₂ =
+      let l : Laid noting h ws₂ = laid noting h noting-room ws₁ s₁ ws₂ s₂ (getD-set-same ws NODES (h .nodes) 0 (omega (arith, room .size))) in
+      record {
+        indexed = l .indexed;
+        graph = l .graph ∙ noting-graph;
+        edges = l .edges;
+        entries = l .entries;
+        low = l .low ∙ take-set-le FBOUND ws NODES (h .nodes) (omega arith);
+        high = l .high ∙ drop-set-lt QUEUE ws NODES (h .nodes) (omega arith);
+        same = l .same ∙ length-set ws NODES (h .nodes);
       }

@@ -1,4 +1,5 @@
 pub mod Words
+pub mod Values
 pub mod Graphs
 pub mod Loops
 pub mod Clean

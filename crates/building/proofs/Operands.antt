@@ -12,7 +12,7 @@ use Rattle.model.specs.Lists.{pick, keep, each, consIf}
 use Rattle.model.specs.Graph.{Graph, intoAliases, relate}
 use Rattle.model.specs.Built.{Waiting}
 use Rattle.model.specs.Building.{waitingFor}
-use Rattle.rows.specs.Layout.{LEAST, VALUE, FBOUND, EDGES, ENTRIES, PREDS, RELATIONS, HANDED}
+use Rattle.rows.specs.Layout.{LEAST, VALUE, EDGES, ENTRIES, PREDS, RELATIONS, HANDED}
 use Rattle.rows.proofs.Parts.{drop-more, take-less, drop-word, slice-at, slice-split, slice-take, slice-drop, slice-push, slice-before, slice-after, slice-less}
 use Rattle.building.specs.declared.Held.{Held}
 use Rattle.building.specs.Logs.{packW, Logs, graphOfLogs, anyP, Clean}
@@ -33,15 +33,15 @@ unfolding operandsOf
 waiting-push ps ws p w e = operands-both ps (p ∷ []) ws (w ∷ []) e
 
 -- the logs are words before PREDS, and how many wait is not theirs
-logs-low : (ws ws′ : List ℕ) (e n v a b : ℕ) → e ≤ 1024 → n ≤ 1024 → take PREDS ws′ ≡ take PREDS ws → logsOf ws′ (record { edges = e; entries = n; waiting = a; nodes = v }) ≡ logsOf ws (record { edges = e; entries = n; waiting = b; nodes = v })
-logs-low ws ws′ e n v a b h k t = logs-eq (slice-take PREDS VALUE FBOUND ws′ ws (omega arith) t) (slice-take PREDS EDGES (EDGES + e) ws′ ws (omega arith) t) (slice-take PREDS ENTRIES (ENTRIES + n) ws′ ws (omega arith) t)
+logs-low : (ws ws′ : List ℕ) (e n v a b : ℕ) → e ≤ 1024 → n ≤ 1024 → v ≤ 512 → take PREDS ws′ ≡ take PREDS ws → logsOf ws′ (record { edges = e; entries = n; waiting = a; nodes = v }) ≡ logsOf ws (record { edges = e; entries = n; waiting = b; nodes = v })
+logs-low ws ws′ e n v a b h k q t = logs-eq (slice-take PREDS VALUE (VALUE + v) ws′ ws (omega arith) t) (slice-take PREDS EDGES (EDGES + e) ws′ ws (omega arith) t) (slice-take PREDS ENTRIES (ENTRIES + n) ws′ ws (omega arith) t)
 
-pub graph-low : (ws ws′ : List ℕ) (e n v a b : ℕ) → e ≤ 1024 → n ≤ 1024 → take PREDS ws′ ≡ take PREDS ws → graphOf ws′ (record { edges = e; entries = n; waiting = a; nodes = v }) ≡ graphOf ws (record { edges = e; entries = n; waiting = b; nodes = v })
+pub graph-low : (ws ws′ : List ℕ) (e n v a b : ℕ) → e ≤ 1024 → n ≤ 1024 → v ≤ 512 → take PREDS ws′ ≡ take PREDS ws → graphOf ws′ (record { edges = e; entries = n; waiting = a; nodes = v }) ≡ graphOf ws (record { edges = e; entries = n; waiting = b; nodes = v })
 unfolding graphOf
-graph-low ws ws′ e n v a b h k t = ap graphOfLogs (logs-low ws ws′ e n v a b h k t)
+graph-low ws ws′ e n v a b h k q t = ap graphOfLogs (logs-low ws ws′ e n v a b h k q t)
 
 pub clean-low : (ws ws′ : List ℕ) (e n v a b : ℕ) → e ≤ 1024 → n ≤ 1024 → take PREDS ws′ ≡ take PREDS ws → Clean (logsOf ws (record { edges = e; entries = n; waiting = b; nodes = v })) → Clean (logsOf ws′ (record { edges = e; entries = n; waiting = a; nodes = v }))
-clean-low ws ws′ e n v a b h k t c = subst Clean (sym (logs-low ws ws′ e n v a b h k t)) c
+clean-low ws ws′ e n v a b h k t c = subst Clean (sym (logs-low ws ws′ e n v a b h k (c .few) t)) c
 
 -- ---- one more waits
 module _ (ws : List ℕ) (p w : ℕ) (size : LEAST ≤ length ws) (k : ℕ) (few : k < 1024) where
@@ -91,7 +91,7 @@ module _ (ws : List ℕ) (h : Held) (p from into index w : ℕ) (room : Room 1 1
 
   pub wait-waits : Waits (record { predecessor = p; index = index; origin = from; into = into }) ws h (set (set ws (PREDS + h .waiting) p) (RELATIONS + h .waiting) w) (record { edges = h .edges; entries = h .entries; waiting = h .waiting + 1; nodes = h .nodes })
   wait-waits = record {
-    graph = graph-low ws _ (h .edges) (h .entries) (h .nodes) (h .waiting + 1) (h .waiting) e n (put-low ws p w (room .size) (h .waiting) k);
+    graph = graph-low ws _ (h .edges) (h .entries) (h .nodes) (h .waiting + 1) (h .waiting) e n (room .clean .few) (put-low ws p w (room .size) (h .waiting) k);
     operands = more;
     clean = clean-low ws _ (h .edges) (h .entries) (h .nodes) (h .waiting + 1) (h .waiting) e n (put-low ws p w (room .size) (h .waiting) k) (room .clean);
     low = take-less VALUE PREDS (set (set ws (PREDS + h .waiting) p) (RELATIONS + h .waiting) w) ws (omega arith) (put-low ws p w (room .size) (h .waiting) k);
@@ -316,7 +316,7 @@ module _ (ws₀ : List ℕ) (block n e₀ m₀ v₀ : ℕ) (ws : List ℕ) (e m 
       mid = s .few;
       few = omega (arith, c .few, s .count);
       graph = none-woken ws₀ block n i j (c .room .size) few-n (s .some) (s .few) none-waits (graphOf ws′ (held e m v 0))
-          ∙ ap (wakeAll block (ahead ws₀ n i)) (graph-low ws ws′ e m v 0 0 e-few m-few (s .low)) ∙ c .graph;
+          ∙ ap (wakeAll block (ahead ws₀ n i)) (graph-low ws ws′ e m v 0 0 e-few m-few (c .clean .few) (s .low)) ∙ c .graph;
       done =
           ap (λ (l : List Waiting). l ++ keep (others block) (ahead ws₀ n j)) waiting-now
           ∙ append-assoc (operandsOf (slice PREDS (PREDS + left) ws) (slice RELATIONS (RELATIONS + left) ws)) (operandsOf (slice (PREDS + i) (PREDS + j) ws₀) (slice (RELATIONS + i) (RELATIONS + j) ws₀)) (keep (others block) (ahead ws₀ n j))
@@ -350,7 +350,7 @@ module _ (ws₀ : List ℕ) (block n e₀ m₀ v₀ : ℕ) (ws : List ℕ) (e m 
     module _ (w : ℕ) (is : w ≡ getD ws (RELATIONS + i) 0) (hit : getD ws (PREDS + i) 0 ≡ block) (ws′ : List ℕ) (r : Held) (s : Builds (relate intoAliases (w / 1048576) (w % 512) (w / 512 % 512)) 1 1 ws (held e m v 0) ws′ r) where
       stored : wakeAll block (ahead ws₀ n (i + 1)) (graphOf ws′ (held (r .edges) (r .entries) (r .nodes) 0)) ≡ wakeAll block (ahead ws₀ n i) (graphOf ws (held e m v 0))
       stored =
-          ap (wakeAll block (ahead ws₀ n (i + 1))) (graph-low ws′ ws′ (r .edges) (r .entries) (r .nodes) 0 (r .waiting) (omega (arith, s .edges, wake-room .edges)) (omega (arith, s .entries, wake-room .entries)) refl
+          ap (wakeAll block (ahead ws₀ n (i + 1))) (graph-low ws′ ws′ (r .edges) (r .entries) (r .nodes) 0 (r .waiting) (omega (arith, s .edges, wake-room .edges)) (omega (arith, s .entries, wake-room .entries)) (s .clean .few) refl
           ∙ s .graph ∙ ap (λ (u : ℕ). relate intoAliases (u / 1048576) (u % 512) (u / 512 % 512) (graphOf ws (held e m v 0))) is)
           ∙ sym (ap (λ (l : List Waiting). wakeAll block l (graphOf ws (held e m v 0))) front ∙ wake-hit block (getD ws (PREDS + i) 0) (getD ws (RELATIONS + i) 0) (ahead ws₀ n (i + 1)) (graphOf ws (held e m v 0)) hit)
 
@@ -392,7 +392,7 @@ module _ (ws : List ℕ) (block n e m v : ℕ) (room : Room 0 0 ws (held e m v n
     mid = omega arith;
     few = omega arith;
     graph = ap (λ (l : List Waiting). wakeAll block l (graphOf ws (held e m v 0))) (sym all-ahead)
-        ∙ ap (wakeAll block (waitingOf ws (held e m v n))) (graph-low ws ws e m v 0 n (omega (arith, room .edges)) (omega (arith, room .entries)) refl);
+        ∙ ap (wakeAll block (waitingOf ws (held e m v n))) (graph-low ws ws e m v 0 n (omega (arith, room .edges)) (omega (arith, room .entries)) (room .clean .few) refl);
     done = ap (λ (l : List Waiting). l ++ keep (others block) (ahead ws n 0)) nothing-kept ∙ ap (keep (others block)) (sym all-ahead);
     clean = room .clean;
     preds = refl;
@@ -436,7 +436,7 @@ module _ (ws₀ : List ℕ) (block n e₀ m₀ v₀ : ℕ) (ws : List ℕ) (e m 
   pub wake-end : Wakes block ws₀ (held e₀ m₀ v₀ n) ws (held e m v left)
   unfolding wakeAll
   wake-end = record {
-    graph = graph-low ws ws e m v left 0 (omega (arith, c .edges, c .room .edges)) (omega (arith, c .entries, c .room .entries)) refl ∙ all-stored;
+    graph = graph-low ws ws e m v left 0 (omega (arith, c .edges, c .room .edges)) (omega (arith, c .entries, c .room .entries)) (c .clean .few) refl ∙ all-stored;
     operands = all-kept;
     clean = c .clean;
     low = c .low;

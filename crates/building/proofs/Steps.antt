@@ -5,12 +5,11 @@ use mathlib.Core.Bool.{Bool, true, false, _&&_, true≢false}
 use mathlib.Core.List.{List, [], _∷_, _++_}
 use mathlib.Core.Option.{Option, none, some}
 use mathlib.Core.Path.{_≡_, refl, sym, ap, subst, _∙_}
-use lib.ListN.{length, getD, set, take, drop}
+use lib.ListN.{length, set, take, drop}
 use lib.Seq.{getD-set-same}
 use Rattle.model.specs.Lists.{pick, isSome, mapOption}
 use Rattle.model.specs.Graph.{Node, Graph, Value, object, nodeAt, hasNode, newNode, change, Relation, intoCreatedFrom, intoAliases, create, withEdge, withEntry, store, relate, createFrom}
 use Rattle.model.specs.Graph.{assign as assignEffect}
-use Rattle.rows.specs.Layout.{VALUE}
 use Rattle.rows.specs.Graph.{valueOf, relationOf, nodeOf, tab}
 use Rattle.rows.specs.Sort.{sel}
 use Rattle.rows.proofs.Tables.{tab-length}
@@ -18,7 +17,7 @@ use Rattle.building.specs.declared.Held.{Held}
 use Rattle.building.specs.Logs.{packW, edgeG, entryG, graphOfLogs}
 use Rattle.building.specs.Held.{logsOf, graphOf, Room, Builds}
 use Rattle.building.proofs.Graphs.{Says, says}
-use Rattle.building.proofs.Writes.{node-there, node-missing, builds-then, builds-as, builds-none, room-then, room-less}
+use Rattle.building.proofs.Writes.{builds-then, builds-as, builds-none, room-then, room-less}
 
 -- ---- which nodes are there after a change, and after a creation
 map-has : (f : Node → Node) (o : Option Node) → isSome (mapOption f o) ≡ isSome o
@@ -87,27 +86,27 @@ module _ (from into t index w : ℕ) (hf : from < 512) (hi : into < 512) (ht : t
 
   module _ (ws : List ℕ) (h : Held) where
     -- what the edge asks for, and then the entry
-    pub edge-ready : Room 1 1 ws h → (getD ws (VALUE + from) 0 ≡ 0 → ⊥) → Room 1 0 ws h × (hasNode (graphOf ws h) (w % 512) ≡ true)
-    edge-ready room p = (room-less 1 0 (omega arith) (omega arith) room, from-held (graphOf ws h) (node-there ws h from hf p))
+    pub edge-ready : Room 1 1 ws h → hasNode (graphOf ws h) from ≡ true → Room 1 0 ws h × (hasNode (graphOf ws h) (w % 512) ≡ true)
+    edge-ready room p = (room-less 1 0 (omega arith) (omega arith) room, from-held (graphOf ws h) p)
 
-    pub entry-ready : Room 1 1 ws h → (getD ws (VALUE + into) 0 ≡ 0 → ⊥) → {ws₁ : List ℕ} {r₁ : Held} → Builds (edgeG w) 1 0 ws h ws₁ r₁ → Room 0 1 ws₁ r₁ × (hasNode (graphOf ws₁ r₁) (w / 512 % 512) ≡ true)
-    entry-ready room p s = (room-then 0 1 room s, into-after (node-there ws h into hi p) s)
+    pub entry-ready : Room 1 1 ws h → hasNode (graphOf ws h) into ≡ true → {ws₁ : List ℕ} {r₁ : Held} → Builds (edgeG w) 1 0 ws h ws₁ r₁ → Room 0 1 ws₁ r₁ × (hasNode (graphOf ws₁ r₁) (w / 512 % 512) ≡ true)
+    entry-ready room p s = (room-then 0 1 room s, into-after p s)
 
-    pub store-builds : (getD ws (VALUE + from) 0 ≡ 0 → ⊥) → (getD ws (VALUE + into) 0 ≡ 0 → ⊥) → {ws₁ : List ℕ} {r₁ : Held} {ws₂ : List ℕ} {r₂ : Held}
+    pub store-builds : hasNode (graphOf ws h) from ≡ true → hasNode (graphOf ws h) into ≡ true → {ws₁ : List ℕ} {r₁ : Held} {ws₂ : List ℕ} {r₂ : Held}
         → Builds (edgeG w) 1 0 ws h ws₁ r₁ → Builds (entryG w) 0 1 ws₁ r₁ ws₂ r₂ → Builds (relate (relationOf t) index from into) 1 1 ws h ws₂ r₂
     store-builds p q s u =
         builds-as (builds-then 1 1 (omega arith) (omega arith) s u)
-        (both-words (graphOf ws h) ∙ sym (relate-both (relationOf t) index from into (graphOf ws h) (node-there ws h from hf p) (node-there ws h into hi q)))
+        (both-words (graphOf ws h) ∙ sym (relate-both (relationOf t) index from into (graphOf ws h) p q))
 
-module _ (r : Relation) (index from into : ℕ) (hf : from < 512) (hi : into < 512) (ws : List ℕ) (h : Held) (room : Room 1 1 ws h) where
-  pub store-no-from : getD ws (VALUE + from) 0 ≡ 0 → Builds (relate r index from into) 1 1 ws h ws h
-  store-no-from p = builds-none (room .clean) (sym (relate-no-from r index from into (graphOf ws h) (node-missing ws h from hf p)))
+module _ (r : Relation) (index from into : ℕ) (ws : List ℕ) (h : Held) (room : Room 1 1 ws h) where
+  pub store-no-from : hasNode (graphOf ws h) from ≡ false → Builds (relate r index from into) 1 1 ws h ws h
+  store-no-from p = builds-none (room .clean) (sym (relate-no-from r index from into (graphOf ws h) p))
 
-  pub store-no-into : (getD ws (VALUE + from) 0 ≡ 0 → ⊥) → getD ws (VALUE + into) 0 ≡ 0 → Builds (relate r index from into) 1 1 ws h ws h
-  store-no-into p q = builds-none (room .clean) (sym (relate-no-into r index from into (graphOf ws h) (node-there ws h from hf p) (node-missing ws h into hi q)))
+  pub store-no-into : hasNode (graphOf ws h) from ≡ true → hasNode (graphOf ws h) into ≡ false → Builds (relate r index from into) 1 1 ws h ws h
+  store-no-into p q = builds-none (room .clean) (sym (relate-no-into r index from into (graphOf ws h) p q))
 
 -- ---- an Assign effect
-module _ (index from into : ℕ) (hi : into < 512) (ws : List ℕ) (h : Held) where
+module _ (index from into : ℕ) (ws : List ℕ) (h : Held) where
   effect-missing : hasNode (graphOf ws h) into ≡ false → assignEffect index from into (graphOf ws h) ≡ relate intoAliases index from into (create into object (graphOf ws h))
   unfolding assignEffect
   effect-missing e = rw e
@@ -116,12 +115,12 @@ module _ (index from into : ℕ) (hi : into < 512) (ws : List ℕ) (h : Held) wh
   unfolding assignEffect
   effect-there e = rw e
 
-  pub effect-creates : getD ws (VALUE + into) 0 ≡ 0 → {ws₁ : List ℕ} {r₁ : Held} {ws₂ : List ℕ} {r₂ : Held}
+  pub effect-creates : hasNode (graphOf ws h) into ≡ false → {ws₁ : List ℕ} {r₁ : Held} {ws₂ : List ℕ} {r₂ : Held}
       → Builds (create into object) 0 0 ws h ws₁ r₁ → Builds (relate intoAliases index from into) 1 1 ws₁ r₁ ws₂ r₂ → Builds (assignEffect index from into) 1 1 ws h ws₂ r₂
-  effect-creates e s t = builds-as (builds-then 1 1 (omega arith) (omega arith) s t) (sym (effect-missing (node-missing ws h into hi e)))
+  effect-creates e s t = builds-as (builds-then 1 1 (omega arith) (omega arith) s t) (sym (effect-missing e))
 
-  pub effect-assigns : (getD ws (VALUE + into) 0 ≡ 0 → ⊥) → {ws₁ : List ℕ} {r₁ : Held} → Builds (relate intoAliases index from into) 1 1 ws h ws₁ r₁ → Builds (assignEffect index from into) 1 1 ws h ws₁ r₁
-  effect-assigns e s = builds-as s (sym (effect-there (node-there ws h into hi e)))
+  pub effect-assigns : hasNode (graphOf ws h) into ≡ true → {ws₁ : List ℕ} {r₁ : Held} → Builds (relate intoAliases index from into) 1 1 ws h ws₁ r₁ → Builds (assignEffect index from into) 1 1 ws h ws₁ r₁
+  effect-assigns e s = builds-as s (sym (effect-there e))
 
 -- ---- CreateFrom
 module _ (from into index w : ℕ) (hf : from < 512) (hi : into < 512) (is : w ≡ packW from into 0 index) (ws : List ℕ) (h : Held) (ws₁ : List ℕ) (r₁ : Held) (s : Builds (create into object) 0 0 ws h ws₁ r₁) where
@@ -139,18 +138,18 @@ module _ (from into index w : ℕ) (hf : from < 512) (hi : into < 512) (is : w �
     pub alone-ready : Room 0 1 ws₁ r₁ × (hasNode (graphOf ws₁ r₁) (w / 512 % 512) ≡ true)
     alone-ready = (room-less 0 1 (omega arith) (omega arith) room₁, into-created)
 
-    pub from-ready : (getD ws₁ (VALUE + from) 0 ≡ 0 → ⊥) → Room 1 0 ws₁ r₁ × (hasNode (graphOf ws₁ r₁) (w % 512) ≡ true)
+    pub from-ready : hasNode (graphOf ws₁ r₁) from ≡ true → Room 1 0 ws₁ r₁ × (hasNode (graphOf ws₁ r₁) (w % 512) ≡ true)
     from-ready p = edge-ready from into 0 index w hf hi (omega arith) is ws₁ r₁ room₁ p
 
     pub into-ready : {ws₂ : List ℕ} {r₂ : Held} → Builds (edgeG w) 1 0 ws₁ r₁ ws₂ r₂ → Room 0 1 ws₂ r₂ × (hasNode (graphOf ws₂ r₂) (w / 512 % 512) ≡ true)
     into-ready t = (room-then 0 1 room₁ t, into-after from into 0 index w hf hi (omega arith) is into-new t)
 
-  pub from-missing : getD ws₁ (VALUE + from) 0 ≡ 0 → {ws₂ : List ℕ} {r₂ : Held} → Builds (entryG w) 0 1 ws₁ r₁ ws₂ r₂ → Builds (createFrom index from into) 1 1 ws h ws₂ r₂
+  pub from-missing : hasNode (graphOf ws₁ r₁) from ≡ false → {ws₂ : List ℕ} {r₂ : Held} → Builds (entryG w) 0 1 ws₁ r₁ ws₂ r₂ → Builds (createFrom index from into) 1 1 ws h ws₂ r₂
   unfolding createFrom
   from-missing e t =
       builds-as (builds-then 1 1 (omega arith) (omega arith) s t)
       (subst (λ (g : Graph). entryG w g ≡ store intoCreatedFrom index from into g) (s .graph)
-      (entry-alone from into 0 index w hf hi (omega arith) is (graphOf ws₁ r₁) (node-missing ws₁ r₁ from hf e)))
+      (entry-alone from into 0 index w hf hi (omega arith) is (graphOf ws₁ r₁) e))
 
   pub from-there : {ws₂ : List ℕ} {r₂ : Held} {ws₃ : List ℕ} {r₃ : Held} → Builds (edgeG w) 1 0 ws₁ r₁ ws₂ r₂ → Builds (entryG w) 0 1 ws₂ r₂ ws₃ r₃ → Builds (createFrom index from into) 1 1 ws h ws₃ r₃
   unfolding createFrom

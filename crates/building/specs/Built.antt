@@ -57,7 +57,7 @@ builtOf ws b = record {
   renders = rendersOf ws (b .renders);
 }
 
--- what building keeps true: a missing node holds no word, no node stands from `nodes` on, and no count is above its limit
+-- what building keeps true: a missing node holds no word, and no count is above its limit
 pub record Sound (ws : List ℕ) (b : Building) : Type 0 where
   pub size : LEAST ≤ length ws
   pub clean : Clean (logsOf ws (b .held))

@@ -16,9 +16,17 @@ use Rattle.rows.specs.Graph.{graphOfRows}
 use Rattle.building.specs.declared.Held.{Held}
 use Rattle.building.specs.Logs.{Logs, graphOfLogs, without, anyP, Clean}
 
+-- the first n values
+abbrev pub valuesOf : List ℕ → ℕ → List ℕ
+valuesOf ws n = slice VALUE (VALUE + n) ws
+
+-- has x one among them?
+unfoldable pub hasValue : List ℕ → ℕ → ℕ → Bool
+hasValue ws n x = not (eqb (getD (valuesOf ws n) x 0) 0)
+
 -- the logs
 abbrev pub logsOf : List ℕ → Held → Logs
-logsOf ws h = record { values = slice VALUE FBOUND ws; edges = slice EDGES (EDGES + h .edges) ws; entries = slice ENTRIES (ENTRIES + h .entries) ws; nodes = h .nodes }
+logsOf ws h = record { values = valuesOf ws (h .nodes); edges = slice EDGES (EDGES + h .edges) ws; entries = slice ENTRIES (ENTRIES + h .entries) ws; nodes = h .nodes }
 
 -- the graph so far
 unfoldable pub graphOf : List ℕ → Held → Graph
@@ -38,7 +46,7 @@ operandsOf (p ∷ preds) (w ∷ rels) = operandOf p w ∷ operandsOf preds rels
 unfoldable pub waitingOf : List ℕ → Held → List Waiting
 waitingOf ws h = operandsOf (slice PREDS (PREDS + h .waiting) ws) (slice RELATIONS (RELATIONS + h .waiting) ws)
 
--- room for a edges and b entries more, when all that waits is stored too; a missing node holds no word, and no node stands from `nodes` on
+-- room for a edges and b entries more, when all that waits is stored too; a missing node holds no word
 pub record Room (a b : ℕ) (ws : List ℕ) (h : Held) : Type 0 where
   pub size : LEAST ≤ length ws
   pub edges : h .edges + h .waiting + a ≤ 1024
@@ -56,6 +64,13 @@ pub record Builds (f : Graph → Graph) (a b : ℕ) (ws : List ℕ) (h : Held) (
   pub low : take VALUE ws′ ≡ take VALUE ws
   pub high : drop PREDS ws′ ≡ drop PREDS ws
   pub same : length ws′ ≡ length ws
+
+-- r values are written where n were, and more than x: no identifier gets a node
+pub record Raises (n x : ℕ) (ws ws′ : List ℕ) (r : ℕ) : Type 0 where
+  pub values : (y : ℕ) → getD (valuesOf ws′ r) y 0 ≡ getD (valuesOf ws n) y 0
+  pub kept : Kept VALUE FBOUND ws ws′
+  pub above : x < r
+  pub few : r ≤ 512
 
 -- of n words none of the first r passes the test
 pub record Others (test : ℕ → Bool) (at n : ℕ) (ws : List ℕ) (r : ℕ) : Type 0 where

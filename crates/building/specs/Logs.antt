@@ -5,7 +5,7 @@ use mathlib.Core.Bool.{Bool, true, false}
 use mathlib.Core.List.{List, [], _∷_, _++_}
 use mathlib.Core.Path.{_≡_}
 use lib.ListN.{getD, set}
-use lib.Dec.{ltb, eqb}
+use lib.Dec.{eqb}
 use Rattle.model.specs.Lists.{pick}
 use Rattle.model.specs.Graph.{Graph, Relation, change, withEdge, withEntry}
 use Rattle.rows.specs.Sort.{sel}
@@ -15,7 +15,7 @@ use Rattle.rows.specs.Graph.{relationOf, nodeOf, tab}
 abbrev pub packW : ℕ → ℕ → ℕ → ℕ → ℕ
 packW from into list index = from + 512 * into + 262144 * list + 1048576 * index
 
--- the three lists, and what every identifier with a node is below
+-- the three lists, and how many values there are
 pub record Logs : Type 0 where
   pub values : List ℕ
   pub edges : List ℕ
@@ -39,11 +39,10 @@ unfoldable pub without : ℕ → ℕ → List ℕ → List ℕ
 without t x [] = []
 without t x (w ∷ l) = pick (ownsW t x w) (without t x l) (w ∷ without t x l)
 
--- a missing node holds no word, and no identifier from `nodes` on has a node
+-- a missing node holds no word, and there are no more values than identifiers
 pub record Clean (s : Logs) : Type 0 where
   pub edges : (x : ℕ) → x < 512 → getD (s .values) x 0 ≡ 0 → without 0 x (s .edges) ≡ s .edges
   pub entries : (x : ℕ) → x < 512 → getD (s .values) x 0 ≡ 0 → without 1 x (s .entries) ≡ s .entries
-  pub above : (x : ℕ) → s .nodes ≤ x → x < 512 → getD (s .values) x 0 ≡ 0
   pub few : s .nodes ≤ 512
 
 -- does a word pass the test?
@@ -64,13 +63,9 @@ anyW w l = anyP (sameW w) l
 unfoldable pub onceW : ℕ → List ℕ → List ℕ
 onceW w l = pick (anyW w l) l (l ++ (w ∷ []))
 
--- raised above x
-unfoldable pub raised : ℕ → ℕ → ℕ
-raised nodes x = pick (ltb x nodes) nodes (x + 1)
-
 -- the node of x with the value of number v, in place of the one that was there
 unfoldable pub createL : ℕ → ℕ → Logs → Logs
-createL x v s = record { values = set (s .values) x v; edges = without 0 x (s .edges); entries = without 1 x (s .entries); nodes = raised (s .nodes) x }
+createL x v s = record { values = set (s .values) x v; edges = without 0 x (s .edges); entries = without 1 x (s .entries); nodes = s .nodes }
 
 -- an edge
 unfoldable pub edgeL : ℕ → Logs → Logs

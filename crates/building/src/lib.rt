@@ -27,7 +27,7 @@ mod logs;
 mod pending;
 mod waiting;
 
-// How many forward edges and entries are held, how many phi operands wait, and what every identifier with a node is below.
+// How many forward edges and entries are held, how many phi operands wait, and how many values are written, which every identifier with a node is below.
 pub struct Held {
     pub edges: usize,
     pub entries: usize,
@@ -286,13 +286,13 @@ impl Building {
     }
 }
 
-// The start of building: no identifier has a node. Returned is what those with a node are below. Never less than 15: fewer than 64 bytes of bounds may be cleared by a masked store, and no load is served from one before it is done.
+// The start of building: no identifier has a node. Returned is what those with a node are below, which is how many values are written: 16 are cleared at once, as fewer than 64 bytes may be cleared by a masked store, and no load is served from one before it is done.
 pub fn start(ws: &mut [u32]) -> usize
     requires { ⌜ LEAST ≤ length (now ws) ⌝ }
     ensures { λ r. ⌜ Starts (now (ws .entry)) (now (ws .exit)) (begun r) ⌝ }
 {
-    rows::clear(ws, VALUE, 512);
-    15
+    rows::clear(ws, VALUE, 16);
+    16
 }
 
 // A node for `place` while there are only nodes, so that no relation is dropped.
@@ -301,8 +301,9 @@ pub fn create_first(ws: &mut [u32], nodes: usize, place: IdentifierId) -> usize
     requires { ⌜ place .0 < 512 ⌝ }
     ensures { λ r. ⌜ Steps (changed (create (place .0) object)) 0 0 0 0 (now (ws .entry)) (begun nodes) (now (ws .exit)) (begun r) ⌝ }
 {
+    let more = graph::raise(ws, nodes, place.0);
     ws[VALUE + place.0 as usize] = 1;
-    graph::raise(nodes, place.0)
+    more
 }
 
 // The building that has nodes and nothing else.

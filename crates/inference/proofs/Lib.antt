@@ -1,4 +1,5 @@
 pub mod Orders
+pub mod Keeping
 pub mod Preparing
 pub mod Making
 pub mod Answering

@@ -3,11 +3,10 @@ use Prim.Native.Nat.{ℕ, _≤_, _<_}
 use native.Mathlib.Omega.{arith}
 use mathlib.Core.Path.{_≡_, sym, subst, ap, _∙_}
 use mathlib.Core.Bool.{Bool, false}
-use mathlib.Core.List.{List, [], map}
-use lib.ListN.{length, take}
-use lib.Seq.{sets}
+use mathlib.Core.List.{List, []}
+use lib.ListN.{length}
 use Rattle.model.specs.Lists.{each}
-use Rattle.model.specs.Sheet.{Identifier, Place, Sheet}
+use Rattle.model.specs.Sheet.{Place, Sheet}
 use Rattle.model.specs.Totals.{instructionEffects, totals, over}
 use Rattle.model.specs.Reading.{Position, Result, got, numbered}
 use Rattle.model.specs.Sections.{block}
@@ -18,8 +17,7 @@ use Rattle.model.specs.Call.{IsSheet}
 use Rattle.model.proofs.Got.{got-value}
 use Rattle.model.proofs.WhenRead.{read-got}
 use Rattle.hir.specs.Says.{placeIs}
-use Rattle.rows.specs.Layout.{LEAST, RECORD, END, SEEN}
-use Rattle.rows.specs.Sort.{clearW}
+use Rattle.rows.specs.Layout.{LEAST}
 use Rattle.building.specs.declared.Building.{Building}
 use Rattle.building.specs.Built.{LaysOut, Sound}
 use Rattle.instructions.specs.declared.BuildStep.{BuildStep}
@@ -36,8 +34,8 @@ use Rattle.parameters.specs.declared.FunctionStep.{FunctionStep}
 use Rattle.parameters.specs.declared.FunctionStep.the-variants.{Got, Refused}
 use Rattle.parameters.specs.Function.{FunctionRead, functionIs, ReadsFunction}
 use Rattle.inference.specs.declared.Outcome.{Outcome}
-use Rattle.inference.specs.Whole.{Prepared, preparedIs, Prepares, Answers}
-use Rattle.inference.proofs.Preparing.{clearedW, cleared-same, prepared}
+use Rattle.inference.specs.Whole.{Keeps, Prepared, preparedIs, Prepares, Answers}
+use Rattle.inference.proofs.Preparing.{prepared}
 
 -- the loop over the blocks of f, as its contract says it
 abbrev Looped : List ℕ → HirFunction → List ℕ → Building → List ℕ → BuildStep → Type 0
@@ -48,13 +46,6 @@ is-read sheet {s} is = read-got sheet s (is .0) (is .1) .0
 
 is-within : (sheet : List ℕ) {s : Sheet} → IsSheet sheet s → over (totals s) ≡ false
 is-within sheet {s} is = read-got sheet s (is .0) (is .1) .1
-
--- the two clearings
-pub cleared : (ws₀ : List ℕ) {ws₁ ws : List ℕ} → ws₁ ≡ clearW ws₀ RECORD 512 → ws ≡ clearW ws₁ END 512 → ws ≡ clearedW ws₀
-cleared ws₀ p q = q ∙ ap (λ (z : List ℕ). clearW z 2112 512) p
-
-pub cleared-size : (ws₀ : List ℕ) {ws : List ℕ} → LEAST ≤ length ws₀ → ws ≡ clearedW ws₀ → LEAST ≤ length ws
-cleared-size ws₀ h e = omega (arith, h, cleared-same ws₀, ap (λ (z : List ℕ). length z) e)
 
 module _ {sheet ws ws₁ : List ℕ} {x : FunctionStep} (h : ReadsFunction sheet ws ws₁ x) where
   never : x ≡ Refused → (s : Sheet) → IsSheet sheet s → ⊥
@@ -96,12 +87,15 @@ module _ {sheet ws ws₁ : List ℕ} {x : FunctionStep} (h : ReadsFunction sheet
         pub whole-got : (s : Sheet) → IsSheet sheet s → Whole s ws₁ ws₂ b′
         whole-got s is = let k = whole s is in let v : WholeAt s (k .0) ws₁ ws₂ (GotBlocks b′ c) = subst (WholeAt s (k .0) ws₁ ws₂) e (k .1) in v .0
 
-        pub prepares : ((s : Sheet) × IsSheet sheet s) → {ws₀ ws₃ : List ℕ} → LEAST ≤ length ws₀ → ws ≡ clearedW ws₀ → LaysOut ws₂ b′ ws₃ → Prepares sheet ws₀ ws₃ (Got f b′)
-        prepares p {ws₀} {ws₃} size e₀ l = record {
+        pub few-identifiers : ((s : Sheet) × IsSheet sheet s) → f .n ≤ 512
+        few-identifiers p = function-got (p .0) (p .1) .limited .n
+
+        pub prepares : ((s : Sheet) × IsSheet sheet s) → {ws₃ ws₄ : List ℕ} → LEAST ≤ length ws → LaysOut ws₂ b′ ws₃ → Keeps (f .n) ws₃ ws₄ → Prepares sheet ws ws₄ (Got f b′)
+        prepares p {ws₃} {ws₄} size l k = record {
           built = λ s is.
               let g = function-got s is in
-              prepared s sheet (is .0) (is-read sheet is) f b′ ws₀ ws₁ ws₂ ws₃ (g .describes) (g .limited) (g .stands) size (g .ends ∙ ap (λ (z : List ℕ). take SEEN (sets z END (map (λ (i : Identifier). i .end) (s .identifiers)))) e₀) (whole-got s is) l;
-          same = l .same ∙ whole-got (p .0) (p .1) .same ∙ function-got (p .0) (p .1) .same ∙ ap (λ (z : List ℕ). length z) e₀ ∙ cleared-same ws₀;
+              prepared s sheet (is .0) (is-read sheet is) f b′ ws ws₁ ws₂ ws₃ ws₄ (g .describes) (g .limited) (g .stands) size (g .ends) (whole-got s is) l k;
+          same = k .same ∙ l .same ∙ whole-got (p .0) (p .1) .same ∙ function-got (p .0) (p .1) .same;
         }
 
 -- what was built

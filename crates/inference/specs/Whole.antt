@@ -1,20 +1,22 @@
 -- A call on an accepted sheet, stage by stage.
-use Prim.Native.Nat.{ℕ, _≤_}
+use Prim.Native.Nat.{ℕ, _+_, _≤_, _<_}
 use mathlib.Core.Path.{_≡_}
 use mathlib.Core.List.{List, _++_, map}
-use lib.ListN.{length}
+use lib.ListN.{length, getD, drop}
+use lib.Dec.{ltb}
+use Rattle.model.specs.Lists.{pick}
 use Rattle.model.specs.Sheet.{Sheet}
 use Rattle.model.specs.State.{State}
 use Rattle.model.specs.Building.{build}
 use Rattle.model.specs.Summary.{built, marked}
 use Rattle.model.specs.Answer.{answer, answerWords, rangesOf, rangeWords, placeWords, section}
 use Rattle.model.specs.Call.{IsSheet, fits}
-use Rattle.rows.specs.Layout.{HANDED}
+use Rattle.rows.specs.Layout.{RECORD, END, SEEN, HANDED}
 use Rattle.rows.specs.Rows.{Indexed}
 use Rattle.rows.specs.Pending.{mutationsOf, rendersOf}
 use Rattle.building.specs.declared.Building.{Building}
 use Rattle.building.specs.Built.{indexOf}
-use Rattle.aliasing.specs.State.{nodesOf, endsOf, stateOf}
+use Rattle.aliasing.specs.State.{nodesOf, fieldAt, Covered, endsOf, stateOf}
 use Rattle.aliasing.specs.Pending.{Pending}
 use Rattle.writing.specs.Wrote.{Wrote}
 use Rattle.summary.specs.Records.{Holds}
@@ -24,6 +26,14 @@ use Rattle.parameters.specs.declared.FunctionStep.{FunctionStep}
 use Rattle.parameters.specs.declared.FunctionStep.the-variants.{Got, Refused}
 use Rattle.inference.specs.declared.Outcome.{Outcome}
 use Rattle.inference.specs.Outcome.{Came}
+
+-- there is no record, and the ends are those of the first n words; every identifier that can have a node has its words
+pub record Keeps (n : ℕ) (ws ws′ : List ℕ) : Type 0 where
+  pub records : (x : ℕ) → x < 512 → fieldAt ws′ RECORD x ≡ 0
+  pub ends : (x : ℕ) → x < 512 → fieldAt (nodesOf ws′) END x ≡ pick (ltb x n) (getD ws (END + x) 0) 0
+  pub covered : Covered ws′
+  pub high : drop SEEN ws′ ≡ drop SEEN ws
+  pub same : length ws′ ≡ length ws
 
 -- the sheet s is built: the state is that before the first mutation, and mutations and renders are pending
 pub record Prepared (s : Sheet) (sheet ws : List ℕ) (f : HirFunction) (b : Building) : Type 0 where

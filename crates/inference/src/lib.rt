@@ -1,12 +1,13 @@
 // The port of `infer_mutation_aliasing_ranges` up to its second loop over the blocks, and of its Part 3.
 ghost use mathlib.Core.Path.{_≡_};
-ghost use Prim.Native.Nat.{ℕ, _≤_};
+ghost use Prim.Native.Nat.{ℕ, _≤_, max};
 ghost use lib.ListN.{length};
+ghost use Rattle.rows.specs.Rows.{Indexed};
 ghost use Rattle.model.specs.Sheet.{Sheet};
 ghost use Rattle.model.specs.Call.{refusal, IsSheet};
 ghost use Rattle.function.specs.Function.{Limited, Describes, Stands, NoneUnless};
 ghost use Rattle.inference.specs.Outcome.{Came, Inferred};
-ghost use Rattle.inference.specs.Whole.{Prepared, Prepares, PlacesPut, AnswerPut, Answers};
+ghost use Rattle.inference.specs.Whole.{Keeps, Prepared, Prepares, PlacesPut, AnswerPut, Answers};
 use aliasing::process_mutations;
 use building::Building;
 use dataflow::build_blocks;
@@ -17,6 +18,8 @@ use parameters::FunctionStep;
 use parameters::read_function;
 use reading::Verdict;
 use rows::END;
+use rows::KEPT;
+use rows::NODES;
 use rows::RECORD;
 use rows::clear;
 use simulation::put_effects;
@@ -30,14 +33,35 @@ pub enum Outcome {
     Accepted(usize),
 }
 
-// Part 1: builds the data flow graph and lays it out for the walks. The spans are not cleared: a record whose word is 0 is none.
+// The larger of two.
+fn larger(a: usize, b: usize) -> usize
+    ensures { λ r. ⌜ r ≡ max a b ⌝ }
+{
+    if a < b {
+        return b;
+    }
+    a
+}
+
+// A record's word and an end are kept for each identifier of the sheet and each that can have a node: no record yet, and the sheet's n ends. The spans are not cleared: a record whose word is 0 is none.
+fn keep(ws: &mut [u32], n: usize)
+    requires { ⌜ Indexed (now ws) ⌝ }
+    requires { ⌜ n ≤ 512 ⌝ }
+    ensures { λ _. ⌜ Keeps n (now (ws .entry)) (now (ws .exit)) ⌝ }
+{
+    let nodes = ws[NODES] as usize;
+    let kept = larger(nodes, n);
+    clear(ws, RECORD, kept);
+    clear(ws, END + n, kept - n);
+    ws[KEPT] = kept as u32;
+}
+
+// Part 1: builds the data flow graph and lays it out for the walks.
 fn build(sheet: &[u32], ws: &mut [u32]) -> FunctionStep
     requires { ⌜ 16384 ≤ length (now ws) ⌝ }
     requires { ⌜ ((s : Sheet) × IsSheet (now sheet) s) ⌝ }
     ensures { λ r. ⌜ Prepares (now (sheet .entry)) (now (ws .entry)) (now (ws .exit)) r ⌝ }
 {
-    clear(ws, RECORD, 512);
-    clear(ws, END, 512);
     let FunctionStep::Got(f, first) = read_function(sheet, ws) else {
         return FunctionStep::Refused;
     };
@@ -54,6 +78,7 @@ fn build(sheet: &[u32], ws: &mut [u32]) -> FunctionStep
         return FunctionStep::Refused;
     };
     b.lay_out(ws);
+    keep(ws, f.n as usize);
     FunctionStep::Got(f, b)
 }
 

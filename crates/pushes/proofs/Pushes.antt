@@ -4,14 +4,18 @@ use native.Mathlib.Omega.{arith}
 use mathlib.Core.Bool.{true, false}
 use mathlib.Core.List.{List, [], _++_, append-assoc}
 use mathlib.Core.Path.{_≡_, refl, sym, ap, subst, _∙_}
-use lib.ListN.{length, take, drop, length-append}
+use lib.ListN.{length, getD, take, drop, length-append}
 use lib.Seq.{slice, sets, sets-eq, length-sets, length-take-le, take-at, drop-append-le}
 use borrow.Author.Tests.{eq-eqb, ne-eqb}
 use Rattle.rows.specs.Rows.{rowsOf, used, value, rowF, rowB, Good, Kept}
 use Rattle.pushes.specs.Pushes.{Room, Pushed, wordsF, wordsB, deg, forwardW, entriesW, blockedW, aliasesW, capturesW, pushedW}
 use Rattle.rows.proofs.Parts.{slice-take, take-sets, drop-sets, sets-append}
-use Rattle.rows.proofs.Rows.{rows-length}
+use Rattle.rows.proofs.Rows.{rows-length, value-at, used-few, used-limit}
 use Rattle.pushes.proofs.Sizes.{deg-is, forward-le, rowF-length, list-le, aliases-le}
+
+-- the value of an identifier whose rows have bounds
+pub value-used : (ws : List ℕ) → 16384 ≤ length ws → (x : ℕ) → x < used (rowsOf ws) → value (rowsOf ws) x ≡ getD ws (3200 + x) 0
+value-used ws size x u = value-at ws size x (omega (arith, u, used-few (rowsOf ws))) (omega (arith, u, used-limit (rowsOf ws)))
 
 pub pushed-then : {ws : List ℕ} {top : ℕ} {a ws₁ : List ℕ} {t₁ : ℕ} {b ws₂ : List ℕ} {t₂ : ℕ} → Pushed ws top a ws₁ t₁ → Pushed ws₁ t₁ b ws₂ t₂ → Pushed ws top (a ++ b) ws₂ t₂
 pushed-then {ws} {top} {a} {ws₁} {t₁} {b} {ws₂} {t₂} p q = record {

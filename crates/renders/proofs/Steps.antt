@@ -14,11 +14,11 @@ use Rattle.model.specs.State.{noRecord, hasRecord, functionOf, State}
 use Rattle.model.specs.Renders.{RenderWalk, renderPushes, handOver, passBy, renderNode, renderStep}
 use Rattle.rows.specs.Rows.{rowsOf, used, value, rowF, rowB, Good, Kept}
 use Rattle.rows.specs.Graph.{valueOf, ownNode, graphOfRows}
-use Rattle.rows.proofs.Rows.{used-below, value-at, rows-length}
+use Rattle.rows.proofs.Rows.{used-below, limit-at, value-at, value-beyond, rows-length}
 use Rattle.rows.proofs.Parts.{drop-more}
 use Rattle.pushes.specs.Pushes.{Pushed, Room, deg}
-use Rattle.pushes.proofs.Pushes.{pushed-part, pushed-kept}
-use Rattle.aliasing.specs.State.{nodesOf, seenOf, recordsOf, endsOf, stateOf}
+use Rattle.pushes.proofs.Pushes.{value-used, pushed-part, pushed-kept}
+use Rattle.aliasing.specs.State.{fieldAt, nodesOf, seenOf, recordsOf, endsOf, stateOf}
 use Rattle.aliasing.specs.Accepts.{functionW}
 use Rattle.aliasing.specs.Potential.{phi}
 use Rattle.aliasing.proofs.Hands.{function-is}
@@ -36,10 +36,17 @@ queue-head ws top more fit = ap placesOf (queue-last ws top more fit) ∙ places
 shows-to : {ws : List ℕ} {top hand : ℕ} (w v : RenderWalk) → Shows ws top hand v → w ≡ v → Shows ws top hand w
 shows-to {ws} {top} {hand} w v s p = subst (Shows ws top hand) (sym p) s
 
+-- ---- the value of x, as it is read
+pub value-below : (ws : List ℕ) → 16384 ≤ length ws → (x : ℕ) → x < 512 → x < getD ws 8322 0 → getD ws (3200 + x) 0 ≡ value (rowsOf ws) x
+value-below ws size x h k = sym (value-at ws size x h (omega (arith, k, limit-at ws size)))
+
+pub value-none : (ws : List ℕ) → 16384 ≤ length ws → (x : ℕ) → getD ws 8322 0 ≤ x → 0 ≡ value (rowsOf ws) x
+value-none ws size x k = sym (value-beyond (rowsOf ws) x (omega (arith, k, limit-at ws size)))
+
 -- ---- the state by its parts
-record-at : (ws : List ℕ) (hand x : ℕ) → x < 512 → hasRecord (getD (stateOf ws hand .records) x noRecord) ≡ not (eqb (getD ws (0 + x) 0 % 16) 0)
-unfolding stateOf nodesOf
-record-at ws hand x h = has-record (take 2624 ws) x h ∙ ap (λ (w : ℕ). not (eqb (w % 16) 0)) (getD-take 2624 ws (0 + x) 0 (omega arith))
+record-at : (ws : List ℕ) (hand x : ℕ) → x < 512 → hasRecord (getD (stateOf ws hand .records) x noRecord) ≡ not (eqb (fieldAt (nodesOf ws) 0 x % 16) 0)
+unfolding stateOf
+record-at ws hand x h = has-record (nodesOf ws) x h
 
 state-more : (ws ws′ : List ℕ) (hand hand′ : ℕ) (fs : List ℕ) → rowsOf ws′ ≡ rowsOf ws → nodesOf ws′ ≡ nodesOf ws → slice 13315 hand′ ws′ ≡ slice 13315 hand ws ++ fs → stateOf ws′ hand′ ≡ handOver fs (stateOf ws hand)
 unfolding stateOf
@@ -74,8 +81,9 @@ module _ (index : ℕ) (ws : List ℕ) (top hand : ℕ) (ready : Ready ws top ha
       unmoved = record { nodes = refl; aside = record { graph = refl; behind = refl; same = refl } };
     }
 
-  -- ---- taken for the first time
-  module _ (first : getD ws (2624 + placeAt ws top) 0 ≤ 0) where
+  -- ---- taken for the first time; v is the value and u the record's word that are read once it is marked
+  module _ (first : getD ws (2624 + placeAt ws top) 0 ≤ 0) (v : ℕ) (is : v ≡ value (rowsOf (set ws (2624 + placeAt ws top) 1)) (placeAt ws top))
+      (u : ℕ) (word-is : u ≡ fieldAt (nodesOf (set ws (2624 + placeAt ws top) 1)) 0 (placeAt ws top)) where
     abbrev marked : List ℕ
     marked = set ws (2624 + placeAt ws top) 1
 
@@ -88,13 +96,13 @@ module _ (index : ℕ) (ws : List ℕ) (top hand : ℕ) (ready : Ready ws top ha
     word-kept : (j : ℕ) → (j ≡ 2624 + placeAt ws top → ⊥) → getD marked j 0 ≡ getD ws j 0
     word-kept j h = getD-set-other ws (2624 + placeAt ws top) j 1 0 h
 
-    value-kept : getD marked (3200 + placeAt ws top) 0 ≡ value (rowsOf ws) (placeAt ws top)
-    value-kept = word-kept (3200 + placeAt ws top) (λ e. omega (arith, e)) ∙ sym (value-at ws (ready .size) (placeAt ws top) x-below)
+    value-is : v ≡ value (rowsOf ws) (placeAt ws top)
+    value-is = is ∙ ap (λ (g : List ℕ). value g (placeAt ws top)) (rows-above mark (omega arith))
 
-    passes-is : passesW (getD marked (3200 + placeAt ws top) 0) (getD marked (0 + placeAt ws top) 0) ≡ passesW (value (rowsOf ws) (placeAt ws top)) (getD ws (0 + placeAt ws top) 0)
+    passes-is : passesW v u ≡ passesW (value (rowsOf ws) (placeAt ws top)) (fieldAt (nodesOf ws) 0 (placeAt ws top))
     passes-is =
-        ap (λ (v : ℕ). passesW v (getD marked (0 + placeAt ws top) 0)) value-kept
-        ∙ ap (passesW (value (rowsOf ws) (placeAt ws top))) (word-kept (0 + placeAt ws top) (λ e. omega (arith, e)))
+        ap (λ (y : ℕ). passesW y u) value-is
+        ∙ ap (passesW (value (rowsOf ws) (placeAt ws top))) (word-is ∙ ap (λ (l : List ℕ). fieldAt l 0 (placeAt ws top)) (nodes-below mark (omega arith)))
 
     not-seen : getD (seenOf ws) (placeAt ws top) 0 ≡ 0
     not-seen = omega (arith, seen-at ws (placeAt ws top) x-below)
@@ -113,12 +121,12 @@ module _ (index : ℕ) (ws : List ℕ) (top hand : ℕ) (ready : Ready ws top ha
       remembered = mark-set (seenOf ws) (placeAt ws top) ∙ ap (λ (l : List Bool). set l (placeAt ws top) true) (s .seen)
 
     -- ---- passed by
-    module _ (passed : passesW (getD marked (3200 + placeAt ws top) 0) (getD marked (0 + placeAt ws top) 0) ≡ true) where
+    module _ (passed : passesW v u ≡ true) where
       why : (nodeAt (stateOf ws hand .graph) (placeAt ws top) ≡ none) ⊎ (hasRecord (getD (stateOf ws hand .records) (placeAt ws top) noRecord) ≡ true)
       why =
           ⊎-map (λ (e : value (rowsOf ws) (placeAt ws top) ≡ 0). graph-missing ws hand (placeAt ws top) x-below e)
-          (λ (e : not (eqb (getD ws (0 + placeAt ws top) 0 % 16) 0) ≡ true). record-at ws hand (placeAt ws top) x-below ∙ e)
-          (passes-true (value (rowsOf ws) (placeAt ws top)) (getD ws (0 + placeAt ws top) 0) (sym passes-is ∙ passed))
+          (λ (e : not (eqb (fieldAt (nodesOf ws) 0 (placeAt ws top) % 16) 0) ≡ true). record-at ws hand (placeAt ws top) x-below ∙ e)
+          (passes-true (value (rowsOf ws) (placeAt ws top)) (fieldAt (nodesOf ws) 0 (placeAt ws top)) (sym passes-is ∙ passed))
 
       passes : (w : RenderWalk) → Shows ws top hand w → Shows marked (top - 1) hand (renderStep index (w .queue) w)
       passes w s =
@@ -152,6 +160,13 @@ module _ (index : ℕ) (ws : List ℕ) (top hand : ℕ) (ready : Ready ws top ha
         };
       }
 
+    -- ---- one that is not passed by has a node
+    bare : passesW v u ≡ false → (value (rowsOf ws) (placeAt ws top) ≡ 0 → ⊥) × (not (eqb (fieldAt (nodesOf ws) 0 (placeAt ws top) % 16) 0) ≡ false)
+    bare passed = passes-false (value (rowsOf ws) (placeAt ws top)) (fieldAt (nodesOf ws) 0 (placeAt ws top)) (sym passes-is ∙ passed)
+
+    has-node : passesW v u ≡ false → placeAt ws top < used (rowsOf ws)
+    has-node passed = used-below (rowsOf ws) (placeAt ws top) x-below (bare passed .0)
+
     -- ---- rendered: the function handed over, the entries pushed
     module _ (wsH : List ℕ) (h : ℕ) (ph : Pushed marked hand (functionW (getD marked (3200 + placeAt ws top) 0)) wsH h) where
       hand-room : h + unseen (set (seenOf ws) (placeAt ws top) 1) ≤ 13827
@@ -175,12 +190,10 @@ module _ (index : ℕ) (ws : List ℕ) (top hand : ℕ) (ready : Ready ws top ha
       }
 
       -- its rows have bounds
-      pub step-used : passesW (getD marked (3200 + placeAt ws top) 0) (getD marked (0 + placeAt ws top) 0) ≡ false → placeAt ws top < used (rowsOf wsH)
-      step-used passed =
-          let there = passes-false (getD marked (3200 + placeAt ws top) 0) (getD marked (0 + placeAt ws top) 0) passed .0 in
-          subst (λ (g : List ℕ). placeAt ws top < used g) (sym rows₁) (used-below (rowsOf ws) (placeAt ws top) x-below (λ z. there (value-kept ∙ z)))
+      pub step-used : passesW v u ≡ false → placeAt ws top < used (rowsOf wsH)
+      step-used passed = subst (λ (g : List ℕ). placeAt ws top < used g) (sym rows₁) (has-node passed)
 
-      module _ (passed : passesW (getD marked (3200 + placeAt ws top) 0) (getD marked (0 + placeAt ws top) 0) ≡ false)
+      module _ (passed : passesW v u ≡ false)
           (ws₂ : List ℕ) (r : ℕ) (p : Pushed wsH (top - 1) (originsW (rowsOf wsH) (placeAt ws top) index) ws₂ r) where
         abbrev pushed : List ℕ
         pushed = originsW (rowsOf ws) (placeAt ws top) index
@@ -211,19 +224,19 @@ module _ (index : ℕ) (ws : List ℕ) (top hand : ℕ) (ready : Ready ws top ha
             pushed-part 8528 p′ (omega arith) (omega (arith, room, length₁, ready .size))
             ∙ ap (λ (q : List ℕ). q ++ pushed) (slice-below kept-hand 8528 (top - 1) (omega (arith, ready .fits)) ∙ slice-above mark 8528 (top - 1) (omega arith) (omega arith))
 
+        value-kept : getD marked (3200 + placeAt ws top) 0 ≡ value (rowsOf ws) (placeAt ws top)
+        value-kept = word-kept (3200 + placeAt ws top) (λ e. omega (arith, e)) ∙ sym (value-used ws (ready .size) (placeAt ws top) (has-node passed))
+
         handed₂ : slice 13315 h ws₂ ≡ slice 13315 hand ws ++ functionOf (valueOf (value (rowsOf ws) (placeAt ws top)))
         handed₂ =
             slice-above kept-queue 13315 h (omega arith) (omega (arith, ph .next, ready .from))
             ∙ pushed-part 13315 ph (ready .from) (omega (arith, hand-room, mark .same, ready .size))
             ∙ ap (λ (q : List ℕ). q ++ functionW (getD marked (3200 + placeAt ws top) 0)) (slice-above mark 13315 hand (omega arith) (ready .from))
-            ∙ ap (λ (v : ℕ). slice 13315 hand ws ++ functionW v) value-kept
+            ∙ ap (λ (u : ℕ). slice 13315 hand ws ++ functionW u) value-kept
             ∙ ap (λ (fs : List ℕ). slice 13315 hand ws ++ fs) (function-is (value (rowsOf ws) (placeAt ws top)))
 
         abbrev own : Node
         own = ownNode (value (rowsOf ws) (placeAt ws top)) (rowF (rowsOf ws)) (rowB (rowsOf ws)) (placeAt ws top)
-
-        bare : (value (rowsOf ws) (placeAt ws top) ≡ 0 → ⊥) × (not (eqb (getD ws (0 + placeAt ws top) 0 % 16) 0) ≡ false)
-        bare = passes-false (value (rowsOf ws) (placeAt ws top)) (getD ws (0 + placeAt ws top) 0) (sym passes-is ∙ passed)
 
         entries₂ : placesOf (slice 8528 r ws₂) ≡ reverseAux (renderPushes index own) (placesOf (slice 8528 (top - 1) ws))
         entries₂ =
@@ -240,8 +253,8 @@ module _ (index : ℕ) (ws : List ℕ) (top hand : ℕ) (ready : Ready ws top ha
                   ∙ ap (handOver (functionOf (valueOf (value (rowsOf ws) (placeAt ws top))))) (s .state);
             })
             (step-renders index w (placeAt ws top) (placesOf (slice 8528 (top - 1) ws)) (head w s) own (fresh w s)
-            (ap (λ (t : State). nodeAt (t .graph) (placeAt ws top)) (sym (s .state)) ∙ graph-there ws hand (placeAt ws top) x-below (bare .0))
-            (ap (λ (t : State). hasRecord (getD (t .records) (placeAt ws top) noRecord)) (sym (s .state)) ∙ record-at ws hand (placeAt ws top) x-below ∙ bare .1))
+            (ap (λ (t : State). nodeAt (t .graph) (placeAt ws top)) (sym (s .state)) ∙ graph-there ws hand (placeAt ws top) x-below (bare passed .0))
+            (ap (λ (t : State). hasRecord (getD (t .records) (placeAt ws top) noRecord)) (sym (s .state)) ∙ record-at ws hand (placeAt ws top) x-below ∙ bare passed .1))
 
         phi₂ : phi (seenOf ws₂) (rowsOf ws₂) 512 ≡ phi (set (seenOf ws) (placeAt ws top) 1) (rowsOf ws) 512
         phi₂ = ap (λ (l : List ℕ). phi l (rowsOf ws₂) 512) seen₂ ∙ ap (λ (g : List ℕ). phi (set (seenOf ws) (placeAt ws top) 1) g 512) rows₂

@@ -1,15 +1,18 @@
 // The render walk over the graph in the lent workspace (the original's `render`).
 ghost use mathlib.Core.Path.{_≡_};
-ghost use Prim.Native.Nat.{_+_, _*_, _<_};
-ghost use Rattle.rows.specs.Layout.{QUEUE};
-ghost use Rattle.rows.specs.Rows.{Indexed, rowsOf, used};
+ghost use Prim.Native.Nat.{_+_, _*_, _≤_, _<_};
+ghost use lib.ListN.{length};
+ghost use Rattle.rows.specs.Layout.{LEAST, QUEUE};
+ghost use Rattle.rows.specs.Rows.{Indexed, rowsOf, used, value};
 ghost use Rattle.pushes.specs.Pushes.{Pushed, Room, deg};
 ghost use Rattle.renders.specs.Renders.{passesW, originsW, Ready, Stepped, Walked, Rendered};
 use aliasing::Taken;
 use aliasing::append_function_errors;
+use aliasing::field;
 use hir::IdentifierId;
 use pushes::push_list;
 use rows::HANDED;
+use rows::NODES;
 use rows::QUEUE;
 use rows::RECORD;
 use rows::SEEN;
@@ -20,6 +23,17 @@ use rows::clear;
 struct Next {
     top: usize,
     hand: usize,
+}
+
+// The value of x, which is written below the limit only.
+fn value_of(ws: &[u32], x: usize) -> u32
+    requires { ⌜ (x < 512) × (LEAST ≤ length (now ws)) ⌝ }
+    ensures { λ r. ⌜ r ≡ value (rowsOf (now (ws .entry))) x ⌝ }
+{
+    if (x as u32) < ws[NODES] {
+        return ws[VALUE + x];
+    }
+    0
 }
 
 // A node of value v and record w that is missing, or has a record.
@@ -55,7 +69,7 @@ fn step(ws: &mut [u32], top: usize, hand: usize, index: u32) -> Next
         return Next { top: t, hand: hand };
     }
     ws[SEEN + x] = 1;
-    if passes_by(ws[VALUE + x], ws[RECORD + x]) {
+    if passes_by(value_of(ws, x), field(ws, RECORD, x)) {
         return Next { top: t, hand: hand };
     }
     let h = append_function_errors(ws, x, hand);

@@ -10,7 +10,7 @@ use lib.Dec.{eqb}
 use borrow.Author.Tests.{eq-eqb, ne-eqb}
 use Rattle.model.specs.Lists.{pick}
 use Rattle.model.specs.Graph.{Node, Graph, nodeAt}
-use Rattle.rows.specs.Rows.{value, rowF, rowB}
+use Rattle.rows.specs.Rows.{values, value, rowF, rowB}
 use Rattle.rows.specs.Graph.{ownNode, nodeOf, tab, graphOfRows}
 use Rattle.rows.proofs.Tables.{tab-length, tab-at}
 
@@ -31,17 +31,17 @@ node-none v a r x e = rw (eq-eqb (getD v x 0) 0 e)
 -- ---- the graph of the rows
 pub graph-length : (g : List ℕ) → length (graphOfRows g) ≡ 512
 unfolding graphOfRows
-graph-length g = tab-length 512 (nodeOf g (rowF g) (rowB g))
+graph-length g = tab-length 512 (nodeOf (values g) (rowF g) (rowB g))
 
-pub row-node : (g : List ℕ) (x : ℕ) → x < 512 → nodeAt (graphOfRows g) x ≡ nodeOf g (rowF g) (rowB g) x
+pub row-node : (g : List ℕ) (x : ℕ) → x < 512 → nodeAt (graphOfRows g) x ≡ nodeOf (values g) (rowF g) (rowB g) x
 unfolding graphOfRows
-row-node g x h = tab-at 512 (nodeOf g (rowF g) (rowB g)) x none h
+row-node g x h = tab-at 512 (nodeOf (values g) (rowF g) (rowB g)) x none h
 
 -- a node that is there, and one that is missing
 pub row-there : (g : List ℕ) (x : ℕ) → x < 512 → (value g x ≡ 0 → ⊥) → nodeAt (graphOfRows g) x ≡ some (ownNode (value g x) (rowF g) (rowB g) x)
 unfolding value
-row-there g x h e = row-node g x h ∙ node-some g (rowF g) (rowB g) x e
+row-there g x h e = row-node g x h ∙ node-some (values g) (rowF g) (rowB g) x e
 
 pub row-missing : (g : List ℕ) (x : ℕ) → x < 512 → value g x ≡ 0 → nodeAt (graphOfRows g) x ≡ none
 unfolding value
-row-missing g x h e = row-node g x h ∙ node-none g (rowF g) (rowB g) x e
+row-missing g x h e = row-node g x h ∙ node-none (values g) (rowF g) (rowB g) x e

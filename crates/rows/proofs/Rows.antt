@@ -5,11 +5,11 @@ use native.Mathlib.Nat.{add-assoc}
 use native.Mathlib.Decide.{decLt, ℕ-discrete}
 use mathlib.Core.List.{List, [], _∷_, _++_}
 use mathlib.Core.Path.{_≡_, refl, sym, ap, subst, _∙_}
-use lib.ListN.{length, getD, take, drop}
-use lib.Seq.{slice, length-slice}
+use lib.ListN.{length, getD, take, drop, length-take, List·getD-eq-default}
+use lib.Seq.{slice, length-slice, getD-take}
 use borrow.Author.Tests.{eq-eqb, ne-eqb, lt-ltb, le-ltb}
-use Rattle.rows.specs.Layout.{LEAST, VALUE, FBOUND, FEDGE, BBOUND, BENTRY, QUEUE}
-use Rattle.rows.specs.Rows.{rowsOf, value, usedOf, used, fb, bb, rowF, rowB, Good, Indexed}
+use Rattle.rows.specs.Layout.{LEAST, VALUE, FBOUND, FEDGE, BBOUND, BENTRY, NODES, QUEUE}
+use Rattle.rows.specs.Rows.{rowsOf, limit, values, value, usedOf, used, fb, bb, rowF, rowB, Good, Indexed}
 use Rattle.rows.specs.Sort.{keyW}
 use Rattle.rows.proofs.Parts.{slice-at, slice-slice}
 
@@ -43,31 +43,46 @@ of-above g (suc k) x h q = go (of-above g k x) (ℕ-discrete (getD g k 0) 0) (�
     go ih (yes e) (yes d) = ap (λ (i : ℕ). getD g i 0) d ∙ e
     go ih (yes e) (no d) = ih (omega (arith, h, of-none g k e)) (omega (arith, q, d))
 
-pub used-under : (g : List ℕ) (m : ℕ) → ((x : ℕ) → m ≤ x → x < 512 → getD g x 0 ≡ 0) → used g ≤ m
-unfolding used
-used-under g m none = of-under g m 512 none
+pub used-under : (g : List ℕ) (m : ℕ) → ((x : ℕ) → m ≤ x → x < 512 → value g x ≡ 0) → used g ≤ m
+unfolding used value
+used-under g m none = of-under (values g) m 512 none
 
 pub used-few : (g : List ℕ) → used g ≤ 512
 used-few g = used-under g 512 (λ x h q. absurd (omega arith))
 
-pub used-above : (g : List ℕ) (x : ℕ) → used g ≤ x → x < 512 → getD g x 0 ≡ 0
-unfolding used
-used-above g x h q = of-above g 512 x h q
+pub used-above : (g : List ℕ) (x : ℕ) → used g ≤ x → x < 512 → value g x ≡ 0
+unfolding used value
+used-above g x h q = of-above (values g) 512 x h q
 
 -- who has a node is below
 pub used-below : (g : List ℕ) (x : ℕ) → x < 512 → (value g x ≡ 0 → ⊥) → x < used g
-unfolding value
 used-below g x h e = go (decLt x (used g))
   where
     go : Dec (x < used g) → x < used g
     go (yes p) = p
     go (no p) = absurd (e (used-above g x (omega (arith, p)) h))
 
+-- from the limit on none has a node
+pub value-beyond : (g : List ℕ) (x : ℕ) → limit g ≤ x → value g x ≡ 0
+unfolding value values
+value-beyond g x h = List·getD-eq-default (take (limit g) g) 0 {n = x} (omega (arith, length-take (limit g) g, h))
+
+pub value-there : (g : List ℕ) (x : ℕ) → x < limit g → value g x ≡ getD g x 0
+unfolding value values
+value-there g x h = getD-take (limit g) g x 0 h
+
+pub used-limit : (g : List ℕ) → used g ≤ limit g
+used-limit g = used-under g (limit g) (λ x h q. value-beyond g x h)
+
 -- ---- the graph, as the code reads it
 module _ (ws : List ℕ) (size : LEAST ≤ length ws) where
-  pub value-at : (x : ℕ) → x < 512 → value (rowsOf ws) x ≡ getD ws (VALUE + x) 0
-  unfolding rowsOf value
-  value-at x h = slice-at VALUE QUEUE x ws (omega arith)
+  pub limit-at : limit (rowsOf ws) ≡ getD ws NODES 0
+  unfolding limit rowsOf
+  limit-at = slice-at VALUE QUEUE 5122 ws (omega arith)
+
+  pub value-at : (x : ℕ) → x < 512 → x < limit (rowsOf ws) → value (rowsOf ws) x ≡ getD ws (VALUE + x) 0
+  unfolding rowsOf
+  value-at x h k = value-there (rowsOf ws) x k ∙ slice-at VALUE QUEUE x ws (omega arith)
 
   pub f-word : (k : ℕ) → k ≤ 512 → getD (rowsOf ws) (512 + k) 0 ≡ getD ws (FBOUND + k) 0
   unfolding rowsOf

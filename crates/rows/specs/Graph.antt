@@ -6,7 +6,7 @@ use lib.ListN.{getD}
 use lib.Dec.{eqb}
 use Rattle.model.specs.Lists.{pick}
 use Rattle.model.specs.Graph.{EdgeKind, Value, object, phi, function, Edge, Entry, Node, Graph, Relation, intoCreatedFrom, intoAliases, intoMaybeAliases, intoCaptures, edgeKind}
-use Rattle.rows.specs.Rows.{rowF, rowB}
+use Rattle.rows.specs.Rows.{values, rowF, rowB}
 
 -- the list by its number
 abbrev pub relationOf : ℕ → Relation
@@ -52,4 +52,4 @@ tab (suc n) f = tab n f ++ (f n ∷ [])
 
 -- the graph that the rows hold
 unfoldable pub graphOfRows : List ℕ → Graph
-graphOfRows g = tab 512 (nodeOf g (rowF g) (rowB g))
+graphOfRows g = tab 512 (nodeOf (values g) (rowF g) (rowB g))

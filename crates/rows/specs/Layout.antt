@@ -20,7 +20,11 @@ LSPAN = 512
 abbrev pub TSPAN : ℕ
 TSPAN = 1536
 
--- the end of the range, after 64 words that are not used
+-- how many identifiers a record's word and an end are kept for: those of the others are not written
+abbrev pub KEPT : ℕ
+KEPT = 2048
+
+-- the end of the range, after 63 words that are not used
 abbrev pub END : ℕ
 END = 2112
 
@@ -48,7 +52,11 @@ BBOUND = 5249
 abbrev pub BENTRY : ℕ
 BENTRY = 7298
 
--- the queue of a walk, 4,097 words, after 206 words that are not used
+-- how many identifiers can have a node: the values from there on are not written
+abbrev pub NODES : ℕ
+NODES = 8322
+
+-- the queue of a walk, 4,097 words, after 205 words that are not used
 abbrev pub QUEUE : ℕ
 QUEUE = 8528
 

@@ -12,9 +12,17 @@ use Rattle.rows.specs.Layout.{LEAST, VALUE, QUEUE}
 unfoldable pub rowsOf : List ℕ → List ℕ
 rowsOf ws = slice VALUE QUEUE ws
 
+-- how many identifiers can have a node
+unfoldable pub limit : List ℕ → ℕ
+limit g = getD g 5122 0
+
+-- their values
+unfoldable pub values : List ℕ → List ℕ
+values g = take (limit g) g
+
 -- the value of x
 unfoldable pub value : List ℕ → ℕ → ℕ
-value g x = getD g x 0
+value g x = getD (values g) x 0
 
 -- one above the last of the first k identifiers that has a node
 unfoldable pub usedOf : List ℕ → ℕ → ℕ
@@ -23,7 +31,7 @@ usedOf g (suc k) = pick (eqb (getD g k 0) 0) (usedOf g k) (suc k)
 
 -- one above the last identifier that has a node
 unfoldable pub used : List ℕ → ℕ
-used g = usedOf g 512
+used g = usedOf (values g) 512
 
 -- where the forward edges of k begin, counted from the first row; the bound of a row is how many words there are from it on, and none are above the last node
 unfoldable pub fb : List ℕ → ℕ → ℕ
@@ -41,8 +49,9 @@ rowF g x = slice (1025 + fb g x) (1025 + fb g (x + 1)) g
 unfoldable pub rowB : List ℕ → ℕ → List ℕ
 rowB g k = slice (4098 + bb g k) (4098 + bb g (k + 1)) g
 
--- up to the last node no bound is above the first; the rows begin in order, and no more than 1,024 words are in rows
+-- no more than 512 identifiers can have a node; up to the last node no bound is above the first; the rows begin in order, and no more than 1,024 words are in rows
 pub record Good (g : List ℕ) : Type 0 where
+  pub few : limit g ≤ 512
   pub f-in : (k : ℕ) → k ≤ used g → getD g (512 + k) 0 ≤ getD g 512 0
   pub f-up : (k : ℕ) → k < 512 → fb g k ≤ fb g (k + 1)
   pub f-top : (k : ℕ) → k ≤ 512 → fb g k ≤ 1024

@@ -24,11 +24,12 @@ use Rattle.rows.proofs.Parts.{kept-none, kept-set, drop-more, drop-word, slice-
 use Rattle.rows.proofs.Tables.{tab-length, tab-at, tab-same}
 use Rattle.aliasing.specs.declared.Mutation.{Mutation as CodeMutation}
 use Rattle.aliasing.specs.Says.{modeSays, mutationSays}
-use Rattle.aliasing.specs.State.{NoneAbove, stateOf}
+use Rattle.aliasing.specs.State.{NoneAbove, Covered, stateOf}
+use Rattle.aliasing.proofs.Fields.{covered-nodes}
 use Rattle.aliasing.specs.Walks.{Callable, Mutated}
 use Rattle.aliasing.proofs.Parts.{slice-below, nodes-below, seen-below, rows-below}
 use Rattle.aliasing.proofs.Levels.{above-as, above-more}
-use Rattle.aliasing.proofs.Begin.{Unmarked, unmarked, unmarked-marks}
+use Rattle.aliasing.proofs.Begin.{Unmarked, unmarked-nodes, unmarked-none}
 use Rattle.aliasing.proofs.Steps.{state-same}
 use Rattle.writing.specs.Wrote.{Wrote}
 use Rattle.writing.proofs.Writing.{wrote-none, wrote-then, wrote-as}
@@ -79,6 +80,7 @@ pub record SoFar (s : Sheet) (answer₀ : List ℕ) (at : ℕ) (ws answer : List
 pub record Turned (ws₀ : List ℕ) (count index returns : ℕ) (answer₀ : List ℕ) (at : ℕ) (ws answer : List ℕ) (to i next : ℕ) : Type 0 where
   pub sofar : (s : Sheet) → Marked s ws₀ count index returns → SoFar s answer₀ at ws answer to i
   pub indexed : Indexed ws
+  pub covered : Covered ws
   pub marks : NoneAbove (2 * i) ws
   pub mid : i ≤ count
   pub number : next ≡ index + i
@@ -88,14 +90,15 @@ pub record Turned (ws₀ : List ℕ) (count index returns : ℕ) (answer₀ : Li
   pub same : length ws ≡ length ws₀
   pub buffer : length answer ≡ length answer₀
 
-pub turned-start : (ws : List ℕ) (count index returns : ℕ) (answer : List ℕ) (at : ℕ) → Indexed ws → NoneAbove 0 ws → Turned ws count index returns answer at ws answer at 0 index
-turned-start ws count index returns answer at indexed marks = record {
+pub turned-start : (ws : List ℕ) (count index returns : ℕ) (answer : List ℕ) (at : ℕ) → Indexed ws → Covered ws → NoneAbove 0 ws → Turned ws count index returns answer at ws answer at 0 index
+turned-start ws count index returns answer at indexed covered marks = record {
   sofar = λ s m. record {
     effects = [];
     after = after-as s (after-start s) (sym (m .state)) (sym (counts-none ws));
     wrote = wrote-none answer at;
   };
   indexed = indexed;
+  covered = covered;
   marks = above-more (omega arith) marks;
   mid = omega arith;
   number = omega arith;
@@ -196,7 +199,8 @@ module _ {ws₀ : List ℕ} {count index returns : ℕ} {answer₀ : List ℕ} {
   turned-turn sd f e = record {
     sofar = λ s d. sofar-next s d f (p .sofar s d);
     indexed = record { size = stored-size; good = subst Good (sym stored-rows) (p .indexed .good) };
-    marks = above-more (omega arith) (above-as (seen-below stored-kept (omega arith)) (mutated .1));
+    covered = covered-nodes ws₁ stored (rows-below stored-kept (omega arith)) (nodes-below stored-kept (omega arith)) (w .handing .covered);
+    marks = above-more (omega arith) (above-as (seen-below stored-kept (omega arith)) (rows-below stored-kept (omega arith)) (mutated .1));
     mid = omega arith;
     number = omega (arith, p .number);
     places = stored-places;
@@ -222,18 +226,20 @@ turned-end {ws₀} {count} {index} {returns} {answer₀} {at} {ws} {answer} {to}
     over s d = after-done s (omega (arith, ap (λ (l : List Place). length l) (d .places), tracked-length ws₀ count)) (p .sofar s d .after)
 
 -- ---- the same from the words before the marks were cleared
-module _ (ws : List ℕ) (indexed : Indexed ws) (l : List ℕ) (is : l ≡ clearW ws 2624 512) where
+module _ (ws : List ℕ) (indexed : Indexed ws) (l : List ℕ) (is : l ≡ clearW ws 2624 (getD ws 8322 0)) where
   u : Unmarked ws l
-  u = unmarked ws indexed l is
+  u = unmarked-nodes ws indexed l is
 
-  pub cleared-start : (count index returns : ℕ) (answer : List ℕ) (at : ℕ) → Turned l count index returns answer at l answer at 0 index
-  cleared-start count index returns answer at = turned-start l count index returns answer at (u .indexed) (unmarked-marks u)
+  pub cleared-start : (count index returns : ℕ) (answer : List ℕ) (at : ℕ) → Covered ws → Turned l count index returns answer at l answer at 0 index
+  cleared-start count index returns answer at covered =
+      turned-start l count index returns answer at (u .indexed) (covered-nodes ws l (u .aside .graph) (u .nodes) covered) (unmarked-none ws indexed l is)
 
   pub cleared-marked : (s : Sheet) {count index returns : ℕ} → Marked s ws count index returns → Marked s l count index returns
   cleared-marked s {count} d = record {
     places = d .places ∙ sym (tracked-kept ws l count (drop-more MUTATIONS TRACKED l ws (omega arith) (u .aside .behind)));
     identifier = d .identifier;
     state = u .state HANDED (omega arith) ∙ d .state;
+    covered = covered-nodes ws l (u .aside .graph) (u .nodes) (d .covered);
     first = d .first;
   }
 

@@ -22,6 +22,7 @@ use hir::EvaluationOrder;
 use hir::IdentifierId;
 use hir::Place;
 use rows::HANDED;
+use rows::NODES;
 use rows::SEEN;
 use rows::SIMULATED;
 use rows::clear;
@@ -64,7 +65,8 @@ pub fn simulate(
     requires { ⌜ (count ≤ 129) × ((index ≤ 4096) × (at + 133128 ≤ farthest)) ⌝ }
     ensures { λ r. ⌜ Simulates (now (ws .entry)) count index (returns .0) (now (answer .entry)) at (now (ws .exit)) (now (answer .exit)) r ⌝ }
 {
-    clear(ws, SEEN, 512);
+    let nodes = ws[NODES] as usize;
+    clear(ws, SEEN, nodes);
     let mut to = at;
     let mut i = 0;
     let mut next = index;

@@ -3,19 +3,18 @@ use Prim.Native.Nat.{ℕ, zero, suc, _+_, _*_, _≤_, _<_}
 use native.Mathlib.Omega.{arith}
 use mathlib.Core.Path.{_≡_, refl, sym, ap, _∙_}
 use mathlib.Core.List.{List, [], _∷_}
-use lib.ListN.{length, getD, drop, take}
-use lib.Seq.{slice, drop-cons, length-slice, length-take-le, getD-take}
+use lib.ListN.{length, getD, drop}
+use lib.Seq.{drop-cons}
 use Rattle.model.specs.Lists.{gather}
 use Rattle.model.specs.Sheet.{Identifier, EvaluationOrder}
 use Rattle.model.specs.Reading.{Position, Result, got, times}
 use Rattle.model.specs.Sections.{identifier}
 use Rattle.model.specs.Answer.{Range, rangesOf, rangeWords, section}
 use Rattle.model.proofs.Got.{times-step, times-done}
-use Rattle.rows.specs.Layout.{END, SEEN}
+use Rattle.rows.specs.Layout.{END}
 use Rattle.rows.specs.Graph.{tab}
-use Rattle.rows.proofs.Parts.{slice-at}
-use Rattle.rows.proofs.Tables.{tab-drop, tab-end}
-use Rattle.aliasing.specs.State.{nodesOf, endsOf}
+use Rattle.rows.proofs.Tables.{tab-length, tab-at, tab-drop, tab-end}
+use Rattle.aliasing.specs.State.{nodesOf, fieldAt, endsOf}
 use Rattle.writing.specs.Wrote.{Wrote}
 use Rattle.writing.proofs.Writing.{wrote-then, wrote-as}
 use Rattle.copies.proofs.Loops.{Leaves, leaves-all, table-turn, table-end}
@@ -23,13 +22,13 @@ use Rattle.copies.proofs.Identifiers.{identifier-is, identifiers-are}
 use Rattle.summary.specs.Ranges.{Ranges}
 
 -- ---- the ends in the words
-pub ends-length : (ws : List ℕ) → 16384 ≤ length ws → length (endsOf (nodesOf ws)) ≡ 512
-unfolding endsOf nodesOf
-ends-length ws h = let e : length (take SEEN ws) ≡ SEEN = length-take-le SEEN ws (omega (arith, h)) in length-slice END SEEN (take SEEN ws) (omega (arith, e))
+pub ends-length : (ws : List ℕ) → length (endsOf (nodesOf ws)) ≡ 512
+unfolding endsOf
+ends-length ws = tab-length 512 (fieldAt (nodesOf ws) END)
 
-pub end-word : (ws : List ℕ) (i : ℕ) → i < 512 → getD (endsOf (nodesOf ws)) i 0 ≡ getD ws (END + i) 0
-unfolding endsOf nodesOf
-end-word ws i h = slice-at END SEEN i (take SEEN ws) (omega (arith, h)) ∙ getD-take SEEN ws (END + i) 0 (omega (arith, h))
+pub end-word : (ws : List ℕ) (i : ℕ) → i < 512 → getD (endsOf (nodesOf ws)) i 0 ≡ fieldAt (nodesOf ws) END i
+unfolding endsOf
+end-word ws i h = tab-at 512 (fieldAt (nodesOf ws) END) i 0 h
 
 -- ---- as many ranges as identifiers
 times-count : (k : ℕ) (sheet : List ℕ) (c : Position) (l : List Identifier) (d : Position) → times k identifier sheet c ≡ got l d → length l ≡ k
@@ -46,12 +45,12 @@ ranges-count (i ∷ l) (e ∷ ends) h = ap suc (ranges-count l ends (omega (arit
 pub ranges-length : (n : ℕ) (sheet ws : List ℕ) → n ≤ 512 → 16384 ≤ length ws → (c : Position) (ids : List Identifier) (d : Position) → times n identifier sheet c ≡ got ids d → length (rangesOf ids (endsOf (nodesOf ws))) ≡ n
 ranges-length n sheet ws b h c ids d g =
     let k : length ids ≡ n = times-count n sheet c ids d g in
-    ranges-count ids (endsOf (nodesOf ws)) (omega (arith, k, b, ends-length ws h)) ∙ k
+    ranges-count ids (endsOf (nodesOf ws)) (omega (arith, k, b, ends-length ws)) ∙ k
 
 -- ---- the ranges as they stand
 module _ (sheet : List ℕ) (c : Position) (n : ℕ) (ws : List ℕ) where
   abbrev pub rangeAt : ℕ → Range
-  rangeAt i = record { start = getD sheet (c + 3 * i) 0; end = getD ws (END + i) 0 }
+  rangeAt i = record { start = getD sheet (c + 3 * i) 0; end = fieldAt (nodesOf ws) END i }
 
   abbrev pub rangesAt : List Range
   rangesAt = tab n rangeAt
@@ -72,7 +71,7 @@ module _ (sheet : List ℕ) (c : Position) (n : ℕ) (ws : List ℕ) where
         ap (λ (j : ℕ). rangesOf (s .tail) (drop j ends)) (sym one)
         ∙ ranges-from k (i + 1) (omega (arith, e)) (s .next) (omega (arith, x .next, q)) (s .tail) d (s .rest) in
         ap (λ (r : List Identifier). rangesOf r (drop i ends)) (s .whole)
-        ∙ ap (λ (r : List ℕ). rangesOf (s .head ∷ s .tail) r) (drop-cons ends i 0 (omega (arith, e, b, ends-length ws h)))
+        ∙ ap (λ (r : List ℕ). rangesOf (s .head ∷ s .tail) r) (drop-cons ends i 0 (omega (arith, e, b, ends-length ws)))
         ∙ (λ j. record { start = start j; end = end-word ws i (omega (arith, e, b)) j } ∷ rest j)
         ∙ sym (tab-drop n rangeAt i (omega (arith, e)))
 
@@ -96,7 +95,7 @@ module _ (sheet : List ℕ) (c : Position) (n : ℕ) (ws : List ℕ) where
   starting-start a at = record { leaves = leaves-all (gather rangeWords rangesAt) a at; next = omega arith; same = refl }
 
   module _ {a₀ : List ℕ} {at₀ i : ℕ} {a : List ℕ} {at : ℕ} (v : Starting a₀ at₀ i a at) where
-    pub starting-turn : i < n → {a₁ a₂ : List ℕ} {at₁ at₂ : ℕ} → Wrote (getD sheet (c + 3 * i) 0 ∷ []) a at a₁ at₁ → Wrote (getD ws (END + i) 0 ∷ []) a₁ at₁ a₂ at₂
+    pub starting-turn : i < n → {a₁ a₂ : List ℕ} {at₁ at₂ : ℕ} → Wrote (getD sheet (c + 3 * i) 0 ∷ []) a at a₁ at₁ → Wrote (fieldAt (nodesOf ws) END i ∷ []) a₁ at₁ a₂ at₂
         → length a₁ ≡ length a → length a₂ ≡ length a₁ → Starting a₀ at₀ (i + 1) a₂ at₂
     starting-turn h p q e f = record {
       leaves = table-turn rangeWords n rangeAt i (v .leaves) h (wrote-then p q);

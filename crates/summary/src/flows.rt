@@ -10,6 +10,7 @@ ghost use Rattle.hir.specs.Says.{placeIs};
 ghost use Rattle.writing.specs.Wrote.{farthest};
 ghost use Rattle.summary.specs.Sections.{Flow, Flows};
 use crate::tracked::tracked;
+use aliasing::field;
 use copies::put_effect;
 use hir::AliasingEffect;
 use hir::EffectKind;
@@ -51,7 +52,7 @@ fn put_flow(
         return at;
     }
     let k = x.0 as usize;
-    if ws[RECORD + k] / 32 == index {
+    if field(ws, RECORD, k) / 32 == index {
         let e = AliasingEffect {
             kind: flow_kind(y, returns),
             first: from,

@@ -4,6 +4,7 @@ ghost use Prim.Native.Nat.{ℕ, _+_, _*_, _≤_, _<_};
 ghost use lib.ListN.{length};
 ghost use Rattle.writing.specs.Wrote.{farthest};
 ghost use Rattle.summary.specs.Ranges.{Ranges};
+use aliasing::field;
 use hir::Cursor;
 use rows::END;
 use writing::put;
@@ -35,7 +36,7 @@ pub fn put_ranges(
     let mut i = 0;
     while i < count {
         let next = put(answer, to, sheet[from + 3 * i]);
-        to = put(answer, next, ws[END + i]);
+        to = put(answer, next, field(ws, END, i));
         i += 1;
     }
     to

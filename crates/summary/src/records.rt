@@ -13,6 +13,7 @@ ghost use Rattle.writing.specs.Wrote.{Wrote, farthest};
 ghost use Rattle.summary.specs.Records.{levelEffects, Collected};
 ghost use Rattle.summary.specs.Tracked.{trackedFrom};
 use crate::tracked::tracked;
+use aliasing::field;
 use copies::NO_PLACE;
 use copies::put_effect;
 use hir::AliasingEffect;
@@ -84,7 +85,7 @@ pub fn collect_param_effects(ws: &[u32], p: Place, answer: &mut [u32], at: usize
         reactive: p.reactive,
         span: ws[TSPAN + x],
     };
-    let w = ws[RECORD + x];
+    let w = field(ws, RECORD, x);
     let to = put_record(
         answer,
         at,

@@ -10,6 +10,7 @@ ghost use Rattle.writing.specs.Wrote.{farthest};
 ghost use Rattle.summary.specs.Records.{Holds};
 ghost use Rattle.summary.specs.Tracked.{trackedAt, Tracks, Marks};
 ghost use Rattle.summary.specs.Sections.{Marked};
+use aliasing::field;
 use copies::put_place;
 use hir::Effect;
 use hir::IdentifierId;
@@ -57,7 +58,7 @@ fn has_record(ws: &[u32], x: usize) -> bool
     requires { ⌜ (x < 512) × (16384 ≤ length (now ws)) ⌝ }
     ensures { λ r. ⌜ r ≡ hasRecord (recordAt (nodesOf (now (ws .entry))) x) ⌝ }
 {
-    ws[RECORD + x] % 16 != 0
+    field(ws, RECORD, x) % 16 != 0
 }
 
 // The place with the Capture mark, if its identifier has a record.

@@ -1,4 +1,4 @@
-use Rattle.aliasing.proofs.Steps.{step-seen, step-missing, step-room, step-used, step-accepted}
+use Rattle.aliasing.proofs.Steps.{step-seen, step-beyond, step-missing, step-room, step-used, step-accepted}
 use lib.ListN.{length-set}
 use mathlib.Core.Path.{_∙_}
 use native.Mathlib.Omega.{arith}
@@ -40,15 +40,23 @@ returns c =
     let b3 = c .before .before .before in
     let b4 = b3 .before in step-seen (b4 .args .m) (b4 .args .base) (b4 .args .ws .now) (b4 .args .top) (b4 .args .hand) (b4 .pre .0) (b4 .pre .1 .0) (b4 .pre .1 .1) (c .if1 .taken)
 
+slice-read-if2 : tie.Need-slice-read-if2
+slice-read-if2 c = omega arith
+
+returns-2 : tie.Need-returns-2
+returns-2 c =
+    let b6 = c .before .before .before .before .before .before in
+    step-beyond (b6 .args .m) (b6 .args .base) (b6 .args .ws .now) (b6 .args .top) (b6 .args .hand) (b6 .pre .0) (b6 .pre .1 .0) (b6 .pre .1 .1) (c .if2 .taken)
+
 add-ws : tie.Need-add-ws
 add-ws c =
-    let b4 = c .before .before .before .before in
-    omega (arith, b4 .pre .0 .few)
+    let b6 = c .before .before .before .before .before .before in
+    omega (arith, b6 .pre .0 .few)
 
 add-ws-2 : tie.Need-add-ws-2
 add-ws-2 c =
-    let b4 = c .before .before .before .before in
-    omega (arith, b4 .pre .0 .few)
+    let b6 = c .before .before .before .before .before .before in
+    omega (arith, b6 .pre .0 .few)
 
 add-ws-3 : tie.Need-add-ws-3
 add-ws-3 c = omega arith
@@ -59,28 +67,28 @@ mul-ws c = omega arith
 slice-write-ws : tie.Need-slice-write-ws
 slice-write-ws c = omega arith
 
-add-if2 : tie.Need-add-if2
-add-if2 c = omega arith
+add-if3 : tie.Need-add-if3
+add-if3 c = omega arith
 
-mul-if2 : tie.Need-mul-if2
-mul-if2 c = omega arith
+mul-if3 : tie.Need-mul-if3
+mul-if3 c = omega arith
 
-slice-read-if2 : tie.Need-slice-read-if2
-slice-read-if2 c = simp length-set (omega arith)
+slice-read-if3 : tie.Need-slice-read-if3
+slice-read-if3 c = simp length-set (omega arith)
 
 same-length : tie.Need-same-length
 same-length c = search needs
 
-returns-2 : tie.Need-returns-2
-returns-2 c =
-    let b5 = c .before .before .before .before .before in
-    let b6 = b5 .before in step-missing (b6 .args .m) (b6 .args .base) (b6 .args .ws .now) (b6 .args .top) (b6 .args .hand) (b6 .pre .0) (b6 .pre .1 .0) (b6 .pre .1 .1) (c .before .before .if1 .left) (c .if2 .taken)
+returns-3 : tie.Need-returns-3
+returns-3 c =
+    let b4 = c .before .before .before .before in
+    let b8 = b4 .before .before .before .before in
+    step-missing (b8 .args .m) (b8 .args .base) (b8 .args .ws .now) (b8 .args .top) (b8 .args .hand) (b8 .pre .0) (b8 .pre .1 .0) (b8 .pre .1 .1) (b4 .if1 .left) (c .before .before .if2 .left) (c .if3 .taken)
 
 record-errors-requires : tie.Need-record-errors-requires
 record-errors-requires c κs =
-    let b6 = c .before .before .before .before .before .before in
-    let b7 = b6 .before in
-    (omega arith, (simp length-set (omega arith), omega (arith, b7 .pre .0 .handing .room)))
+    let b9 = c .before .before .before .before .before .before .before .before .before in
+    (omega arith, (simp length-set (omega arith), omega (arith, b9 .pre .0 .handing .room)))
 
 add-accept : tie.Need-add-accept
 add-accept c = omega arith
@@ -88,8 +96,8 @@ add-accept c = omega arith
 accept-requires : tie.Need-accept-requires
 accept-requires c κs =
     let b3 = c .before .before .before in
-    let b11 = b3 .before .before .before .before .before .before .before .before in
-    ((omega arith, (omega (arith, simp length-set at (b3 .record-errors .kept .0)), omega arith)), b11 .pre .1 .0)
+    let b13 = b3 .before .before .before .before .before .before .before .before .before .before in
+    ((omega arith, (omega (arith, simp length-set at (b3 .record-errors .kept .0)), omega arith)), b13 .pre .1 .0)
 
 push-all-requires : tie.Need-push-all-requires
 push-all-requires c κs =
@@ -97,8 +105,9 @@ push-all-requires c κs =
     let b7 = b3 .before .before .before .before in
     let b9 = b7 .before .before in
     let b11 = b9 .before .before in
-    let b15 = b11 .before .before .before .before in
-    (step-room (b15 .args .m) (b15 .args .base) (b15 .args .ws .now) (b15 .args .top) (b15 .args .hand) (b15 .pre .0) (b15 .pre .1 .0) (b15 .pre .1 .1) (b11 .if1 .left) (b7 .record-errors .last .0) (b7 .record-errors .result) (b7 .record-errors .ensures) (b3 .accept .last .0) (b3 .accept .ensures), (omega arith, (omega arith, (omega arith, step-used (b15 .args .m) (b15 .args .base) (b15 .args .ws .now) (b15 .args .top) (b15 .args .hand) (b15 .pre .0) (b15 .pre .1 .0) (b15 .pre .1 .1) (b11 .if1 .left) (b7 .record-errors .last .0) (b7 .record-errors .result) (b7 .record-errors .ensures) (b3 .accept .last .0) (b3 .accept .ensures) (b9 .if2 .left)))))
+    let b13 = b11 .before .before in
+    let b17 = b13 .before .before .before .before in
+    (step-room (b17 .args .m) (b17 .args .base) (b17 .args .ws .now) (b17 .args .top) (b17 .args .hand) (b17 .pre .0) (b17 .pre .1 .0) (b17 .pre .1 .1) (b13 .if1 .left) (b11 .if2 .left) (b7 .record-errors .last .0) (b7 .record-errors .result) (b7 .record-errors .ensures) (b3 .accept .last .0) (b3 .accept .ensures), (omega arith, (omega arith, (omega arith, step-used (b17 .args .m) (b17 .args .base) (b17 .args .ws .now) (b17 .args .top) (b17 .args .hand) (b17 .pre .0) (b17 .pre .1 .0) (b17 .pre .1 .1) (b13 .if1 .left) (b11 .if2 .left) (b7 .record-errors .last .0) (b7 .record-errors .result) (b7 .record-errors .ensures) (b3 .accept .last .0) (b3 .accept .ensures) (b9 .if3 .left)))))
 
 same-length-2 : tie.Need-same-length-2
 same-length-2 c =
@@ -106,14 +115,15 @@ same-length-2 c =
     let b6 = b5 .before in
     let b10 = b6 .before .before .before .before in c .before .before .push-all .kept .0 ∙ b6 .accept .kept .0 ∙ b10 .record-errors .kept .0 ∙ simp length-set
 
-returns-3 : tie.Need-returns-3
-returns-3 c =
-    let b5 = c .before .before .before .before .before in
-    let b6 = b5 .before in
+returns-4 : tie.Need-returns-4
+returns-4 c =
+    let b6 = c .before .before .before .before .before .before in
     let b10 = b6 .before .before .before .before in
     let b12 = b10 .before .before in
     let b14 = b12 .before .before in
-    let b18 = b14 .before .before .before .before in step-accepted (b18 .args .m) (b18 .args .base) (b18 .args .ws .now) (b18 .args .top) (b18 .args .hand) (b18 .pre .0) (b18 .pre .1 .0) (b18 .pre .1 .1) (b14 .if1 .left) (b10 .record-errors .last .0) (b10 .record-errors .result) (b10 .record-errors .ensures) (b6 .accept .last .0) (b6 .accept .ensures) (b12 .if2 .left) (c .before .before .push-all .last .0) (c .before .before .push-all .result) (c .before .before .push-all .ensures)
+    let b16 = b14 .before .before in
+    let b20 = b16 .before .before .before .before in
+    step-accepted (b20 .args .m) (b20 .args .base) (b20 .args .ws .now) (b20 .args .top) (b20 .args .hand) (b20 .pre .0) (b20 .pre .1 .0) (b20 .pre .1 .1) (b16 .if1 .left) (b14 .if2 .left) (b10 .record-errors .last .0) (b10 .record-errors .result) (b10 .record-errors .ensures) (b6 .accept .last .0) (b6 .accept .ensures) (b12 .if3 .left) (c .before .before .push-all .last .0) (c .before .before .push-all .result) (c .before .before .push-all .ensures)
 
 pub step-spec : {M : Type 1} → statement M
 step-spec =
@@ -128,19 +138,21 @@ step-spec =
     mul-if1
     slice-read-if1
     returns
+    slice-read-if2
+    returns-2
     add-ws
     add-ws-2
     add-ws-3
     mul-ws
     slice-write-ws
-    add-if2
-    mul-if2
-    slice-read-if2
+    add-if3
+    mul-if3
+    slice-read-if3
     same-length
-    returns-2
+    returns-3
     record-errors-requires
     add-accept
     accept-requires
     push-all-requires
     same-length-2
-    returns-3)
+    returns-4)

@@ -16,7 +16,7 @@ same-length c = omega arith
 returns : tie.Need-returns
 returns c =
     let b5 = c .before .before .before .before .before in
-    started _ _ (b5 .pre) (c .before .before .clear .ensures) _ (omega arith)
+    started _ _ (b5 .pre) _ (omega arith) (c .before .before .clear .ensures)
 
 pub start-spec : {M : Type 1} → statement M
 start-spec = tie.close (tie.spec clear-requires same-length returns)

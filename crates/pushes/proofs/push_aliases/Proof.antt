@@ -4,8 +4,8 @@ use mathlib.Core.List.{List}
 use mathlib.Core.Path.{sym, ap, subst, _∙_}
 use Rattle.rows.specs.Rows.{rowB, rowsOf}
 use Rattle.pushes.specs.Pushes.{entriesW, Pushed, wordsB, blockedW}
-use Rattle.rows.proofs.Rows.{value-at, rows-length}
-use Rattle.pushes.proofs.Pushes.{room-then, room-less, pushed-used, pushed-on, pushed-none, aliases-open, aliases-shut}
+use Rattle.rows.proofs.Rows.{rows-length}
+use Rattle.pushes.proofs.Pushes.{value-used, room-then, room-less, pushed-used, pushed-on, pushed-none, aliases-open, aliases-shut}
 use Rattle.pushes.proofs.Sizes.{list-le}
 use borrow.Author.Needs.{needs}
 use Rattle.pushes.proofs.push_aliases.Statement.{statement}
@@ -31,7 +31,7 @@ returns : tie.Need-returns
 returns c =
     let b3 = c .before .before .before in
     let s = b3 .before in
-    let g = rowsOf (s .args .ws .now) in subst (λ (vs : List ℕ). Pushed (s .args .ws .now) (s .args .top) vs (s .args .ws .now) (s .args .top)) (aliases-shut g (s .args .x) (s .args .direction) (s .args .index) (s .args .transitive) (s .args .kind) (ap (λ (v : ℕ). blockedW v (s .args .direction)) (value-at (s .args .ws .now) (s .pre .0 .size) (s .args .x) (s .pre .1 .0)) ∙ sym (c .before .blocked .ensures) ∙ c .if1 .taken)) (pushed-none (s .args .ws .now) (s .args .top))
+    let g = rowsOf (s .args .ws .now) in subst (λ (vs : List ℕ). Pushed (s .args .ws .now) (s .args .top) vs (s .args .ws .now) (s .args .top)) (aliases-shut g (s .args .x) (s .args .direction) (s .args .index) (s .args .transitive) (s .args .kind) (ap (λ (v : ℕ). blockedW v (s .args .direction)) (value-used (s .args .ws .now) (s .pre .0 .size) (s .args .x) (s .pre .1 .1 .1 .1)) ∙ sym (c .before .blocked .ensures) ∙ c .if1 .taken)) (pushed-none (s .args .ws .now) (s .args .top))
 
 mul-push-list : tie.Need-mul-push-list
 mul-push-list c = omega arith
@@ -71,7 +71,7 @@ returns-2 c =
     let b11 = b9 .before .before in
     let s = b11 .before in
     let a = s .args in
-    let g = rowsOf (a .ws .now) in subst (λ (vs : List ℕ). Pushed (a .ws .now) (a .top) vs (c .before .before .push-list2 .last .0) (c .before .before .push-list2 .result)) (aliases-open g (a .x) (a .direction) (a .index) (a .transitive) (a .kind) (ap (λ (v : ℕ). blockedW v (a .direction)) (value-at (a .ws .now) (s .pre .0 .size) (a .x) (s .pre .1 .0)) ∙ sym (b9 .blocked .ensures) ∙ b8 .if1 .left)) (pushed-on (λ g. entriesW (a .index) (a .transitive) 0 (rowB g (4 * a .x + 2))) (s .pre .0 .low) (b6 .push-list .ensures) (c .before .before .push-list2 .ensures))
+    let g = rowsOf (a .ws .now) in subst (λ (vs : List ℕ). Pushed (a .ws .now) (a .top) vs (c .before .before .push-list2 .last .0) (c .before .before .push-list2 .result)) (aliases-open g (a .x) (a .direction) (a .index) (a .transitive) (a .kind) (ap (λ (v : ℕ). blockedW v (a .direction)) (value-used (a .ws .now) (s .pre .0 .size) (a .x) (s .pre .1 .1 .1 .1)) ∙ sym (b9 .blocked .ensures) ∙ b8 .if1 .left)) (pushed-on (λ g. entriesW (a .index) (a .transitive) 0 (rowB g (4 * a .x + 2))) (s .pre .0 .low) (b6 .push-list .ensures) (c .before .before .push-list2 .ensures))
 
 pub push-aliases-spec : {M : Type 1} → statement M
 push-aliases-spec =

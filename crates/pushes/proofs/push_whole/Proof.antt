@@ -27,7 +27,7 @@ slice-read-blocked : tie.Need-slice-read-blocked
 slice-read-blocked c =
     let b3 = c .before .before .before in
     let b6 = b3 .before .before .before in
-    omega (arith, run-room (b6 .args .ws .now) (b6 .args .top) (b6 .args .x) (b6 .args .direction) (b6 .args .index) (b6 .pre .0) (b6 .pre .1 .0) (b3 .push-edges .last .0) (b3 .push-edges .result) (b3 .push-edges .ensures))
+    omega (arith, run-room (b6 .args .ws .now) (b6 .args .top) (b6 .args .x) (b6 .args .direction) (b6 .args .index) (b6 .pre .0) (b6 .pre .1 .0) (b6 .pre .1 .1) (b3 .push-edges .last .0) (b3 .push-edges .result) (b3 .push-edges .ensures))
 
 blocked-requires : tie.Need-blocked-requires
 blocked-requires c κs = search needs
@@ -56,7 +56,7 @@ push-list-requires-2 c κs =
     let b6 = b5 .before in
     let b10 = b6 .before .before .before .before in
     let b13 = b10 .before .before .before in (
-      shut-room (b13 .args .ws .now) (b13 .args .top) (b13 .args .x) (b13 .args .direction) (b13 .args .index) (b13 .pre .0) (b13 .pre .1 .0) (b10 .push-edges .last .0) (b10 .push-edges .result) (b10 .push-edges .ensures) (sym (b6 .blocked .ensures)
+      shut-room (b13 .args .ws .now) (b13 .args .top) (b13 .args .x) (b13 .args .direction) (b13 .args .index) (b13 .pre .0) (b13 .pre .1 .0) (b13 .pre .1 .1) (b10 .push-edges .last .0) (b10 .push-edges .result) (b10 .push-edges .ensures) (sym (b6 .blocked .ensures)
           ∙ b5 .if1 .taken) (b3 .push-list .last .0) (b3 .push-list .result) (b3 .push-list .ensures),
       (
         omega (arith, b13 .pre),
@@ -67,7 +67,7 @@ push-list-requires-2 c κs =
             omega (
               arith,
               b13 .pre,
-              shut-used (b13 .args .ws .now) (b13 .args .top) (b13 .args .x) (b13 .args .direction) (b13 .args .index) (b13 .pre .0) (b13 .pre .1 .0) (b10 .push-edges .last .0) (b10 .push-edges .result) (b10 .push-edges .ensures) (sym (b6 .blocked .ensures)
+              shut-used (b13 .args .ws .now) (b13 .args .top) (b13 .args .x) (b13 .args .direction) (b13 .args .index) (b13 .pre .0) (b13 .pre .1 .0) (b13 .pre .1 .1) (b10 .push-edges .last .0) (b10 .push-edges .result) (b10 .push-edges .ensures) (sym (b6 .blocked .ensures)
                   ∙ b5 .if1 .taken) (b3 .push-list .last .0) (b3 .push-list .result) (b3 .push-list .ensures),
             ),
           ),
@@ -85,7 +85,7 @@ returns c =
     let b9 = b8 .before in
     let b13 = b9 .before .before .before .before in
     let b16 = b13 .before .before .before in
-    shut-pushed (b16 .args .ws .now) (b16 .args .top) (b16 .args .x) (b16 .args .direction) (b16 .args .index) (b16 .pre .0) (b16 .pre .1 .0) (b13 .push-edges .last .0) (b13 .push-edges .result) (b13 .push-edges .ensures) (sym (b9 .blocked .ensures)
+    shut-pushed (b16 .args .ws .now) (b16 .args .top) (b16 .args .x) (b16 .args .direction) (b16 .args .index) (b16 .pre .0) (b16 .pre .1 .0) (b16 .pre .1 .1) (b13 .push-edges .last .0) (b13 .push-edges .result) (b13 .push-edges .ensures) (sym (b9 .blocked .ensures)
     ∙ b8 .if1 .taken) (b6 .push-list .last .0) (b6 .push-list .result) (b6 .push-list .ensures) (c .before .before .push-list2 .last .0) (c .before .before .push-list2 .result) (c .before .before .push-list2 .ensures)
 
 slice-read-wide : tie.Need-slice-read-wide
@@ -113,7 +113,7 @@ sub-lo : tie.Need-sub-lo
 sub-lo c =
     let b9 = c .before .before .before .before .before .before .before .before .before in
     let b12 = b9 .before .before .before in
-    omega (arith, run-bounds (b12 .args .ws .now) (b12 .args .top) (b12 .args .x) (b12 .args .direction) (b12 .args .index) (b12 .pre .0) (b12 .pre .1 .0) (b9 .push-edges .last .0) (b9 .push-edges .result) (b9 .push-edges .ensures) (b12 .pre .1 .1))
+    omega (arith, run-bounds (b12 .args .ws .now) (b12 .args .top) (b12 .args .x) (b12 .args .direction) (b12 .args .index) (b12 .pre .0) (b12 .pre .1 .0) (b12 .pre .1 .1) (b9 .push-edges .last .0) (b9 .push-edges .result) (b9 .push-edges .ensures))
 
 mul-wide-3 : tie.Need-mul-wide-3
 mul-wide-3 c = omega arith
@@ -137,19 +137,19 @@ sub-hi : tie.Need-sub-hi
 sub-hi c =
     let b11 = c .before .before .before .before .before .before .before .before .before .before .before in
     let b14 = b11 .before .before .before in
-    omega (arith, run-bounds (b14 .args .ws .now) (b14 .args .top) (b14 .args .x) (b14 .args .direction) (b14 .args .index) (b14 .pre .0) (b14 .pre .1 .0) (b11 .push-edges .last .0) (b11 .push-edges .result) (b11 .push-edges .ensures) (b14 .pre .1 .1))
+    omega (arith, run-bounds (b14 .args .ws .now) (b14 .args .top) (b14 .args .x) (b14 .args .direction) (b14 .args .index) (b14 .pre .0) (b14 .pre .1 .0) (b14 .pre .1 .1) (b11 .push-edges .last .0) (b11 .push-edges .result) (b11 .push-edges .ensures))
 
 add-push-entries : tie.Need-add-push-entries
 add-push-entries c =
     let b12 = c .before .before .before .before .before .before .before .before .before .before .before .before in
     let b15 = b12 .before .before .before in
-    omega (arith, run-bounds (b15 .args .ws .now) (b15 .args .top) (b15 .args .x) (b15 .args .direction) (b15 .args .index) (b15 .pre .0) (b15 .pre .1 .0) (b12 .push-edges .last .0) (b12 .push-edges .result) (b12 .push-edges .ensures) (b15 .pre .1 .1))
+    omega (arith, run-bounds (b15 .args .ws .now) (b15 .args .top) (b15 .args .x) (b15 .args .direction) (b15 .args .index) (b15 .pre .0) (b15 .pre .1 .0) (b15 .pre .1 .1) (b12 .push-edges .last .0) (b12 .push-edges .result) (b12 .push-edges .ensures))
 
 add-push-entries-2 : tie.Need-add-push-entries-2
 add-push-entries-2 c =
     let b12 = c .before .before .before .before .before .before .before .before .before .before .before .before in
     let b15 = b12 .before .before .before in
-    omega (arith, run-bounds (b15 .args .ws .now) (b15 .args .top) (b15 .args .x) (b15 .args .direction) (b15 .args .index) (b15 .pre .0) (b15 .pre .1 .0) (b12 .push-edges .last .0) (b12 .push-edges .result) (b12 .push-edges .ensures) (b15 .pre .1 .1))
+    omega (arith, run-bounds (b15 .args .ws .now) (b15 .args .top) (b15 .args .x) (b15 .args .direction) (b15 .args .index) (b15 .pre .0) (b15 .pre .1 .0) (b15 .pre .1 .1) (b12 .push-edges .last .0) (b12 .push-edges .result) (b12 .push-edges .ensures))
 
 push-entries-requires : tie.Need-push-entries-requires
 push-entries-requires c κs =
@@ -159,7 +159,7 @@ push-entries-requires c κs =
     let b15 = b12 .before .before .before in
     let lo : ℕ = b5 .wide .result - b3 .wide2 .result in
     let hi : ℕ = b5 .wide .result - c .before .wide3 .result in
-    let b = run-bounds (b15 .args .ws .now) (b15 .args .top) (b15 .args .x) (b15 .args .direction) (b15 .args .index) (b15 .pre .0) (b15 .pre .1 .0) (b12 .push-edges .last .0) (b12 .push-edges .result) (b12 .push-edges .ensures) (b15 .pre .1 .1) in run-fits (b15 .args .ws .now) (b15 .args .top) (b15 .args .x) (b15 .args .direction) (b15 .args .index) (b15 .pre .0) (b15 .pre .1 .0) (b12 .push-edges .last .0) (b12 .push-edges .result) (b12 .push-edges .ensures) lo hi (omega (arith, b)) (omega (arith, b)) (omega (arith, b)) (omega (arith, b))
+    let b = run-bounds (b15 .args .ws .now) (b15 .args .top) (b15 .args .x) (b15 .args .direction) (b15 .args .index) (b15 .pre .0) (b15 .pre .1 .0) (b15 .pre .1 .1) (b12 .push-edges .last .0) (b12 .push-edges .result) (b12 .push-edges .ensures) in run-fits (b15 .args .ws .now) (b15 .args .top) (b15 .args .x) (b15 .args .direction) (b15 .args .index) (b15 .pre .0) (b15 .pre .1 .0) (b15 .pre .1 .1) (b12 .push-edges .last .0) (b12 .push-edges .result) (b12 .push-edges .ensures) lo hi (omega (arith, b)) (omega (arith, b)) (omega (arith, b)) (omega (arith, b))
 
 same-length-2 : tie.Need-same-length-2
 same-length-2 c = omega arith
@@ -175,7 +175,7 @@ returns-2 c =
     let b18 = b15 .before .before .before in
     let lo : ℕ = b8 .wide .result - b6 .wide2 .result in
     let hi : ℕ = b8 .wide .result - b4 .wide3 .result in
-    let b = run-bounds (b18 .args .ws .now) (b18 .args .top) (b18 .args .x) (b18 .args .direction) (b18 .args .index) (b18 .pre .0) (b18 .pre .1 .0) (b15 .push-edges .last .0) (b15 .push-edges .result) (b15 .push-edges .ensures) (b18 .pre .1 .1) in run-pushed (b18 .args .ws .now) (b18 .args .top) (b18 .args .x) (b18 .args .direction) (b18 .args .index) (b18 .pre .0) (b18 .pre .1 .0) (b15 .push-edges .last .0) (b15 .push-edges .result) (b15 .push-edges .ensures) (sym (b11 .blocked .ensures) ∙ b10 .if1 .left) lo hi (omega (arith, b)) (omega (arith, b)) (c .before .before .push-entries .last .0) (c .before .before .push-entries .result) (c .before .before .push-entries .ensures)
+    let b = run-bounds (b18 .args .ws .now) (b18 .args .top) (b18 .args .x) (b18 .args .direction) (b18 .args .index) (b18 .pre .0) (b18 .pre .1 .0) (b18 .pre .1 .1) (b15 .push-edges .last .0) (b15 .push-edges .result) (b15 .push-edges .ensures) in run-pushed (b18 .args .ws .now) (b18 .args .top) (b18 .args .x) (b18 .args .direction) (b18 .args .index) (b18 .pre .0) (b18 .pre .1 .0) (b18 .pre .1 .1) (b15 .push-edges .last .0) (b15 .push-edges .result) (b15 .push-edges .ensures) (sym (b11 .blocked .ensures) ∙ b10 .if1 .left) lo hi (omega (arith, b)) (omega (arith, b)) (c .before .before .push-entries .last .0) (c .before .before .push-entries .result) (c .before .before .push-entries .ensures)
 
 pub push-whole-spec : {M : Type 1} → statement M
 push-whole-spec =

@@ -8,103 +8,91 @@ use Rattle.renders.proofs.step.Tie as tie
 use Rattle.renders.proofs.step.Reads as reads
 use Rattle.renders.proofs.step.Lts as lts
 use Rattle.aliasing.proofs.append_function_errors.Reads as append-function-errors-reads
+use Rattle.aliasing.proofs.field.Reads as field-reads
 use Rattle.renders.proofs.passes_by.Reads as passes-by-reads
 use Rattle.renders.proofs.push_origins.Reads as push-origins-reads
+use Rattle.renders.proofs.value_of.Reads as value-of-reads
 
+-- src/lib.rt:66:13
 sub-t : tie.Need-sub-t
-sub-t c = omega arith
+sub-t c = search needs
 
+-- src/lib.rt:67:14
 mul-x : tie.Need-mul-x
-mul-x c = omega arith
+mul-x c = search needs
 
+-- src/lib.rt:67:14
 slice-read-x : tie.Need-slice-read-x
-slice-read-x c = omega arith
+slice-read-x c = search needs
 
+-- src/lib.rt:67:13
 cast-x : tie.Need-cast-x
-cast-x c = omega arith
+cast-x c = search needs
 
+-- src/lib.rt:68:15
 add-if1 : tie.Need-add-if1
-add-if1 c = omega arith
+add-if1 c = search needs
 
+-- src/lib.rt:68:12
 mul-if1 : tie.Need-mul-if1
-mul-if1 c = omega arith
+mul-if1 c = search needs
 
+-- src/lib.rt:68:12
 slice-read-if1 : tie.Need-slice-read-if1
-slice-read-if1 c = omega arith
+slice-read-if1 c = search needs
 
+-- src/lib.rt:69:9
 returns : tie.Need-returns
-returns c =
-    let b4 = c .before .before .before .before in
+returns c = let b4 = c .before .before .before .before in
     step-seen (b4 .args .index) (b4 .args .ws .now) (b4 .args .top) (b4 .args .hand) (b4 .pre .0) (b4 .pre .1) (c .if1 .taken)
 
+-- src/lib.rt:71:8
 add-ws : tie.Need-add-ws
-add-ws c = omega arith
+add-ws c = search needs
 
+-- src/lib.rt:71:5
 mul-ws : tie.Need-mul-ws
-mul-ws c = omega arith
+mul-ws c = search needs
 
+-- src/lib.rt:71:5
 slice-write-ws : tie.Need-slice-write-ws
-slice-write-ws c = omega arith
+slice-write-ws c = search needs
 
-add-passes-by : tie.Need-add-passes-by
-add-passes-by c = omega arith
+-- src/lib.rt:72:18
+value-of-requires : tie.Need-value-of-requires
+value-of-requires c κs = (omega arith, simp length-set (omega arith))
 
-mul-passes-by : tie.Need-mul-passes-by
-mul-passes-by c = omega arith
+-- src/lib.rt:72:35
+field-requires : tie.Need-field-requires
+field-requires c κs = (omega arith, simp length-set (omega arith))
 
-slice-read-passes-by : tie.Need-slice-read-passes-by
-slice-read-passes-by c = simp length-set (omega arith)
-
-add-passes-by-2 : tie.Need-add-passes-by-2
-add-passes-by-2 c = omega arith
-
-mul-passes-by-2 : tie.Need-mul-passes-by-2
-mul-passes-by-2 c = omega arith
-
-slice-read-passes-by-2 : tie.Need-slice-read-passes-by-2
-slice-read-passes-by-2 c = simp length-set (omega arith)
-
+-- src/lib.rt:72:8
 passes-by-requires : tie.Need-passes-by-requires
-passes-by-requires c κs = omega arith
+passes-by-requires c κs = search needs
 
+-- src/lib.rt:73:9
 same-length : tie.Need-same-length
 same-length c = search needs
 
+-- src/lib.rt:73:9
 returns-2 : tie.Need-returns-2
-returns-2 c =
-    let b4 = c .before .before .before .before in
-    let b8 = b4 .before .before .before .before in
-    step-passed (b8 .args .index) (b8 .args .ws .now) (b8 .args .top) (b8 .args .hand) (b8 .pre .0) (b8 .pre .1) (b4 .if1 .left) (sym (c .before .passes-by .ensures)
-    ∙ c .if2 .taken)
+returns-2 c = step-passed (c .before .before .before .before .before .before .before .before .before .before .args .index) (c .before .before .before .before .before .before .before .before .before .before .args .ws .now) (c .before .before .before .before .before .before .before .before .before .before .args .top) (c .before .before .before .before .before .before .before .before .before .before .args .hand) (c .before .before .before .before .before .before .before .before .before .before .pre .0) (c .before .before .before .before .before .before .before .before .before .before .pre .1) (c .before .before .before .before .before .before .if1 .left) (c .before .before .before .before .value-of .result) (c .before .before .before .before .value-of .ensures) (c .before .before .field .result) (c .before .before .field .ensures) (sym (c .before .passes-by .ensures) ∙ c .if2 .taken)
 
+-- src/lib.rt:75:9
 append-function-errors-requires : tie.Need-append-function-errors-requires
-append-function-errors-requires c κs =
-    let b9 = c .before .before .before .before .before .before .before .before .before in
-    (omega arith, (simp length-set (omega arith), omega (arith, b9 .pre .0 .room)))
+append-function-errors-requires c κs = (omega arith, (simp length-set (omega arith), omega (arith, c .before .before .before .before .before .before .before .before .before .before .before .pre .0 .room)))
 
+-- src/lib.rt:76:9
 push-origins-requires : tie.Need-push-origins-requires
-push-origins-requires c κs =
-    let b3 = c .before .before .before in
-    let b5 = b3 .before .before in
-    let b6 = b5 .before in
-    let b9 = b6 .before .before .before in
-    let b13 = b9 .before .before .before .before in
-    (step-room (b13 .args .index) (b13 .args .ws .now) (b13 .args .top) (b13 .args .hand) (b13 .pre .0) (b13 .pre .1) (b9 .if1 .left) (b3 .append-function-errors .last .0) (b3 .append-function-errors .result) (b3 .append-function-errors .ensures), (omega arith, step-used (b13 .args .index) (b13 .args .ws .now) (b13 .args .top) (b13 .args .hand) (b13 .pre .0) (b13 .pre .1) (b9 .if1 .left) (b3 .append-function-errors .last .0) (b3 .append-function-errors .result) (b3 .append-function-errors .ensures) (sym (b6 .passes-by .ensures) ∙ b5 .if2 .left)))
+push-origins-requires c κs = (step-room (c .before .before .before .before .before .before .before .before .before .before .before .before .before .before .before .args .index) (c .before .before .before .before .before .before .before .before .before .before .before .before .before .before .before .args .ws .now) (c .before .before .before .before .before .before .before .before .before .before .before .before .before .before .before .args .top) (c .before .before .before .before .before .before .before .before .before .before .before .before .before .before .before .args .hand) (c .before .before .before .before .before .before .before .before .before .before .before .before .before .before .before .pre .0) (c .before .before .before .before .before .before .before .before .before .before .before .before .before .before .before .pre .1) (c .before .before .before .before .before .before .before .before .before .before .before .if1 .left) (c .before .before .before .before .before .before .before .before .before .value-of .result) (c .before .before .before .before .before .before .before .before .before .value-of .ensures) (c .before .before .before .before .before .before .before .field .result) (c .before .before .before .before .before .before .before .field .ensures) (c .before .before .before .append-function-errors .last .0) (c .before .before .before .append-function-errors .result) (c .before .before .before .append-function-errors .ensures), (omega arith, step-used (c .before .before .before .before .before .before .before .before .before .before .before .before .before .before .before .args .index) (c .before .before .before .before .before .before .before .before .before .before .before .before .before .before .before .args .ws .now) (c .before .before .before .before .before .before .before .before .before .before .before .before .before .before .before .args .top) (c .before .before .before .before .before .before .before .before .before .before .before .before .before .before .before .args .hand) (c .before .before .before .before .before .before .before .before .before .before .before .before .before .before .before .pre .0) (c .before .before .before .before .before .before .before .before .before .before .before .before .before .before .before .pre .1) (c .before .before .before .before .before .before .before .before .before .before .before .if1 .left) (c .before .before .before .before .before .before .before .before .before .value-of .result) (c .before .before .before .before .before .before .before .before .before .value-of .ensures) (c .before .before .before .before .before .before .before .field .result) (c .before .before .before .before .before .before .before .field .ensures) (c .before .before .before .append-function-errors .last .0) (c .before .before .before .append-function-errors .result) (c .before .before .before .append-function-errors .ensures) (sym (c .before .before .before .before .before .before .passes-by .ensures) ∙ c .before .before .before .before .before .if2 .left)))
 
+-- src/lib.rt:61:1
 same-length-2 : tie.Need-same-length-2
-same-length-2 c =
-    let b6 = c .before .before .before .before .before .before in
-    c .before .before .push-origins .kept .0 ∙ b6 .append-function-errors .kept .0 ∙ simp length-set
+same-length-2 c = c .before .before .push-origins .kept .0 ∙ c .before .before .before .before .before .before .append-function-errors .kept .0 ∙ simp length-set
 
+-- src/lib.rt:61:1
 returns-3 : tie.Need-returns-3
-returns-3 c =
-    let b6 = c .before .before .before .before .before .before in
-    let b8 = b6 .before .before in
-    let b9 = b8 .before in
-    let b12 = b9 .before .before .before in
-    let b16 = b12 .before .before .before .before in
-    step-rendered (b16 .args .index) (b16 .args .ws .now) (b16 .args .top) (b16 .args .hand) (b16 .pre .0) (b16 .pre .1) (b12 .if1 .left) (b6 .append-function-errors .last .0) (b6 .append-function-errors .result) (b6 .append-function-errors .ensures) (sym (b9 .passes-by .ensures)
-    ∙ b8 .if2 .left) (c .before .before .push-origins .last .0) (c .before .before .push-origins .result) (c .before .before .push-origins .ensures)
+returns-3 c = step-rendered (c .before .before .before .before .before .before .before .before .before .before .before .before .before .before .before .before .before .before .args .index) (c .before .before .before .before .before .before .before .before .before .before .before .before .before .before .before .before .before .before .args .ws .now) (c .before .before .before .before .before .before .before .before .before .before .before .before .before .before .before .before .before .before .args .top) (c .before .before .before .before .before .before .before .before .before .before .before .before .before .before .before .before .before .before .args .hand) (c .before .before .before .before .before .before .before .before .before .before .before .before .before .before .before .before .before .before .pre .0) (c .before .before .before .before .before .before .before .before .before .before .before .before .before .before .before .before .before .before .pre .1) (c .before .before .before .before .before .before .before .before .before .before .before .before .before .before .if1 .left) (c .before .before .before .before .before .before .before .before .before .before .before .before .value-of .result) (c .before .before .before .before .before .before .before .before .before .before .before .before .value-of .ensures) (c .before .before .before .before .before .before .before .before .before .before .field .result) (c .before .before .before .before .before .before .before .before .before .before .field .ensures) (c .before .before .before .before .before .before .append-function-errors .last .0) (c .before .before .before .before .before .before .append-function-errors .result) (c .before .before .before .before .before .before .append-function-errors .ensures) (sym (c .before .before .before .before .before .before .before .before .before .passes-by .ensures) ∙ c .before .before .before .before .before .before .before .before .if2 .left) (c .before .before .push-origins .last .0) (c .before .before .push-origins .result) (c .before .before .push-origins .ensures)
 
 pub step-spec : {M : Type 1} → statement M
 step-spec =
@@ -121,12 +109,8 @@ step-spec =
     add-ws
     mul-ws
     slice-write-ws
-    add-passes-by
-    mul-passes-by
-    slice-read-passes-by
-    add-passes-by-2
-    mul-passes-by-2
-    slice-read-passes-by-2
+    value-of-requires
+    field-requires
     passes-by-requires
     same-length
     returns-2

@@ -1,22 +1,17 @@
-use Rattle.building.proofs.Writes.{room-then}
-use Rattle.building.proofs.Steps.{effect-creates, effect-assigns}
 use native.Mathlib.Omega.{arith}
+use Rattle.building.proofs.Writes.{node-there, node-missing, room-then}
+use Rattle.building.proofs.Steps.{effect-creates, effect-assigns}
 use borrow.Author.Needs.{needs}
 use Rattle.building.proofs.graph.assign.Statement.{statement}
 use Rattle.building.proofs.graph.assign.Tie as tie
 use Rattle.building.proofs.graph.assign.Reads as reads
 use Rattle.building.proofs.graph.assign.Lts as lts
 use Rattle.building.proofs.graph.create.Reads as create-reads
+use Rattle.building.proofs.graph.exists.Reads as exists-reads
 use Rattle.building.proofs.graph.store.Reads as store-reads
 
-add-if1 : tie.Need-add-if1
-add-if1 c = omega arith
-
-mul-if1 : tie.Need-mul-if1
-mul-if1 c = omega arith
-
-slice-read-if1 : tie.Need-slice-read-if1
-slice-read-if1 c = omega arith
+exists-requires : tie.Need-exists-requires
+exists-requires c κs = search needs
 
 create-requires : tie.Need-create-requires
 create-requires c κs = search needs
@@ -24,8 +19,8 @@ create-requires c κs = search needs
 store-requires : tie.Need-store-requires
 store-requires c κs =
     let b3 = c .before .before .before in
-    let b8 = b3 .before .before .before .before .before in
-    (room-then 1 1 (b8 .pre .0) (b3 .create .ensures), (b8 .pre .1 .0, (b8 .pre .1 .1 .0, (omega arith, b8 .pre .1 .1 .1))))
+    let b9 = b3 .before .before .before .before .before .before in
+    (room-then 1 1 (b9 .pre .0) (b3 .create .ensures), (b9 .pre .1 .0, (b9 .pre .1 .1 .0, (omega arith, b9 .pre .1 .1 .1))))
 
 same-length : tie.Need-same-length
 same-length c = omega arith
@@ -34,8 +29,9 @@ returns : tie.Need-returns
 returns c =
     let b6 = c .before .before .before .before .before .before in
     let b8 = b6 .before .before in
-    let b11 = b8 .before .before .before in
-    effect-creates _ _ _ (b11 .pre .1 .1 .0) _ _ (b8 .if1 .taken) (b6 .create .ensures) (c .before .before .store .ensures)
+    let b9 = b8 .before in
+    let b12 = b9 .before .before .before in
+    effect-creates _ _ _ _ _ (node-missing _ _ _ (b12 .pre .1 .1 .0) _ (b9 .exists .ensures) (b8 .if1 .taken)) (b6 .create .ensures) (c .before .before .store .ensures)
 
 store-requires-2 : tie.Need-store-requires-2
 store-requires-2 c κs = search needs
@@ -46,16 +42,15 @@ same-length-2 c = omega arith
 returns-2 : tie.Need-returns-2
 returns-2 c =
     let b4 = c .before .before .before .before in
-    let b7 = b4 .before .before .before in
-    effect-assigns _ _ _ (b7 .pre .1 .1 .0) _ _ (b4 .if1 .left) (c .before .before .store2 .ensures)
+    let b5 = b4 .before in
+    let b8 = b5 .before .before .before in
+    effect-assigns _ _ _ _ _ (node-there _ _ _ (b8 .pre .1 .1 .0) _ (b5 .exists .ensures) (b4 .if1 .left)) (c .before .before .store2 .ensures)
 
 pub assign-spec : {M : Type 1} → statement M
 assign-spec =
     tie.close
     (tie.spec
-    add-if1
-    mul-if1
-    slice-read-if1
+    exists-requires
     create-requires
     store-requires
     same-length

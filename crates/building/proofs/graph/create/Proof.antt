@@ -1,7 +1,7 @@
-use Rattle.rows.specs.Layout.{VALUE}
-use Rattle.building.proofs.Writes.{new-builds, again-builds}
-use lib.ListN.{length-set}
 use native.Mathlib.Omega.{arith}
+use Rattle.rows.specs.Layout.{VALUE}
+use Rattle.building.proofs.Writes.{create-new, create-again}
+use lib.ListN.{length-set}
 use Prim.Native.Nat.{_+_}
 use borrow.Author.Needs.{needs}
 use Rattle.building.proofs.graph.create.Statement.{statement}
@@ -37,9 +37,9 @@ same-length c = search needs
 
 returns : tie.Need-returns
 returns c =
-    let b2 = c .before .before in
-    let b4 = b2 .before .before in
-    new-builds _ _ _ _ (b4 .pre .0) (b4 .pre .1 .0) (b4 .pre .1 .1) _ (b2 .raise .ensures) (c .if1 .taken)
+    let b4 = c .before .before .before .before in
+    let b7 = b4 .before .before .before in
+    create-new _ _ _ _ (b7 .pre .0) (b7 .pre .1 .1) _ _ (b4 .raise .ensures) (c .if1 .taken)
 
 leave-requires : tie.Need-leave-requires
 leave-requires c κs = search needs
@@ -60,14 +60,15 @@ same-length-2 : tie.Need-same-length-2
 same-length-2 c =
     let b6 = c .before .before .before .before .before .before in
     let b12 = b6 .before .before .before .before .before .before in
-    omega (arith, length-set (c .before .before .leave2 .last .0) (VALUE + b12 .args .x) (b12 .args .value), c .before .before .leave2 .kept .0, b6 .leave .kept .0)
+    let b15 = b12 .before .before .before in
+    omega (arith, length-set (c .before .before .leave2 .last .0) (VALUE + b15 .args .x) (b15 .args .value), c .before .before .leave2 .kept .0, b6 .leave .kept .0, b12 .raise .kept .0)
 
 returns-2 : tie.Need-returns-2
 returns-2 c =
     let b6 = c .before .before .before .before .before .before in
-    let b10 = b6 .before .before .before .before in
-    let b12 = b10 .before .before in
-    again-builds _ _ _ _ (b12 .pre .0) (b12 .pre .1 .0) (b12 .pre .1 .1) _ _ (b6 .leave .ensures) _ _ (c .before .before .leave2 .ensures) _ (b10 .raise .ensures)
+    let b12 = b6 .before .before .before .before .before .before in
+    let b15 = b12 .before .before .before in
+    create-again _ _ _ _ (b15 .pre .0) (b15 .pre .1 .1) _ _ (b12 .raise .ensures) _ _ (b6 .leave .ensures) _ _ (c .before .before .leave2 .ensures)
 
 pub create-spec : {M : Type 1} → statement M
 create-spec =

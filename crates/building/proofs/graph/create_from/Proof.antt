@@ -1,11 +1,13 @@
-use Rattle.building.proofs.Steps.{alone-ready, from-ready, into-ready, from-missing, from-there}
 use native.Mathlib.Omega.{arith}
+use Rattle.building.proofs.Writes.{node-there, node-missing}
+use Rattle.building.proofs.Steps.{alone-ready, from-ready, into-ready, from-missing, from-there}
 use borrow.Author.Needs.{needs}
 use Rattle.building.proofs.graph.create_from.Statement.{statement}
 use Rattle.building.proofs.graph.create_from.Tie as tie
 use Rattle.building.proofs.graph.create_from.Reads as reads
 use Rattle.building.proofs.graph.create_from.Lts as lts
 use Rattle.building.proofs.graph.create.Reads as create-reads
+use Rattle.building.proofs.graph.exists.Reads as exists-reads
 use Rattle.building.proofs.logs.add_edge.Reads as add-edge-reads
 use Rattle.building.proofs.logs.add_entry.Reads as add-entry-reads
 use Rattle.building.proofs.logs.pack.Reads as pack-reads
@@ -16,21 +18,15 @@ create-requires c κs = search needs
 pack-requires : tie.Need-pack-requires
 pack-requires c κs = search needs
 
-add-if1 : tie.Need-add-if1
-add-if1 c = omega arith
-
-mul-if1 : tie.Need-mul-if1
-mul-if1 c = omega arith
-
-slice-read-if1 : tie.Need-slice-read-if1
-slice-read-if1 c = omega arith
+exists-requires : tie.Need-exists-requires
+exists-requires c κs = search needs
 
 add-entry-requires : tie.Need-add-entry-requires
 add-entry-requires c κs =
-    let b3 = c .before .before .before in
-    let b6 = b3 .before .before .before in
-    let b9 = b6 .before .before .before in
-    alone-ready _ _ _ _ (b9 .pre .1 .0) (b9 .pre .1 .1 .0) (b3 .pack .ensures) _ _ _ _ (b6 .create .ensures) (b9 .pre .0)
+    let b4 = c .before .before .before .before in
+    let b7 = b4 .before .before .before in
+    let b10 = b7 .before .before .before in
+    alone-ready _ _ _ _ (b10 .pre .1 .0) (b10 .pre .1 .1 .0) (b4 .pack .ensures) _ _ _ _ (b7 .create .ensures) (b10 .pre .0)
 
 same-length : tie.Need-same-length
 same-length c = omega arith
@@ -38,25 +34,26 @@ same-length c = omega arith
 returns : tie.Need-returns
 returns c =
     let b4 = c .before .before .before .before in
-    let b6 = b4 .before .before in
-    let b9 = b6 .before .before .before in
-    let b12 = b9 .before .before .before in
-    from-missing _ _ _ _ (b12 .pre .1 .0) (b12 .pre .1 .1 .0) (b6 .pack .ensures) _ _ _ _ (b9 .create .ensures) (b4 .if1 .taken) (c .before .before .add-entry .ensures)
+    let b5 = b4 .before in
+    let b7 = b5 .before .before in
+    let b10 = b7 .before .before .before in
+    let b13 = b10 .before .before .before in
+    from-missing _ _ _ _ (b13 .pre .1 .0) (b13 .pre .1 .1 .0) (b7 .pack .ensures) _ _ _ _ (b10 .create .ensures) (node-missing _ _ _ (b13 .pre .1 .0) _ (b5 .exists .ensures) (b4 .if1 .taken)) (c .before .before .add-entry .ensures)
 
 add-edge-requires : tie.Need-add-edge-requires
 add-edge-requires c κs =
-    let b3 = c .before .before .before in
-    let b6 = b3 .before .before .before in
-    let b9 = b6 .before .before .before in
-    from-ready _ _ _ _ (b9 .pre .1 .0) (b9 .pre .1 .1 .0) (b3 .pack .ensures) _ _ _ _ (b6 .create .ensures) (b9 .pre .0) (c .before .if1 .left)
+    let b4 = c .before .before .before .before in
+    let b7 = b4 .before .before .before in
+    let b10 = b7 .before .before .before in
+    from-ready _ _ _ _ (b10 .pre .1 .0) (b10 .pre .1 .1 .0) (b4 .pack .ensures) _ _ _ _ (b7 .create .ensures) (b10 .pre .0) (node-there _ _ _ (b10 .pre .1 .0) _ (c .before .before .exists .ensures) (c .before .if1 .left))
 
 add-entry-requires-2 : tie.Need-add-entry-requires-2
 add-entry-requires-2 c κs =
     let b3 = c .before .before .before in
-    let b7 = b3 .before .before .before .before in
-    let b10 = b7 .before .before .before in
-    let b13 = b10 .before .before .before in
-    into-ready _ _ _ _ (b13 .pre .1 .0) (b13 .pre .1 .1 .0) (b7 .pack .ensures) _ _ _ _ (b10 .create .ensures) (b13 .pre .0) (b3 .add-edge .ensures)
+    let b8 = b3 .before .before .before .before .before in
+    let b11 = b8 .before .before .before in
+    let b14 = b11 .before .before .before in
+    into-ready _ _ _ _ (b14 .pre .1 .0) (b14 .pre .1 .1 .0) (b8 .pack .ensures) _ _ _ _ (b11 .create .ensures) (b14 .pre .0) (b3 .add-edge .ensures)
 
 same-length-2 : tie.Need-same-length-2
 same-length-2 c = omega arith
@@ -64,10 +61,10 @@ same-length-2 c = omega arith
 returns-2 : tie.Need-returns-2
 returns-2 c =
     let b6 = c .before .before .before .before .before .before in
-    let b10 = b6 .before .before .before .before in
-    let b13 = b10 .before .before .before in
-    let b16 = b13 .before .before .before in
-    from-there _ _ _ _ (b16 .pre .1 .0) (b16 .pre .1 .1 .0) (b10 .pack .ensures) _ _ _ _ (b13 .create .ensures) (b6 .add-edge .ensures) (c .before .before .add-entry2 .ensures)
+    let b11 = b6 .before .before .before .before .before in
+    let b14 = b11 .before .before .before in
+    let b17 = b14 .before .before .before in
+    from-there _ _ _ _ (b17 .pre .1 .0) (b17 .pre .1 .1 .0) (b11 .pack .ensures) _ _ _ _ (b14 .create .ensures) (b6 .add-edge .ensures) (c .before .before .add-entry2 .ensures)
 
 pub create-from-spec : {M : Type 1} → statement M
 create-from-spec =
@@ -75,9 +72,7 @@ create-from-spec =
     (tie.spec
     create-requires
     pack-requires
-    add-if1
-    mul-if1
-    slice-read-if1
+    exists-requires
     add-entry-requires
     same-length
     returns
