@@ -12,6 +12,7 @@ use libc::STDIN_FILENO;
 use libc::STDOUT_FILENO;
 use rows::END;
 use rows::HANDED;
+use rows::KEPT;
 use rows::LSPAN;
 use rows::MUTATIONS;
 use rows::RECORD;
@@ -286,6 +287,7 @@ fn graph(graph: &[u32], ws: &mut [u32]) -> Tally
     }
     let identifiers = count_at(graph, ends);
     rows::clear(ws, RECORD, 2624);
+    ws[KEPT] = 512;
     put_ends(graph, ends + 1, identifiers, ws);
     let p = steps::lay_out_steps(&graph[1..ends], ws);
     walks(

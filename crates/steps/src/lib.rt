@@ -15,7 +15,9 @@ use hir::EvaluationOrder;
 use hir::FunctionId;
 use hir::IdentifierId;
 use rows::HANDED;
+use rows::KEPT;
 use rows::MUTATIONS;
+use rows::NODES;
 
 // What building leaves: how many mutations and renders are to come.
 #[repr(C)]
@@ -185,12 +187,15 @@ fn have_orders(ws: &[u32], count: usize) -> bool
     true
 }
 
-// The walks of the first `count` mutations: returned is where the functions handed over end. No walk if an order is out of range.
+// The walks of the first `count` mutations: returned is where the functions handed over end. No walk if an order is out of range, or fewer records are kept than there can be nodes.
 pub fn walk_mutations(ws: &mut [u32], count: usize, should_record_errors: bool) -> usize
     requires { ⌜ Indexed (now ws) ⌝ }
     requires { ⌜ count ≤ 512 ⌝ }
     ensures { λ r. ⌜ Walked (now (ws .entry)) (now (ws .exit)) r ⌝ }
 {
+    if ws[KEPT] < ws[NODES] {
+        return HANDED;
+    }
     if have_orders(ws, count) {
         return aliasing::process_mutations(ws, count, should_record_errors);
     }
