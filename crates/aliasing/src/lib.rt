@@ -174,11 +174,11 @@ fn step(ws: &mut [u32], top: usize, hand: usize, m: Mutation, base: u32) -> Next
     let e = ws[t];
     let x = (e % 512) as usize;
     let kind = e / 2048 % 2;
-    if base + kind < ws[SEEN + x] {
+    // From the limit on there is no node, and neither value nor mark is written.
+    if ws[NODES] <= e % 512 {
         return Next { top: t, hand: hand };
     }
-    // From the limit on there is no node, and no value is written.
-    if ws[NODES] <= e % 512 {
+    if base + kind < ws[SEEN + x] {
         return Next { top: t, hand: hand };
     }
     ws[SEEN + x] = base + kind + 1;
@@ -224,11 +224,11 @@ fn step_conditional(ws: &mut [u32], top: usize, hand: usize, m: Mutation, base: 
     let t = top - 1;
     let e = ws[t];
     let x = (e % 512) as usize;
-    if base < ws[SEEN + x] {
-        return Next { top: t, hand: hand };
-    }
     // As in `step`: from the limit on there is no node.
     if ws[NODES] <= e % 512 {
+        return Next { top: t, hand: hand };
+    }
+    if base < ws[SEEN + x] {
         return Next { top: t, hand: hand };
     }
     ws[SEEN + x] = base + 1;

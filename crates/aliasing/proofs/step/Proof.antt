@@ -23,22 +23,22 @@ slice-read-e c = omega arith
 cast-x : tie.Need-cast-x
 cast-x c = omega arith
 
-add-if1 : tie.Need-add-if1
-add-if1 c = omega (arith, c .before .before .pre .0 .few)
-
-add-if1-2 : tie.Need-add-if1-2
-add-if1-2 c = omega arith
-
-mul-if1 : tie.Need-mul-if1
-mul-if1 c = omega arith
-
 slice-read-if1 : tie.Need-slice-read-if1
 slice-read-if1 c = omega arith
 
 returns : tie.Need-returns
 returns c =
-    let b3 = c .before .before .before in
-    let b4 = b3 .before in step-seen (b4 .args .m) (b4 .args .base) (b4 .args .ws .now) (b4 .args .top) (b4 .args .hand) (b4 .pre .0) (b4 .pre .1 .0) (b4 .pre .1 .1) (c .if1 .taken)
+    let b4 = c .before .before .before .before in
+    step-beyond (b4 .args .m) (b4 .args .base) (b4 .args .ws .now) (b4 .args .top) (b4 .args .hand) (b4 .pre .0) (b4 .pre .1 .0) (b4 .pre .1 .1) (c .if1 .taken)
+
+add-if2 : tie.Need-add-if2
+add-if2 c = omega (arith, c .before .before .before .before .pre .0 .few)
+
+add-if2-2 : tie.Need-add-if2-2
+add-if2-2 c = omega arith
+
+mul-if2 : tie.Need-mul-if2
+mul-if2 c = omega arith
 
 slice-read-if2 : tie.Need-slice-read-if2
 slice-read-if2 c = omega arith
@@ -46,7 +46,7 @@ slice-read-if2 c = omega arith
 returns-2 : tie.Need-returns-2
 returns-2 c =
     let b6 = c .before .before .before .before .before .before in
-    step-beyond (b6 .args .m) (b6 .args .base) (b6 .args .ws .now) (b6 .args .top) (b6 .args .hand) (b6 .pre .0) (b6 .pre .1 .0) (b6 .pre .1 .1) (c .if2 .taken)
+    step-seen (b6 .args .m) (b6 .args .base) (b6 .args .ws .now) (b6 .args .top) (b6 .args .hand) (b6 .pre .0) (b6 .pre .1 .0) (b6 .pre .1 .1) (c .if2 .taken)
 
 add-ws : tie.Need-add-ws
 add-ws c =
@@ -83,7 +83,7 @@ returns-3 : tie.Need-returns-3
 returns-3 c =
     let b4 = c .before .before .before .before in
     let b8 = b4 .before .before .before .before in
-    step-missing (b8 .args .m) (b8 .args .base) (b8 .args .ws .now) (b8 .args .top) (b8 .args .hand) (b8 .pre .0) (b8 .pre .1 .0) (b8 .pre .1 .1) (b4 .if1 .left) (c .before .before .if2 .left) (c .if3 .taken)
+    step-missing (b8 .args .m) (b8 .args .base) (b8 .args .ws .now) (b8 .args .top) (b8 .args .hand) (b8 .pre .0) (b8 .pre .1 .0) (b8 .pre .1 .1) (c .before .before .if2 .left) (b4 .if1 .left) (c .if3 .taken)
 
 record-errors-requires : tie.Need-record-errors-requires
 record-errors-requires c κs =
@@ -107,7 +107,7 @@ push-all-requires c κs =
     let b11 = b9 .before .before in
     let b13 = b11 .before .before in
     let b17 = b13 .before .before .before .before in
-    (step-room (b17 .args .m) (b17 .args .base) (b17 .args .ws .now) (b17 .args .top) (b17 .args .hand) (b17 .pre .0) (b17 .pre .1 .0) (b17 .pre .1 .1) (b13 .if1 .left) (b11 .if2 .left) (b7 .record-errors .last .0) (b7 .record-errors .result) (b7 .record-errors .ensures) (b3 .accept .last .0) (b3 .accept .ensures), (omega arith, (omega arith, (omega arith, step-used (b17 .args .m) (b17 .args .base) (b17 .args .ws .now) (b17 .args .top) (b17 .args .hand) (b17 .pre .0) (b17 .pre .1 .0) (b17 .pre .1 .1) (b13 .if1 .left) (b11 .if2 .left) (b7 .record-errors .last .0) (b7 .record-errors .result) (b7 .record-errors .ensures) (b3 .accept .last .0) (b3 .accept .ensures) (b9 .if3 .left)))))
+    (step-room (b17 .args .m) (b17 .args .base) (b17 .args .ws .now) (b17 .args .top) (b17 .args .hand) (b17 .pre .0) (b17 .pre .1 .0) (b17 .pre .1 .1) (b11 .if2 .left) (b13 .if1 .left) (b7 .record-errors .last .0) (b7 .record-errors .result) (b7 .record-errors .ensures) (b3 .accept .last .0) (b3 .accept .ensures), (omega arith, (omega arith, (omega arith, step-used (b17 .args .m) (b17 .args .base) (b17 .args .ws .now) (b17 .args .top) (b17 .args .hand) (b17 .pre .0) (b17 .pre .1 .0) (b17 .pre .1 .1) (b11 .if2 .left) (b13 .if1 .left) (b7 .record-errors .last .0) (b7 .record-errors .result) (b7 .record-errors .ensures) (b3 .accept .last .0) (b3 .accept .ensures) (b9 .if3 .left)))))
 
 same-length-2 : tie.Need-same-length-2
 same-length-2 c =
@@ -123,7 +123,7 @@ returns-4 c =
     let b14 = b12 .before .before in
     let b16 = b14 .before .before in
     let b20 = b16 .before .before .before .before in
-    step-accepted (b20 .args .m) (b20 .args .base) (b20 .args .ws .now) (b20 .args .top) (b20 .args .hand) (b20 .pre .0) (b20 .pre .1 .0) (b20 .pre .1 .1) (b16 .if1 .left) (b14 .if2 .left) (b10 .record-errors .last .0) (b10 .record-errors .result) (b10 .record-errors .ensures) (b6 .accept .last .0) (b6 .accept .ensures) (b12 .if3 .left) (c .before .before .push-all .last .0) (c .before .before .push-all .result) (c .before .before .push-all .ensures)
+    step-accepted (b20 .args .m) (b20 .args .base) (b20 .args .ws .now) (b20 .args .top) (b20 .args .hand) (b20 .pre .0) (b20 .pre .1 .0) (b20 .pre .1 .1) (b14 .if2 .left) (b16 .if1 .left) (b10 .record-errors .last .0) (b10 .record-errors .result) (b10 .record-errors .ensures) (b6 .accept .last .0) (b6 .accept .ensures) (b12 .if3 .left) (c .before .before .push-all .last .0) (c .before .before .push-all .result) (c .before .before .push-all .ensures)
 
 pub step-spec : {M : Type 1} → statement M
 step-spec =
@@ -133,11 +133,11 @@ step-spec =
     mul-e
     slice-read-e
     cast-x
-    add-if1
-    add-if1-2
-    mul-if1
     slice-read-if1
     returns
+    add-if2
+    add-if2-2
+    mul-if2
     slice-read-if2
     returns-2
     add-ws
