@@ -5,11 +5,9 @@ use crate::logs::add_entry;
 use crate::logs::leave;
 use crate::logs::pack;
 use rows::BBOUND;
-use rows::BENTRY;
 use rows::EDGES;
 use rows::ENTRIES;
 use rows::FBOUND;
-use rows::FEDGE;
 use rows::NODES;
 use rows::VALUE;
 ghost use mathlib.Core.Path.{_≡_};
@@ -132,6 +130,6 @@ pub fn lay_out(ws: &mut [u32], h: Held)
     let entries = h.entries;
     let nodes = h.nodes;
     ws[NODES] = nodes as u32;
-    rows::sort(ws, 0, FBOUND, nodes, FEDGE, EDGES, edges);
-    rows::sort(ws, 1, BBOUND, 4 * nodes, BENTRY, ENTRIES, entries);
+    rows::sort(ws, 0, FBOUND, nodes, EDGES, edges);
+    rows::sort(ws, 1, BBOUND, 4 * nodes, ENTRIES, entries);
 }

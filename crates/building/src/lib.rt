@@ -286,13 +286,13 @@ impl Building {
     }
 }
 
-// The start of building: no identifier has a node. Returned is what those with a node are below, which is how many values are written: 16 are cleared at once, as fewer than 64 bytes may be cleared by a masked store, and no load is served from one before it is done.
-pub fn start(ws: &mut [u32]) -> usize
+// The start of building: no identifier has a node. 16 values are cleared at once, as fewer than 64 bytes may be cleared by a masked store, and no load is served from one before it is done.
+pub fn start(ws: &mut [u32]) -> Building
     requires { ⌜ LEAST ≤ length (now ws) ⌝ }
-    ensures { λ r. ⌜ Starts (now (ws .entry)) (now (ws .exit)) (begun r) ⌝ }
+    ensures { λ r. ⌜ Starts (now (ws .entry)) (now (ws .exit)) r ⌝ }
 {
     rows::clear(ws, VALUE, 16);
-    16
+    begun(16)
 }
 
 // A node for `place` while there are only nodes, so that no relation is dropped.

@@ -152,7 +152,7 @@ pub fn read_function(sheet: &[u32], ws: &mut [u32]) -> FunctionStep
     }
     let none = building::start(ws);
     let next = top.next;
-    let TrackedStep::Got(t, nodes) = read_tracked(sheet, ws, none, next, top.n) else {
+    let TrackedStep::Got(t, nodes) = read_tracked(sheet, ws, none.held.nodes, next, top.n) else {
         return FunctionStep::Refused;
     };
     let identifiers = top.identifiers;
