@@ -94,6 +94,21 @@ module _ (ws ws′ : List ℕ) (size : LEAST ≤ length ws) (nodes : ℕ) (few :
     same = cleared .same;
   }
 
+-- what has started has no counts but that of the values
+pub starts-begun : {ws ws′ : List ℕ} {b : Building} → Starts ws ws′ b → Starts ws ws′ (begun (b .held .nodes))
+starts-begun {ws} {ws′} {b} s =
+    let edges : b .held .edges ≡ 0 = omega (arith, s .sound .edges, s .relations) in
+    let entries : b .held .entries ≡ 0 = omega (arith, s .sound .entries, s .relations) in
+    let waiting : b .held .waiting ≡ 0 = omega (arith, s .sound .edges, s .relations) in
+    let only : b ≡ begun (b .held .nodes) = λ j. record {
+      held = record { edges = edges j; entries = entries j; waiting = waiting j; nodes = b .held .nodes };
+      come = s .come j;
+      relations = s .relations j;
+      mutations = s .mutations j;
+      renders = s .renders j;
+    } in
+    subst (Starts ws ws′) only s
+
 -- ---- a node while there are only nodes: nothing leaves the logs
 no-word-leaves : (t at x : ℕ) (ws : List ℕ) → Left t at 0 x ws ws 0
 no-word-leaves t at x ws =

@@ -69,7 +69,7 @@ module _ (ws : List ℕ) (h : Held) (room : Room 0 0 ws h) where
   few-k : h .nodes ≤ 512
   few-k = room .clean .few
 
-  pub lay-edges : Lay ws 0 FBOUND (h .nodes) FEDGE EDGES (h .edges)
+  pub lay-edges : Lay ws 0 FBOUND (h .nodes) EDGES (h .edges)
   unfolding E
   lay-edges = record {
     few = few-e;
@@ -80,12 +80,12 @@ module _ (ws : List ℕ) (h : Held) (room : Room 0 0 ws h) where
     small = omega (arith, few-k);
   }
 
-  module _ (ws₁ : List ℕ) (s₁ : Sorted ws 0 FBOUND (h .nodes) FEDGE EDGES (h .edges) ws₁) where
+  module _ (ws₁ : List ℕ) (s₁ : Sorted ws 0 FBOUND (h .nodes) EDGES (h .edges) ws₁) where
     log₁ : logOf ws₁ ENTRIES (h .entries) ≡ N
     unfolding N
     log₁ = kept-log (s₁ .kept) ENTRIES (h .entries) (omega (arith, few-e))
 
-    pub lay-entries : Lay ws₁ 1 BBOUND (4 * h .nodes) BENTRY ENTRIES (h .entries)
+    pub lay-entries : Lay ws₁ 1 BBOUND (4 * h .nodes) ENTRIES (h .entries)
     lay-entries = record {
       few = few-n;
       bounds = omega (arith, few-k);
@@ -96,7 +96,7 @@ module _ (ws : List ℕ) (h : Held) (room : Room 0 0 ws h) where
     }
 
     -- where it was noted how many values there are
-    module _ (ws₂ : List ℕ) (s₂ : Sorted ws₁ 1 BBOUND (4 * h .nodes) BENTRY ENTRIES (h .entries) ws₂) (noted : getD ws NODES 0 ≡ h .nodes) where
+    module _ (ws₂ : List ℕ) (s₂ : Sorted ws₁ 1 BBOUND (4 * h .nodes) ENTRIES (h .entries) ws₂) (noted : getD ws NODES 0 ≡ h .nodes) where
       long : LEAST ≤ length ws₂
       long = omega (arith, room .size, s₁ .kept .same, s₂ .kept .same)
 
@@ -228,7 +228,7 @@ module _ (ws : List ℕ) (h : Held) (room : Room 0 0 ws h) where
   unfolding graphOf
   noting-graph = ap graphOfLogs noting-logs
 
-  pub noted-laid : (ws₁ : List ℕ) (s₁ : Sorted noting 0 FBOUND (h .nodes) FEDGE EDGES (h .edges) ws₁) (ws₂ : List ℕ) → Sorted ws₁ 1 BBOUND (4 * h .nodes) BENTRY ENTRIES (h .entries) ws₂ → Laid ws h ws₂
+  pub noted-laid : (ws₁ : List ℕ) (s₁ : Sorted noting 0 FBOUND (h .nodes) EDGES (h .edges) ws₁) (ws₂ : List ℕ) → Sorted ws₁ 1 BBOUND (4 * h .nodes) ENTRIES (h .entries) ws₂ → Laid ws h ws₂
   noted-laid ws₁ s₁ ws₂ s₂ =
       let l : Laid noting h ws₂ = laid noting h noting-room ws₁ s₁ ws₂ s₂ (getD-set-same ws NODES (h .nodes) 0 (omega (arith, room .size))) in
       record {

@@ -1,5 +1,6 @@
 use mathlib.Core.Path.{_∙_}
 use borrow.Author.Needs.{needs}
+use Rattle.building.proofs.Ends.{starts-begun}
 use Rattle.parameters.proofs.Before.{no-top, too-many, no-tracked, function-read}
 use Rattle.parameters.proofs.read_function.Statement.{statement}
 use Rattle.parameters.proofs.read_function.Tie as tie
@@ -38,7 +39,7 @@ read-tracked-requires c κs =
     let b3 = c .before .before .before in
     let b4 = b3 .before in
     let b6 = b4 .before .before in
-    (b6 .if1 .left, b4 .start .ensures .sound)
+    (b6 .if1 .left, starts-begun (b4 .start .ensures) .sound)
 
 enum-known-t : tie.Need-enum-known-t
 enum-known-t c = search needs
@@ -55,7 +56,7 @@ returns-3 c =
     let b4 = b3 .before in
     let b9 = b4 .before .before .before .before .before in
     let b14 = b9 .before .before .before .before .before in
-    let b18 = b14 .before .before .before .before in no-tracked (b18 .read-top .ensures) (b14 .top .given .1) (b9 .start .ensures) (b4 .read-tracked .ensures) (c .enum-told2 .given .1)
+    let b18 = b14 .before .before .before .before in no-tracked (b18 .read-top .ensures) (b14 .top .given .1) (starts-begun (b9 .start .ensures)) (b4 .read-tracked .ensures) (c .enum-told2 .given .1)
 
 begun-requires : tie.Need-begun-requires
 begun-requires c κs = tt
@@ -74,7 +75,7 @@ returns-4 c =
     let b14 = b9 .before .before .before .before .before in
     let b19 = b14 .before .before .before .before .before in
     let b23 = b19 .before .before .before .before in
-    function-read (b23 .read-top .ensures) (b19 .top .given .1) (b14 .start .ensures) (b9 .read-tracked .ensures) (b5 .t .given .1) (c .begun .ensures)
+    function-read (b23 .read-top .ensures) (b19 .top .given .1) (starts-begun (b14 .start .ensures)) (b9 .read-tracked .ensures) (b5 .t .given .1) (c .begun .ensures)
 
 pub read-function-spec : {M : Type 1} → statement M
 read-function-spec =
