@@ -33,14 +33,7 @@ pub enum TotalsStep {
 }
 
 // An effect count and the effects, of an instruction or of a terminal.
-pub fn effects(
-    start: Cursor,
-    s: &[u32],
-    n: u32,
-    m: u32,
-    terminal: bool,
-    totals: Totals,
-) -> TotalsStep
+fn effects(start: Cursor, s: &[u32], n: u32, m: u32, terminal: bool, totals: Totals) -> TotalsStep
     ensures { λ r. ⌜ totalsSays r ≡ judge (effects n m) (each (tellEffect terminal)) (totalsAre totals) (now (s .entry)) (start .at) ⌝ }
 {
     let mut left: u32;
@@ -72,7 +65,7 @@ pub fn effects(
 }
 
 // An order, an effect count and the effects.
-pub fn instruction(c: Cursor, s: &[u32], n: u32, m: u32, totals: Totals) -> TotalsStep
+fn instruction(c: Cursor, s: &[u32], n: u32, m: u32, totals: Totals) -> TotalsStep
     ensures { λ r. ⌜ totalsSays r ≡ judge (instruction n m) tellInstruction (totalsAre totals) (now (s .entry)) (c .at) ⌝ }
 {
     match c.order(s) {
@@ -82,7 +75,7 @@ pub fn instruction(c: Cursor, s: &[u32], n: u32, m: u32, totals: Totals) -> Tota
 }
 
 // An instruction count and the instructions.
-pub fn instructions(start: Cursor, s: &[u32], n: u32, m: u32, totals: Totals) -> TotalsStep
+fn instructions(start: Cursor, s: &[u32], n: u32, m: u32, totals: Totals) -> TotalsStep
     ensures { λ r. ⌜ totalsSays r ≡ judge (counted mostCount (instruction n m)) (each tellInstruction) (totalsAre totals) (now (s .entry)) (start .at) ⌝ }
 {
     let mut left: u32;
@@ -116,7 +109,7 @@ pub fn instructions(start: Cursor, s: &[u32], n: u32, m: u32, totals: Totals) ->
 }
 
 // Kind and order; of a Return its value; of a Return and a MaybeThrow the effects.
-pub fn terminal(c: Cursor, s: &[u32], n: u32, m: u32, totals: Totals) -> TotalsStep
+fn terminal(c: Cursor, s: &[u32], n: u32, m: u32, totals: Totals) -> TotalsStep
     ensures { λ r. ⌜ totalsSays r ≡ judge (terminal n m) tellTerminal (totalsAre totals) (now (s .entry)) (c .at) ⌝ }
 {
     let kind: TerminalKind;

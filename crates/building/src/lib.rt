@@ -221,7 +221,7 @@ impl Building {
     }
 
     // Has the block come?
-    pub fn block_has_come(self, ws: &[u32], block: BlockId) -> bool
+    fn block_has_come(self, ws: &[u32], block: BlockId) -> bool
         requires { ⌜ Sound (now ws) self ⌝ }
         ensures { λ r. ⌜ r ≡ among (block .0) (builtOf (now (ws .entry)) self .come) ⌝ }
     {

@@ -57,7 +57,7 @@ fn copy_effect(sheet: &[u32], next: usize, section: Section, answer: &mut [u32],
 }
 
 // An instruction: its order, an effect count and the effects.
-pub fn copy_instruction(
+fn copy_instruction(
     sheet: &[u32],
     c: Cursor,
     n: u32,

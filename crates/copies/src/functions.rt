@@ -40,7 +40,7 @@ fn copy_diagnostics(sheet: &[u32], c: Cursor, count: u32, answer: &mut [u32], at
 }
 
 // The diagnostics of an inner function, whose list stands where the workspace says. A function of the sheet is below `count`; the test spares a claim about all functions in the graph.
-pub fn append_function_errors(
+fn append_function_errors(
     sheet: &[u32],
     ws: &[u32],
     count: u32,

@@ -14,7 +14,7 @@ use writing::put;
 
 pub mod effect_lists;
 pub mod functions;
-pub mod past;
+mod past;
 pub mod returns;
 
 // The place that an effect does not use.

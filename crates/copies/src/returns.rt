@@ -19,7 +19,7 @@ use hir::ValueReason;
 use hir::parts::type_of;
 
 // The type of an identifier, `c` being where the first one stands: the last of its three words.
-pub fn type_at(sheet: &[u32], c: Cursor, identifier: IdentifierId) -> IdentifierType
+fn type_at(sheet: &[u32], c: Cursor, identifier: IdentifierId) -> IdentifierType
     ensures { λ r. ⌜ TypeAt (now (sheet .entry)) (c .at) (identifier .0) (typeSays r) ⌝ }
 {
     let at = c.at;

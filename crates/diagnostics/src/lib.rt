@@ -18,7 +18,7 @@ use writing::patch;
 use writing::put;
 
 // Process renders: the pending ones in order; the diagnostics of the functions that each hands over.
-pub fn process_renders(
+fn process_renders(
     sheet: &[u32],
     ws: &mut [u32],
     count: u32,

@@ -20,7 +20,7 @@ pub enum Next {
 }
 
 // The ends of n identifiers, each read where it stands: the sheet was accepted, so the words are in their ranges.
-pub fn read_ends(sheet: &[u32], ws: &mut [u32], c: Cursor, n: usize) -> Next
+fn read_ends(sheet: &[u32], ws: &mut [u32], c: Cursor, n: usize) -> Next
     requires { ⌜ (n ≤ 512) × (16384 ≤ length (now ws)) ⌝ }
     ensures { λ r. ⌜ Ends n (now (sheet .entry)) (c .at) (now (ws .entry)) (now (ws .exit)) r ⌝ }
 {
@@ -74,7 +74,7 @@ fn skip_function(sheet: &[u32], c: Cursor) -> Next
 }
 
 // Where each of m inner functions stands.
-pub fn read_functions(sheet: &[u32], ws: &mut [u32], c: Cursor, m: usize) -> Next
+fn read_functions(sheet: &[u32], ws: &mut [u32], c: Cursor, m: usize) -> Next
     requires { ⌜ (m ≤ 64) × ((16384 ≤ length (now ws)) × ((length (now sheet) ≤ 16384) × (c .at ≤ length (now sheet)))) ⌝ }
     ensures { λ r. ⌜ Functions m (now (sheet .entry)) (c .at) (now (ws .entry)) (now (ws .exit)) r ⌝ }
 {

@@ -1,6 +1,5 @@
 -- What each answer of a reader says: the value as the definitions have it with the next position, or the refusal's number.
 use Prim.Native.Nat.{ℕ, _+_}
-use lib.Dec.{leb}
 use mathlib.Core.Bool.{Bool}
 use Rattle.model.specs.Lists.{pick}
 use Rattle.model.specs.Sheet.{Place as ModelPlace, Effect as ModelEffect, Flags as ModelFlags, Identifier as ModelIdentifier, EvaluationOrder as ModelOrder, BlockId as ModelBlock}
@@ -87,7 +86,3 @@ identifierSays (NoIdentifier k) = refused k
 -- a place if the effect uses it, else three words 0
 abbrev pub placeOrUnused : Bool → ℕ → Read ModelPlace
 placeOrUnused used n = pick used (place n) unused
-
--- some words further on; a position that no slice has stays
-unfoldable pub skipped : ℕ → ℕ → ℕ
-skipped at words = pick (leb at 9223372036854775807) (at + words) at

@@ -77,7 +77,7 @@ impl Cursor {
     }
 
     // A place that an effect does not use: three words 0.
-    pub fn unused(self, s: &[u32]) -> PlaceStep
+    fn unused(self, s: &[u32]) -> PlaceStep
         ensures { λ r. ⌜ placeSays r ≡ unused (now (s .entry)) (self .at) ⌝ }
     {
         match self.at_most(s, 0) {

@@ -1,7 +1,7 @@
 // One word at a time: what it is held to, and the refusal where it fails.
 ghost use mathlib.Core.Path.{_≡_};
 ghost use Rattle.model.specs.Reading.{word, count, fixed, atMost, below};
-ghost use Rattle.hir.specs.Says.{wordSays, skipped};
+ghost use Rattle.hir.specs.Says.{wordSays};
 use crate::Cursor;
 use crate::WordStep;
 
@@ -84,17 +84,5 @@ impl Cursor {
             }
             WordStep::Refused(k) => WordStep::Refused(k),
         }
-    }
-
-    // The position some words further on, and no further than positions go.
-    pub fn skip(self, words: u32) -> Cursor
-        ensures { λ r. ⌜ r .at ≡ skipped (self .at) words ⌝ }
-    {
-        let at = self.at;
-        if at <= 9223372036854775807 {
-            let further = words as usize;
-            return Cursor { at: at + further };
-        }
-        self
     }
 }

@@ -62,7 +62,7 @@ fn build_effect(
 }
 
 // An effect count and the effects of an instruction with this order.
-pub fn build_effects(
+fn build_effects(
     start: Cursor,
     s: &[u32],
     n: u32,

@@ -31,7 +31,7 @@ pub enum PlacesStep {
 }
 
 // `count` places, tracked from number `first` on; each gets a node.
-pub fn read_places(
+fn read_places(
     sheet: &[u32],
     ws: &mut [u32],
     nodes: usize,
@@ -85,7 +85,7 @@ pub enum ListStep {
     Refused,
 }
 
-pub fn read_list(
+fn read_list(
     sheet: &[u32],
     ws: &mut [u32],
     nodes: usize,
@@ -106,7 +106,7 @@ pub fn read_list(
     ListStep::Got(count, built, next)
 }
 
-pub fn read_tracked(sheet: &[u32], ws: &mut [u32], nodes: usize, c: Cursor, n: u32) -> TrackedStep
+fn read_tracked(sheet: &[u32], ws: &mut [u32], nodes: usize, c: Cursor, n: u32) -> TrackedStep
     requires { ⌜ n ≤ 512 ⌝ }
     requires { ⌜ Sound (now ws) (begun nodes) ⌝ }
     ensures { λ r. ⌜ ReadsTracked (now (sheet .entry)) (c .at) n (now (ws .entry)) (begun nodes) (now (ws .exit)) r ⌝ }

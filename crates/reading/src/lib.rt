@@ -42,7 +42,7 @@ pub enum Verdict {
 }
 
 // Flags, identifiers, inner functions.
-pub fn head(c: Cursor, s: &[u32]) -> HeadingStep
+fn head(c: Cursor, s: &[u32]) -> HeadingStep
     ensures { λ r. ⌜ headingSays r ≡ heading (now (s .entry)) (c .at) ⌝ }
 {
     match c.flags(s) {
@@ -64,7 +64,7 @@ pub fn head(c: Cursor, s: &[u32]) -> HeadingStep
 }
 
 // Parameters, context, returns.
-pub fn place_lists(c: Cursor, s: &[u32], n: u32) -> PlaceStep
+fn place_lists(c: Cursor, s: &[u32], n: u32) -> PlaceStep
     ensures { λ r. ⌜ placeSays r ≡ placeLists n (now (s .entry)) (c .at) ⌝ }
 {
     match sections::places(c, s, n, 64) {
@@ -98,7 +98,7 @@ pub fn sheet(s: &[u32]) -> TotalsStep
 }
 
 // Whether refusal 8 applies.
-pub fn over(t: Totals) -> bool
+fn over(t: Totals) -> bool
     ensures { λ r. ⌜ r ≡ over (totalsOf (totalsAre t)) ⌝ }
 {
     (1024 < t.relations) | ((512 < t.mutations) | (256 < t.renders))

@@ -52,7 +52,7 @@ fn simulated(index: u32, into: Place) -> Mutation
 }
 
 // One simulated walk for each of `count` tracked places, from this index on; the entries that each took are kept, and what each finds is written.
-pub fn simulate(
+fn simulate(
     ws: &mut [u32],
     count: usize,
     index: u32,

@@ -122,7 +122,7 @@ fn single(b: Building, ws: &mut [u32], word: u32, place: u32, second: u32, third
 }
 
 // One step by its words. What does not fit is skipped.
-pub fn step(b: Building, ws: &mut [u32], word: u32, first: u32, second: u32, third: u32) -> Building
+fn step(b: Building, ws: &mut [u32], word: u32, first: u32, second: u32, third: u32) -> Building
     requires { ⌜ Sound (now ws) b ⌝ }
     ensures { λ r. ⌜ Goes (now (ws .entry)) (now (ws .exit)) r ⌝ }
 {
@@ -146,7 +146,7 @@ pub fn step(b: Building, ws: &mut [u32], word: u32, first: u32, second: u32, thi
 }
 
 // Builds by the steps, from no node on.
-pub fn run_steps(steps: &[u32], ws: &mut [u32]) -> Building
+fn run_steps(steps: &[u32], ws: &mut [u32]) -> Building
     requires { ⌜ LEAST ≤ length (now ws) ⌝ }
     ensures { λ r. ⌜ Goes (now (ws .entry)) (now (ws .exit)) r ⌝ }
 {

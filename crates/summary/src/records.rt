@@ -65,7 +65,7 @@ fn put_record(
 }
 
 // The records of a place's identifier as effects: the local one first.
-pub fn collect_param_effects(ws: &[u32], p: Place, answer: &mut [u32], at: usize) -> usize
+fn collect_param_effects(ws: &[u32], p: Place, answer: &mut [u32], at: usize) -> usize
     requires { ⌜ (p .identifier .0 < 512) × (16384 ≤ length (now ws)) ⌝ }
     requires { ⌜ at + 16 ≤ farthest ⌝ }
     ensures { λ r. ⌜ Collected (now (ws .entry)) (placeIs p ∷ []) (now (answer .entry)) at (now (answer .exit)) r ⌝ }
