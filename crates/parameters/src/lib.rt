@@ -160,6 +160,7 @@ pub fn read_function(sheet: &[u32], ws: &mut [u32]) -> FunctionStep
     let blocks = t.next;
     let f = HirFunction {
         errors: top.errors,
+        copies: true,
         identifiers,
         n: top.n,
         m: top.m,
