@@ -2,6 +2,7 @@
 use Prim.Native.Nat.{ℕ, _+_, _≤_, _<_}
 use native.Mathlib.Omega.{arith}
 use mathlib.Core.Path.{_≡_, refl, sym, ap, subst, _∙_}
+use mathlib.Core.Bool.{true, true≢false}
 use mathlib.Core.List.{List, [], _∷_, _++_, map}
 use lib.ListN.{length, getD, length-append}
 use lib.Seq.{sets}
@@ -53,6 +54,7 @@ none-tracked ws = refl
 abbrev pub functionOf : Top → Tracked → HirFunction
 functionOf t u = record {
   errors = t .errors;
+  copies = true;
   identifiers = t .identifiers;
   n = t .n;
   m = t .m;
@@ -69,6 +71,7 @@ module _ (sheet : List ℕ) (s : Sheet) (d : Position) (e : sheetReader sheet 0 
     describes : Describes s sheet (functionOf t u)
     describes = record {
       errors = T .errors;
+      copies = λ e. absurd (true≢false e);
       n = T .n;
       m = T .m;
       params = U .params;
