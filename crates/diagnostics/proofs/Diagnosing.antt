@@ -35,7 +35,7 @@ use Rattle.copies.specs.declared.effect_lists.Section.the-variants.{Diagnostics
 use Rattle.copies.proofs.Gathers.{gather-append}
 use Rattle.copies.proofs.Sections.{recorded-words, recorded-none, section-patched, diagnostics-count}
 use Rattle.function.specs.declared.HirFunction.{HirFunction}
-use Rattle.function.specs.Function.{Describes, Stands, NoneUnless}
+use Rattle.function.specs.Function.{Describes, Stands}
 use Rattle.diagnostics.specs.Diagnosed.{RendersPut, RecordedPut, DiagnosticsPut}
 use Rattle.diagnostics.proofs.Rendering.{unmoved-none, handed-words, rendered-words}
 
@@ -61,17 +61,17 @@ copied-recorded s e =
     none true = refl
     none false = refl
 
-module _ (sheet : List ℕ) (f : HirFunction) (copies : Bool) (a : List ℕ) (at : ℕ) where
-  pub recorded-put : f .errors && copies ≡ true → {a′ : List ℕ} {at′ : ℕ} {next : Position}
+module _ (sheet : List ℕ) (f : HirFunction) (a : List ℕ) (at : ℕ) where
+  pub recorded-put : f .errors && f .copies ≡ true → {a′ : List ℕ} {at′ : ℕ} {next : Position}
       → Copies (numbered (f .count) [] (block (f .n) (f .m)) sheet (f .blocks .at)) (gather (blockWords Diagnostics)) 2147483648 a at a′ at′ next → RecordedPut sheet f a at a′ at′
   recorded-put e p = record {
-    wrote = λ s d. wrote-as (p .wrote (s .blocks) (d .blocks .0) (d .blocks .1)) (recorded-words s (sym (d .errors) ∙ and-left (f .errors) copies e));
+    wrote = λ s d. wrote-as (p .wrote (s .blocks) (d .blocks .0) (d .blocks .1)) (recorded-words s (sym (d .errors) ∙ and-left (f .errors) (f .copies) e));
     few = p .few;
   }
 
-  pub recorded-not : f .errors && copies ≡ false → NoneUnless copies (λ (s : Sheet). Describes s sheet f) → RecordedPut sheet f a at a at
-  recorded-not e h = record {
-    wrote = λ s d. wrote-as (wrote-none a at) (ap (gather diagnosticWords) (sym (go (f .errors) copies e (λ g. recorded-none s (sym (d .errors) ∙ g)) (λ g. copied-recorded s (h g s d)))));
+  pub recorded-not : f .errors && f .copies ≡ false → RecordedPut sheet f a at a at
+  recorded-not e = record {
+    wrote = λ s d. wrote-as (wrote-none a at) (ap (gather diagnosticWords) (sym (go (f .errors) (f .copies) e (λ g. recorded-none s (sym (d .errors) ∙ g)) (λ g. copied-recorded s (d .copies g)))));
     few = omega arith;
   }
     where

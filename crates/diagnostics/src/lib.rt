@@ -5,7 +5,7 @@ ghost use Rattle.model.specs.Sheet.{Sheet};
 ghost use Rattle.rows.specs.Layout.{MUTATIONS};
 ghost use Rattle.rows.specs.Rows.{Indexed};
 ghost use Rattle.writing.specs.Wrote.{farthest};
-ghost use Rattle.function.specs.Function.{Limited, Describes, Stands, NoneUnless};
+ghost use Rattle.function.specs.Function.{Limited, Describes, Stands};
 ghost use Rattle.diagnostics.specs.Diagnosed.{RendersPut, RecordedPut, DiagnosticsPut};
 use copies::effect_lists::Section;
 use copies::effect_lists::copy_effects;
@@ -41,14 +41,13 @@ fn process_renders(
     to
 }
 
-// The diagnostics that are recorded: none unless errors are, and none unless effects are `copied`.
-fn put_recorded(sheet: &[u32], f: HirFunction, copied: bool, answer: &mut [u32], at: usize) -> usize
+// The diagnostics that are recorded: none unless errors are, and none where no effect is copied.
+fn put_recorded(sheet: &[u32], f: HirFunction, answer: &mut [u32], at: usize) -> usize
     requires { ⌜ Limited f ⌝ }
-    requires { ⌜ NoneUnless copied (λ (s : Sheet). Describes s (now sheet) f) ⌝ }
     requires { ⌜ at + 2147483648 ≤ farthest ⌝ }
     ensures { λ r. ⌜ RecordedPut (now (sheet .entry)) f (now (answer .entry)) at (now (answer .exit)) r ⌝ }
 {
-    if f.errors & copied {
+    if f.errors & f.copies {
         let r = copy_effects(
             sheet,
             f.blocks,
@@ -69,7 +68,6 @@ pub fn put_diagnostics(
     sheet: &[u32],
     ws: &mut [u32],
     f: HirFunction,
-    copied: bool,
     renders: usize,
     hand: usize,
     answer: &mut [u32],
@@ -78,12 +76,11 @@ pub fn put_diagnostics(
     requires { ⌜ Limited f ⌝ }
     requires { ⌜ Indexed (now ws) ⌝ }
     requires { ⌜ ((s : Sheet) × (Describes s (now sheet) f × Stands s (now sheet) (now ws))) ⌝ }
-    requires { ⌜ NoneUnless copied (λ (s : Sheet). Describes s (now sheet) f) ⌝ }
     requires { ⌜ (renders ≤ 256) × ((hand ≤ MUTATIONS) × (at + 4294967296 ≤ farthest)) ⌝ }
     ensures { λ r. ⌜ DiagnosticsPut (now (sheet .entry)) (now (ws .entry)) f renders hand (now (answer .entry)) at (now (ws .exit)) (now (answer .exit)) r ⌝ }
 {
     let a1 = put(answer, at, 0);
-    let a2 = put_recorded(sheet, f, copied, answer, a1);
+    let a2 = put_recorded(sheet, f, answer, a1);
     let mut a3 = put_handed(sheet, ws, f.m, hand, answer, a2);
     if f.errors {
         a3 = process_renders(sheet, ws, f.m, renders, answer, a3);

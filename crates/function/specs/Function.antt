@@ -1,7 +1,7 @@
 -- The function of a sheet as the call keeps it, and what of the sheet stands in the workspace.
 use Prim.Native.Nat.{ℕ, _+_, _≤_, _<_}
 use mathlib.Core.Path.{_≡_}
-use mathlib.Core.Bool.{Bool, false}
+use mathlib.Core.Bool.{false}
 use mathlib.Core.List.{List, [], _∷_, _++_}
 use lib.ListN.{length}
 use Rattle.model.specs.Sheet.{Sheet}
@@ -26,6 +26,7 @@ pub record Limited (f : HirFunction) : Type 0 where
 -- f is the function of the sheet s, which stands in the words
 pub record Describes (s : Sheet) (sheet : List ℕ) (f : HirFunction) : Type 0 where
   pub errors : f .errors ≡ errors s
+  pub copies : f .copies ≡ false → copied s ≡ []
   pub n : f .n ≡ length (s .identifiers)
   pub m : f .m ≡ length (s .functions)
   pub params : f .params ≡ length (s .params)
@@ -39,7 +40,3 @@ pub record Stands (s : Sheet) (sheet ws : List ℕ) : Type 0 where
   pub size : LEAST ≤ length ws
   pub functions : Functions sheet ws (s .functions)
   pub tracked : trackedOf ws (length (s .params) + length (s .context) + 1) ≡ s .params ++ (s .context ++ (s .returns ∷ []))
-
--- unless `copies`, a sheet with this property has no effect to copy
-abbrev pub NoneUnless : Bool → (Sheet → Type 0) → Type 0
-NoneUnless copies P = copies ≡ false → (s : Sheet) → P s → copied s ≡ []

@@ -1,10 +1,10 @@
 -- What the second reading of the sections before the blocks leaves in the workspace.
-use Prim.Native.Nat.{ℕ, _+_, _<_}
+use Prim.Native.Nat.{ℕ, _+_, _≤_, _<_}
 use mathlib.Core.Path.{_≡_}
 use mathlib.Core.List.{List, [], map}
 use lib.ListN.{length, getD, take, drop}
 use lib.Seq.{sets}
-use Rattle.model.specs.Limits.{mostParams, mostContext, returnsCount, mostBlocks}
+use Rattle.model.specs.Limits.{mostIdentifiers, mostParams, mostContext, returnsCount, mostBlocks}
 use Rattle.model.specs.Sheet.{Flags, Identifier, InnerFunction, noFunction, Sheet}
 use Rattle.model.specs.Reading.{Position, Result, got, Read, andThen, _>>=_, pure, count, fixed, times, numbered, counted}
 use Rattle.model.specs.Sections.{identifier, innerFunction, place, block}
@@ -68,5 +68,11 @@ abbrev pub topIs : Sheet → Position → List ℕ → List ℕ → List ℕ →
 topIs s d sheet ws ws′ (GotTop t) = Tops s d sheet ws ws′ t
 topIs s d sheet ws ws′ NoTop = ⊥
 
+-- the limit holds whether the words are a sheet or not
+abbrev pub topFew : TopStep → Type 0
+topFew (GotTop t) = t .n ≤ mostIdentifiers
+topFew NoTop = Unit {0}
+
 pub record Topped (sheet ws ws′ : List ℕ) (r : TopStep) : Type 0 where
   pub read : (s : Sheet) (d : Position) → sheetReader sheet 0 ≡ got s d → topIs s d sheet ws ws′ r
+  pub few : topFew r

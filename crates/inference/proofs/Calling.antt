@@ -22,9 +22,9 @@ use Rattle.reading.specs.Whole.{Judgement, acceptance, judgementOf}
 use Rattle.reading.specs.Whole.{refusal as noSheet}
 use Rattle.reading.proofs.Accepted.{accepted-sheet, refused-sheet}
 use Rattle.reading.proofs.CopiedLaws.{accepted-copies}
-use Rattle.function.specs.Function.{NoneUnless}
 use Rattle.inference.specs.declared.Outcome.{Outcome}
 use Rattle.inference.specs.Outcome.{Came, Inferred}
+use Rattle.inference.specs.Whole.{NoneUnless}
 use Rattle.inference.proofs.Ending.{came-as}
 
 -- a sheet that was read has at most 16,384 words
@@ -41,7 +41,7 @@ pub accepted-is : (sheet : List ℕ) {t : Told} → judgementOf (read sheet) ≡
 accepted-is sheet {t} e = let a = accepted-sheet sheet t e in (a .sheet, a .is)
 
 -- where neither a diagnosis nor a render was told it has no effect to copy
-pub accepted-none : (sheet : List ℕ) {t : Told} → judgementOf (read sheet) ≡ acceptance t → NoneUnless (ltb 0 (t .diagnoses) || ltb 0 (t .renders)) (IsSheet sheet)
+pub accepted-none : (sheet : List ℕ) {t : Told} → judgementOf (read sheet) ≡ acceptance t → NoneUnless (ltb 0 (t .diagnoses) || ltb 0 (t .renders)) sheet
 accepted-none sheet {t} e h =
     let d : t .diagnoses ≤ 0 = ltb-false 0 (t .diagnoses) (or-left (ltb 0 (t .diagnoses)) (ltb 0 (t .renders)) h) in
     let r : t .renders ≤ 0 = ltb-false 0 (t .renders) (or-right (ltb 0 (t .diagnoses)) (ltb 0 (t .renders)) h) in

@@ -1,20 +1,19 @@
 -- An accepted sheet is read a second time, built and laid out; no step refuses it.
 use Prim.Native.Nat.{ℕ, _≤_, _<_}
 use native.Mathlib.Omega.{arith}
-use mathlib.Core.Path.{_≡_, sym, subst, ap, _∙_}
+use mathlib.Core.Path.{_≡_, subst, _∙_}
 use mathlib.Core.Bool.{Bool, false}
 use mathlib.Core.List.{List, []}
 use lib.ListN.{length}
 use Rattle.model.specs.Lists.{each}
 use Rattle.model.specs.Sheet.{Place, Sheet}
-use Rattle.model.specs.Totals.{instructionEffects, totals, over}
+use Rattle.model.specs.Totals.{totals, over}
 use Rattle.model.specs.Reading.{Position, Result, got, numbered}
 use Rattle.model.specs.Sections.{block}
 use Rattle.model.specs.Sections.{sheet as sheetReader}
 use Rattle.model.specs.Building.{block as blockStep}
 use Rattle.model.specs.Summary.{copied}
 use Rattle.model.specs.Call.{IsSheet}
-use Rattle.model.proofs.Got.{got-value}
 use Rattle.model.proofs.WhenRead.{read-got}
 use Rattle.hir.specs.Says.{placeIs}
 use Rattle.rows.specs.Layout.{LEAST}
@@ -29,17 +28,39 @@ use Rattle.dataflow.specs.Whole.{Whole, WholeAt}
 use Rattle.dataflow.proofs.Sheet.{blocks-ready, blocks-whole}
 use Rattle.hir.specs.declared.Cursor.{Cursor}
 use Rattle.function.specs.declared.HirFunction.{HirFunction}
-use Rattle.function.specs.Function.{Limited, Describes, Stands, NoneUnless}
+use Rattle.function.specs.Function.{Limited, Describes}
 use Rattle.parameters.specs.declared.FunctionStep.{FunctionStep}
 use Rattle.parameters.specs.declared.FunctionStep.the-variants.{Got, Refused}
 use Rattle.parameters.specs.Function.{FunctionRead, functionIs, ReadsFunction}
 use Rattle.inference.specs.declared.Outcome.{Outcome}
-use Rattle.inference.specs.Whole.{Keeps, Prepared, preparedIs, Prepares, Answers}
+use Rattle.inference.specs.Whole.{NoneUnless, Keeps, Prepared, preparedIs, Prepares, Answers}
 use Rattle.inference.proofs.Preparing.{prepared}
 
 -- the loop over the blocks of f, as its contract says it
 abbrev Looped : List ℕ → HirFunction → List ℕ → Building → List ℕ → BuildStep → Type 0
 Looped sheet f ws b ws′ r = Builds (numbered (f .count) [] (block (f .n) (f .m)) sheet (f .blocks .at)) (each (blockStep (placeIs (f .returns)))) (costs blockCost) ws b ws′ r
+
+-- f with another flag
+abbrev copying : HirFunction → Bool → HirFunction
+copying f copies = record {
+  errors = f .errors;
+  copies = copies;
+  identifiers = f .identifiers;
+  n = f .n;
+  m = f .m;
+  params = f .params;
+  context = f .context;
+  returns = f .returns;
+  blocks = f .blocks;
+  count = f .count;
+}
+
+module _ {f : HirFunction} {copies : Bool} where
+  describes-copying : {s : Sheet} {sheet : List ℕ} → Describes s sheet f → (copies ≡ false → copied s ≡ []) → Describes s sheet (copying f copies)
+  describes-copying d h = search (d, h)
+
+  limited-copying : Limited f → Limited (copying f copies)
+  limited-copying l = omega (arith, l)
 
 is-read : (sheet : List ℕ) {s : Sheet} → (is : IsSheet sheet s) → sheetReader sheet 0 ≡ got s (is .0)
 is-read sheet {s} is = read-got sheet s (is .0) (is .1) .0
@@ -90,11 +111,12 @@ module _ {sheet ws ws₁ : List ℕ} {x : FunctionStep} (h : ReadsFunction sheet
         pub few-identifiers : ((s : Sheet) × IsSheet sheet s) → f .n ≤ 512
         few-identifiers p = function-got (p .0) (p .1) .limited .n
 
-        pub prepares : ((s : Sheet) × IsSheet sheet s) → {ws₃ ws₄ : List ℕ} → LEAST ≤ length ws → LaysOut ws₂ b′ ws₃ → Keeps (f .n) ws₃ ws₄ → Prepares sheet ws ws₄ (Got f b′)
-        prepares p {ws₃} {ws₄} size l k = record {
+        pub prepares : ((s : Sheet) × IsSheet sheet s) → {copies : Bool} → NoneUnless copies sheet → {ws₃ ws₄ : List ℕ} → LEAST ≤ length ws → LaysOut ws₂ b′ ws₃ → Keeps (f .n) ws₃ ws₄
+            → Prepares sheet ws ws₄ (Got (copying f copies) b′)
+        prepares p {copies} none {ws₃} {ws₄} size l k = record {
           built = λ s is.
               let g = function-got s is in
-              prepared s sheet (is .0) (is-read sheet is) f b′ ws ws₁ ws₂ ws₃ ws₄ (g .describes) (g .limited) (g .stands) size (g .ends) (whole-got s is) l k;
+              prepared s sheet (is .0) (is-read sheet is) (copying f copies) b′ ws ws₁ ws₂ ws₃ ws₄ (describes-copying (g .describes) (λ e. none e s is)) (limited-copying (g .limited)) (g .stands) size (g .ends) (whole-got s is) l k;
           same = k .same ∙ l .same ∙ whole-got (p .0) (p .1) .same ∙ function-got (p .0) (p .1) .same;
         }
 
@@ -105,9 +127,3 @@ module _ {sheet ws ws₁ : List ℕ} {x : FunctionStep} (h : Prepares sheet ws w
 
   pub no-answer : x ≡ Refused → ((s : Sheet) × IsSheet sheet s) → {ans : List ℕ} {r : Outcome} {ws′ ans′ : List ℕ} → Answers sheet ws ans r ws′ ans′
   no-answer q p = absurd (subst (preparedIs (p .0) sheet ws₁) q (h .built (p .0) (p .1)))
-
--- the blocks of the function are those of the accepted sheet
-pub described-none : {sheet ws : List ℕ} {f : HirFunction} {b : Building} {copies : Bool} (s₀ : Sheet) → IsSheet sheet s₀ → Prepared s₀ sheet ws f b → NoneUnless copies (IsSheet sheet)
-    → NoneUnless copies (λ (s : Sheet). Describes s sheet f)
-unfolding copied instructionEffects
-described-none s₀ is p h e s d = let q : s .blocks ≡ s₀ .blocks = got-value (sym (d .blocks .1) ∙ p .describes .blocks .1) in rw q (h e s₀ is)

@@ -1,14 +1,15 @@
 -- A call on an accepted sheet, stage by stage.
 use Prim.Native.Nat.{ℕ, _+_, _≤_, _<_}
+use mathlib.Core.Bool.{Bool, false}
 use mathlib.Core.Path.{_≡_}
-use mathlib.Core.List.{List, _++_, map}
+use mathlib.Core.List.{List, [], _++_, map}
 use lib.ListN.{length, getD, drop}
 use lib.Dec.{ltb}
 use Rattle.model.specs.Lists.{pick}
 use Rattle.model.specs.Sheet.{Sheet}
 use Rattle.model.specs.State.{State}
 use Rattle.model.specs.Building.{build}
-use Rattle.model.specs.Summary.{built, marked}
+use Rattle.model.specs.Summary.{built, marked, copied}
 use Rattle.model.specs.Answer.{answer, answerWords, rangesOf, rangeWords, placeWords, section}
 use Rattle.model.specs.Call.{IsSheet, fits}
 use Rattle.rows.specs.Layout.{RECORD, END, SEEN, HANDED}
@@ -26,6 +27,10 @@ use Rattle.parameters.specs.declared.FunctionStep.{FunctionStep}
 use Rattle.parameters.specs.declared.FunctionStep.the-variants.{Got, Refused}
 use Rattle.inference.specs.declared.Outcome.{Outcome}
 use Rattle.inference.specs.Outcome.{Came}
+
+-- unless `copies`, no effect of the sheet is copied
+abbrev pub NoneUnless : Bool → List ℕ → Type 0
+NoneUnless copies sheet = copies ≡ false → (s : Sheet) → IsSheet sheet s → copied s ≡ []
 
 -- there is no record, and the ends are those of the first n words; every identifier that can have a node has its words
 pub record Keeps (n : ℕ) (ws ws′ : List ℕ) : Type 0 where

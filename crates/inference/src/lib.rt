@@ -5,9 +5,9 @@ ghost use lib.ListN.{length};
 ghost use Rattle.rows.specs.Rows.{Indexed};
 ghost use Rattle.model.specs.Sheet.{Sheet};
 ghost use Rattle.model.specs.Call.{refusal, IsSheet};
-ghost use Rattle.function.specs.Function.{Limited, Describes, Stands, NoneUnless};
+ghost use Rattle.function.specs.Function.{Limited, Describes, Stands};
 ghost use Rattle.inference.specs.Outcome.{Came, Inferred};
-ghost use Rattle.inference.specs.Whole.{Keeps, Prepared, Prepares, PlacesPut, AnswerPut, Answers};
+ghost use Rattle.inference.specs.Whole.{NoneUnless, Keeps, Prepared, Prepares, PlacesPut, AnswerPut, Answers};
 use aliasing::process_mutations;
 use building::Building;
 use dataflow::build_blocks;
@@ -57,14 +57,16 @@ fn keep(ws: &mut [u32], n: usize)
 }
 
 // Part 1: builds the data flow graph and lays it out for the walks.
-fn build(sheet: &[u32], ws: &mut [u32]) -> FunctionStep
+fn build(sheet: &[u32], ws: &mut [u32], copies: bool) -> FunctionStep
     requires { ⌜ 16384 ≤ length (now ws) ⌝ }
     requires { ⌜ ((s : Sheet) × IsSheet (now sheet) s) ⌝ }
+    requires { ⌜ NoneUnless copies (now sheet) ⌝ }
     ensures { λ r. ⌜ Prepares (now (sheet .entry)) (now (ws .entry)) (now (ws .exit)) r ⌝ }
 {
-    let FunctionStep::Got(f, first) = read_function(sheet, ws) else {
+    let FunctionStep::Got(mut f, first) = read_function(sheet, ws) else {
         return FunctionStep::Refused;
     };
+    f.copies = copies;
     let BuildStep::Got(b, _) = build_blocks(
         f.blocks,
         sheet,
@@ -102,16 +104,14 @@ fn put_answer(
     f: HirFunction,
     b: Building,
     answer: &mut [u32],
-    copied: bool,
 ) -> usize
     requires { ⌜ ((s : Sheet) × Prepared s (now sheet) (now ws) f b) ⌝ }
-    requires { ⌜ NoneUnless copied (λ (s : Sheet). Describes s (now sheet) f) ⌝ }
     ensures { λ r. ⌜ AnswerPut (now (sheet .entry)) (now (ws .entry)) f b (now (answer .entry)) (now (ws .exit)) (now (answer .exit)) r ⌝ }
 {
     let hand = process_mutations(ws, b.mutations, f.errors);
     let a1 = put_places(sheet, ws, f, answer);
-    let a2 = put_diagnostics(sheet, ws, f, copied, b.renders, hand, answer, a1);
-    let a3 = put_effects(sheet, ws, f, copied, b.index(), answer, a2);
+    let a2 = put_diagnostics(sheet, ws, f, b.renders, hand, answer, a1);
+    let a3 = put_effects(sheet, ws, f, b.index(), answer, a2);
     put_walks(
         ws,
         b.mutations,
@@ -132,17 +132,17 @@ fn refuse(workspace: &mut [u32], answer: &mut [u32], k: u32) -> Outcome
     Outcome::Refused(k)
 }
 
-// An accepted sheet: its answer, or 9 where the buffer is shorter. Unless `copied`, its instructions have no effect of kind 14 to 17.
-fn answer_sheet(sheet: &[u32], workspace: &mut [u32], answer: &mut [u32], copied: bool) -> Outcome
+// An accepted sheet: its answer, or 9 where the buffer is shorter. Unless `copies`, its instructions have no effect of kind 14 to 17.
+fn answer_sheet(sheet: &[u32], workspace: &mut [u32], answer: &mut [u32], copies: bool) -> Outcome
     requires { ⌜ 16384 ≤ length (now workspace) ⌝ }
     requires { ⌜ ((s : Sheet) × IsSheet (now sheet) s) ⌝ }
-    requires { ⌜ NoneUnless copied (IsSheet (now sheet)) ⌝ }
+    requires { ⌜ NoneUnless copies (now sheet) ⌝ }
     ensures { λ r. ⌜ Answers (now (sheet .entry)) (now (workspace .entry)) (now (answer .entry)) r (now (workspace .exit)) (now (answer .exit)) ⌝ }
 {
-    let FunctionStep::Got(f, b) = build(sheet, workspace) else {
+    let FunctionStep::Got(f, b) = build(sheet, workspace, copies) else {
         return Outcome::Refused(0);
     };
-    let length = put_answer(sheet, workspace, f, b, answer, copied);
+    let length = put_answer(sheet, workspace, f, b, answer);
     let words = workspace.len();
     clear(workspace, 0, words);
     let room = answer.len();
@@ -168,8 +168,8 @@ pub fn infer_mutation_aliasing_ranges(
     match reading::read(sheet) {
         Verdict::Refused(k) => refuse(workspace, answer, k),
         Verdict::Accepted(t) => {
-            let copied = (0 < t.diagnoses) | (0 < t.renders);
-            answer_sheet(sheet, workspace, answer, copied)
+            let copies = (0 < t.diagnoses) | (0 < t.renders);
+            answer_sheet(sheet, workspace, answer, copies)
         }
     }
 }

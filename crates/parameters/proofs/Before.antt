@@ -2,14 +2,15 @@
 use Prim.Native.Nat.{ℕ, _+_, _≤_, _<_}
 use native.Mathlib.Omega.{arith}
 use mathlib.Core.Path.{_≡_, refl, sym, ap, subst, _∙_}
+use mathlib.Core.Bool.{true, true≢false}
 use mathlib.Core.List.{List, [], _∷_, _++_, map}
 use lib.ListN.{length, getD, length-append}
 use lib.Seq.{sets}
-use Rattle.model.specs.Limits.{mostIdentifiers, mostFunctions}
+use Rattle.model.specs.Limits.{mostFunctions}
 use Rattle.model.specs.Lists.{each}
 use Rattle.model.specs.Sheet.{Identifier, Place, noFunction, Sheet}
 use Rattle.model.specs.Reading.{Position, got, numbered}
-use Rattle.model.specs.Sections.{identifier, innerFunction, block}
+use Rattle.model.specs.Sections.{innerFunction, block}
 use Rattle.model.specs.Sections.{sheet as sheetReader}
 use Rattle.model.specs.Building.{firstPlaces}
 use Rattle.model.proofs.ReadLaws.{counted-length}
@@ -23,7 +24,7 @@ use Rattle.dataflow.proofs.Sheet.{sheet-sections, first-nodes}
 use Rattle.header.specs.declared.Top.{Top}
 use Rattle.header.specs.declared.TopStep.{TopStep}
 use Rattle.header.specs.declared.TopStep.the-variants.{Got as GotTop, Refused as NoTop}
-use Rattle.header.specs.Read.{Tops, topIs, Topped}
+use Rattle.header.specs.Read.{Tops, topIs, topFew, Topped}
 use Rattle.summary.specs.Tracked.{TRACKED, trackedOf}
 use Rattle.function.specs.declared.HirFunction.{HirFunction}
 use Rattle.function.specs.Function.{Limited, Describes, Stands}
@@ -34,12 +35,7 @@ use Rattle.parameters.specs.declared.FunctionStep.the-variants.{Got, Ref
 use Rattle.parameters.specs.Places.{TrackedRead, trackedIs, ReadsTracked}
 use Rattle.parameters.specs.Function.{FunctionRead, ReadsFunction}
 
--- a sheet's counts
-few-identifiers : (sheet : List ℕ) (s : Sheet) (d : Position) → sheetReader sheet 0 ≡ got s d → length (s .identifiers) ≤ 512
-few-identifiers sheet s d e =
-    let p = sheet-sections sheet s d e in
-    counted-length mostIdentifiers identifier sheet (p .afterFlags) (s .identifiers) (p .afterIdentifiers) (p .identifiers)
-
+-- a sheet's inner functions
 few-functions : (sheet : List ℕ) (s : Sheet) (d : Position) → sheetReader sheet 0 ≡ got s d → length (s .functions) ≤ 64
 few-functions sheet s d e =
     let p = sheet-sections sheet s d e in
@@ -53,6 +49,7 @@ none-tracked ws = refl
 abbrev pub functionOf : Top → Tracked → HirFunction
 functionOf t u = record {
   errors = t .errors;
+  copies = true;
   identifiers = t .identifiers;
   n = t .n;
   m = t .m;
@@ -64,11 +61,12 @@ functionOf t u = record {
 }
 
 -- the calls one after another, for a sheet that was read
-module _ (sheet : List ℕ) (s : Sheet) (d : Position) (e : sheetReader sheet 0 ≡ got s d) {ws ws₁ : List ℕ} {t : Top} (T : Tops s d sheet ws ws₁ t) {ws₂ : List ℕ} {b : Building} (start : Starts ws₁ ws₂ b) where
+module _ (sheet : List ℕ) (s : Sheet) (d : Position) (e : sheetReader sheet 0 ≡ got s d) {ws ws₁ : List ℕ} {t : Top} (T : Tops s d sheet ws ws₁ t) (few : t .n ≤ 512) {ws₂ : List ℕ} {b : Building} (start : Starts ws₁ ws₂ b) where
   module _ {ws₃ : List ℕ} {u : Tracked} {r : Building} (U : TrackedRead s d sheet (t .n) ws₂ b ws₃ u r) where
     describes : Describes s sheet (functionOf t u)
     describes = record {
       errors = T .errors;
+      copies = λ e. absurd (true≢false e);
       n = T .n;
       m = T .m;
       params = U .params;
@@ -80,7 +78,7 @@ module _ (sheet : List ℕ) (s : Sheet) (d : Position) (e : sheetReader sheet 0 
 
     limited : Limited (functionOf t u)
     limited = record {
-      n = omega (arith, T .n, few-identifiers sheet s d e);
+      n = few;
       m = omega (arith, T .m, few-functions sheet s d e);
       params = U .fewParams;
       context = U .fewContext;
@@ -133,12 +131,8 @@ module _ {sheet ws ws₁ : List ℕ} {x : TopStep} (T : Topped sheet ws ws₁ x)
   no-top q = record { read = λ s d e. subst (topIs s d sheet ws ws₁) q (T .read s d e) }
 
   module _ {t : Top} (q : x ≡ GotTop t) where
-    pub too-many : {ws′ : List ℕ} → 512 < t .n → ReadsFunction sheet ws ws′ Refused
-    too-many h = record {
-      read = λ s d e.
-          let top : Tops s d sheet ws ws₁ t = subst (topIs s d sheet ws ws₁) q (T .read s d e) in
-          omega (arith, h, top .n, few-identifiers sheet s d e);
-    }
+    pub few-identifiers : t .n ≤ 512
+    few-identifiers = subst topFew q (T .few)
 
     module _ {ws₂ : List ℕ} {b : Building} (start : Starts ws₁ ws₂ b) {ws₃ : List ℕ} {y : TrackedStep} (U : ReadsTracked sheet (t .next .at) (t .n) ws₂ b ws₃ y) where
       pub no-tracked : {ws′ : List ℕ} → y ≡ NoTracked → ReadsFunction sheet ws ws′ Refused
@@ -152,5 +146,5 @@ module _ {sheet ws ws₁ : List ℕ} {x : TopStep} (T : Topped sheet ws ws₁ x)
       function-read {u} {nodes} p is = record {
         read = λ s d e.
             let top : Tops s d sheet ws ws₁ t = subst (topIs s d sheet ws ws₁) q (T .read s d e) in
-            subst (FunctionRead s sheet ws ws₃ (functionOf t u)) (sym is) (function-is sheet s d e top start (subst (trackedIs s d sheet (t .n) ws₂ b ws₃) p (U .read s d (top .n) (top .rest))));
+            subst (FunctionRead s sheet ws ws₃ (functionOf t u)) (sym is) (function-is sheet s d e top few-identifiers start (subst (trackedIs s d sheet (t .n) ws₂ b ws₃) p (U .read s d (top .n) (top .rest))));
       }

@@ -146,10 +146,6 @@ pub fn read_function(sheet: &[u32], ws: &mut [u32]) -> FunctionStep
     let TopStep::Got(top) = read_top(sheet, ws) else {
         return FunctionStep::Refused;
     };
-    // Never more: what `read_top` ensures says so only where the words are a sheet.
-    if 512 < top.n {
-        return FunctionStep::Refused;
-    }
     let none = building::start(ws);
     let next = top.next;
     let TrackedStep::Got(t, nodes) = read_tracked(sheet, ws, none.held.nodes, next, top.n) else {
@@ -160,6 +156,7 @@ pub fn read_function(sheet: &[u32], ws: &mut [u32]) -> FunctionStep
     let blocks = t.next;
     let f = HirFunction {
         errors: top.errors,
+        copies: true,
         identifiers,
         n: top.n,
         m: top.m,

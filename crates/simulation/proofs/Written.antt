@@ -2,7 +2,7 @@
 use Prim.Native.Nat.{ℕ, _+_, _-_, _/_, _≤_, _<_}
 use native.Mathlib.Omega.{arith}
 use mathlib.Core.Path.{_≡_, sym, ap, subst, _∙_}
-use mathlib.Core.Bool.{Bool, false}
+use mathlib.Core.Bool.{false}
 use mathlib.Core.List.{List, [], _∷_, _++_}
 use lib.ListN.{length, set}
 use Rattle.model.specs.Lists.{gather}
@@ -32,7 +32,7 @@ use Rattle.summary.proofs.Held.{holds-state}
 use Rattle.summary.proofs.Rooms.{collected-next}
 use Rattle.summary.proofs.Whole.{params-tracked, context-tracked, marks-tracked}
 use Rattle.function.specs.declared.HirFunction.{HirFunction}
-use Rattle.function.specs.Function.{Limited, Describes, NoneUnless}
+use Rattle.function.specs.Function.{Limited}
 use Rattle.simulation.specs.Simulates.{Marked, Simulates, CopiedPut, Before, EffectsPut}
 
 -- the words hold the records that the walks and renders left
@@ -61,8 +61,8 @@ module _ (sheet : List ℕ) (f : HirFunction) (a : List ℕ) (at : ℕ) where
       → CopiedPut sheet f a at a′ at′
   copied-put c = record { wrote = λ s d. wrote-as (c .wrote (s .blocks) (d .blocks .0) (d .blocks .1)) (copied-words s); few = c .few }
 
-  pub copied-not : {copies : Bool} → copies ≡ false → NoneUnless copies (λ (s : Sheet). Describes s sheet f) → CopiedPut sheet f a at a at
-  copied-not e h = record { wrote = λ s d. wrote-as (wrote-none a at) (ap (gather effectWords) (sym (h e s d))); few = omega arith }
+  pub copied-not : f .copies ≡ false → CopiedPut sheet f a at a at
+  copied-not e = record { wrote = λ s d. wrote-as (wrote-none a at) (ap (gather effectWords) (sym (d .copies e))); few = omega arith }
 
 -- the graph is the same with the marks
 pub indexed-after : {ws ws₁ : List ℕ} {n : ℕ} → Indexed ws → Marks ws n ws₁ → Indexed ws₁

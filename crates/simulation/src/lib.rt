@@ -9,7 +9,7 @@ ghost use Rattle.rows.specs.Rows.{Indexed};
 ghost use Rattle.aliasing.specs.Says.{modeSays, mutationSays};
 ghost use Rattle.aliasing.specs.Walks.{Callable};
 ghost use Rattle.writing.specs.Wrote.{farthest};
-ghost use Rattle.function.specs.Function.{Limited, Describes, NoneUnless};
+ghost use Rattle.function.specs.Function.{Limited};
 ghost use Rattle.simulation.specs.Simulates.{Marked, Simulates, CopiedPut, Before, EffectsPut};
 use aliasing::Mutation;
 use aliasing::MutationKind;
@@ -82,13 +82,12 @@ fn simulate(
 }
 
 // The effects of instructions that are copied: where there is none, no pass over the sheet.
-fn put_copied(sheet: &[u32], f: HirFunction, copied: bool, answer: &mut [u32], at: usize) -> usize
+fn put_copied(sheet: &[u32], f: HirFunction, answer: &mut [u32], at: usize) -> usize
     requires { ⌜ Limited f ⌝ }
-    requires { ⌜ NoneUnless copied (λ (s : Sheet). Describes s (now sheet) f) ⌝ }
     requires { ⌜ at + 2147483648 ≤ farthest ⌝ }
     ensures { λ r. ⌜ CopiedPut (now (sheet .entry)) f (now (answer .entry)) at (now (answer .exit)) r ⌝ }
 {
-    if copied {
+    if f.copies {
         let r = copy_effects(
             sheet,
             f.blocks,
@@ -109,7 +108,6 @@ pub fn put_effects(
     sheet: &[u32],
     ws: &mut [u32],
     f: HirFunction,
-    copied: bool,
     index: u32,
     answer: &mut [u32],
     at: usize,
@@ -117,7 +115,6 @@ pub fn put_effects(
     requires { ⌜ Limited f ⌝ }
     requires { ⌜ Indexed (now ws) ⌝ }
     requires { ⌜ ((s : Sheet) × Before s (now sheet) (now ws) f index) ⌝ }
-    requires { ⌜ NoneUnless copied (λ (s : Sheet). Describes s (now sheet) f) ⌝ }
     requires { ⌜ (index ≤ 4096) × (at + 4294967296 ≤ farthest) ⌝ }
     ensures { λ r. ⌜ EffectsPut (now (sheet .entry)) (now (ws .entry)) f index (now (answer .entry)) at (now (ws .exit)) (now (answer .exit)) r ⌝ }
 {
@@ -125,7 +122,7 @@ pub fn put_effects(
     let context = f.context as usize;
     let returns = f.returns;
     let a1 = put(answer, at, 0);
-    let a2 = put_copied(sheet, f, copied, answer, a1);
+    let a2 = put_copied(sheet, f, answer, a1);
     let a3 = collect_effects(ws, params, context, answer, a2);
     let a4 = collect_effects(ws, 0, params, answer, a3);
     let a5 = put_create_returns(sheet, f.identifiers, returns, answer, a4);

@@ -16,14 +16,14 @@ use Rattle.writing.proofs.put.Reads as put-reads
 put-requires : tie.Need-put-requires
 put-requires c κs =
     let b4 = c .before .before .before .before in
-    omega (arith, b4 .pre .1 .1 .1 .1 .1 .1)
+    omega (arith, b4 .pre .1 .1 .1 .1 .1)
 
 -- src/lib.rt:83:9
 put-recorded-requires : tie.Need-put-recorded-requires
 put-recorded-requires c κs =
     let b3 = c .before .before .before in
     let b8 = b3 .before .before .before .before .before in
-    (b8 .pre .0, (b8 .pre .1 .1 .1 .0, omega (arith, b3 .put .ensures .next, b8 .pre .1 .1 .1 .1 .1 .1)))
+    (b8 .pre .0, omega (arith, b3 .put .ensures .next, b8 .pre .1 .1 .1 .1 .1))
 
 -- src/lib.rt:84:9
 put-handed-requires : tie.Need-put-handed-requires
@@ -31,7 +31,7 @@ put-handed-requires c κs =
     let b4 = c .before .before .before .before in
     let b8 = b4 .before .before .before .before in
     let b13 = b8 .before .before .before .before .before in
-    ((b13 .pre .0 .m, (b13 .pre .1 .1 .1 .1 .1 .0, b13 .pre .1 .0 .size)), omega (arith, b8 .put .ensures .next, b4 .put-recorded .ensures .few, b13 .pre .1 .1 .1 .1 .1 .1))
+    ((b13 .pre .0 .m, (b13 .pre .1 .1 .1 .1 .0, b13 .pre .1 .0 .size)), omega (arith, b8 .put .ensures .next, b4 .put-recorded .ensures .few, b13 .pre .1 .1 .1 .1 .1))
 
 -- src/lib.rt:86:9
 process-renders-requires : tie.Need-process-renders-requires
@@ -40,19 +40,19 @@ process-renders-requires c κs =
     let b10 = b5 .before .before .before .before .before in
     let b14 = b10 .before .before .before .before in
     let b19 = b14 .before .before .before .before .before in
-    (b19 .pre .1 .0, (b19 .pre .0 .m, (b19 .pre .1 .1 .1 .1 .0, omega (arith, b14 .put .ensures .next, b10 .put-recorded .ensures .few, b5 .put-handed .ensures .few, b19 .pre .1 .1 .1 .1 .1 .1))))
+    (b19 .pre .1 .0, (b19 .pre .0 .m, (b19 .pre .1 .1 .1 .0, omega (arith, b14 .put .ensures .next, b10 .put-recorded .ensures .few, b5 .put-handed .ensures .few, b19 .pre .1 .1 .1 .1 .1))))
 
 -- where the arms meet
 joined : (c : tie.Joined1)
     → (let b8 = c .before .before .before .before .before .before .before .before in
     let b17 = b8 .before .before .before .before .before .before .before .before .before in
-    HandedPut (b17 .args .sheet .now) (b17 .args .ws .now) (b17 .args .f) (b17 .args .renders) (b17 .args .hand) (b8 .put-recorded .last .1 .1 .1 .0) (b8 .put-recorded .result) (c .if1 .ws) (c .if1 .answer) (c .if1 .a3))
+    HandedPut (b17 .args .sheet .now) (b17 .args .ws .now) (b17 .args .f) (b17 .args .renders) (b17 .args .hand) (b8 .put-recorded .last .1 .1 .0) (b8 .put-recorded .result) (c .if1 .ws) (c .if1 .answer) (c .if1 .a3))
 joined c =
     let b3 = c .before .before .before in
     let b17 = b3 .before .before .before .before .before .before .before .before .before .before .before .before .before .before in
     let same = b3 .put-handed .kept .1 .1 .1 .1 .0 in
     ⊎-elim
-    (λ w. handed-as (handed-put _ _ _ _ _ (b3 .put-handed .ensures) same (w .0 .taken) (b17 .pre .1 .1 .1 .1 .0) (w .3 .ensures) (w .3 .kept .1 .1 .1 .1 .0)) (w .8) (w .9) (w .10))
+    (λ w. handed-as (handed-put _ _ _ _ _ (b3 .put-handed .ensures) same (w .0 .taken) (b17 .pre .1 .1 .1 .0) (w .3 .ensures) (w .3 .kept .1 .1 .1 .1 .0)) (w .8) (w .9) (w .10))
     (λ w. handed-as (handed-not _ _ _ _ _ (b3 .put-handed .ensures) same (w .0 .left)) (w .1) (w .2) (w .3)) (c .if1 .came)
 
 -- src/lib.rt:88:24
@@ -89,7 +89,7 @@ same-length-2 c =
     let b17 = b13 .before .before .before .before in
     c .before .before .patch .kept .0
     ∙ joined (b4 .before) .same
-    ∙ b13 .put-recorded .kept .1 .1 .1 .0
+    ∙ b13 .put-recorded .kept .1 .1 .0
     ∙ b17 .put .kept .0
 
 -- src/lib.rt:67:1

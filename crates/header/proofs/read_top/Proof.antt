@@ -32,7 +32,7 @@ enum-told c = search needs
 
 -- src/lib.rt:130:9
 returns : tie.Need-returns
-returns c = record { read = λ s d h. no-flags _ s d h _ (says flagsSays (c .enum-told .given .1) (c .before .before .flags .ensures)) }
+returns c = record { read = λ s d h. no-flags _ s d h _ (says flagsSays (c .enum-told .given .1) (c .before .before .flags .ensures)); few = tt }
 
 -- src/lib.rt:132:32
 count-requires : tie.Need-count-requires
@@ -48,7 +48,10 @@ enum-told-2 c = search needs
 
 -- src/lib.rt:133:9
 returns-2 : tie.Need-returns-2
-returns-2 c = record { read = λ s d h. no-identifiers _ s d h _ _ (says flagsSays (c .before .before .before .before .flags2 .given .1) (c .before .before .before .before .before .before .flags .ensures)) _ (says wordSays (c .enum-told2 .given .1) (c .before .before .count .ensures)) }
+returns-2 c =
+    let b4 = c .before .before .before .before in
+    let b6 = b4 .before .before in
+    record { read = λ s d h. no-identifiers _ s d h _ _ (says flagsSays (b4 .flags2 .given .1) (b6 .flags .ensures)) _ (says wordSays (c .enum-told2 .given .1) (c .before .before .count .ensures)); few = tt }
 
 -- src/lib.rt:135:49
 cast-read-ends : tie.Need-cast-read-ends
@@ -56,7 +59,10 @@ cast-read-ends c = search needs
 
 -- src/lib.rt:135:24
 read-ends-requires : tie.Need-read-ends-requires
-read-ends-requires c κs = (count-reads 512 _ _ _ _ (says wordSays (c .before .before .n .given .1) (c .before .before .before .before .count .ensures)), c .before .before .before .before .before .before .before .before .before .before .before .pre .0)
+read-ends-requires c κs =
+    let b4 = c .before .before .before .before in
+    let b11 = b4 .before .before .before .before .before .before .before in
+    (count-reads 512 _ _ _ _ (says wordSays (c .before .before .n .given .1) (b4 .count .ensures)), b11 .pre .0)
 
 -- src/lib.rt:135:18
 enum-known-c3 : tie.Need-enum-known-c3
@@ -72,7 +78,13 @@ same-length c = search needs
 
 -- src/lib.rt:136:9
 returns-3 : tie.Need-returns-3
-returns-3 c = record { read = λ s d h. no-ends _ s d h _ _ (says flagsSays (c .before .before .before .before .before .before .before .before .before .before .before .flags2 .given .1) (c .before .before .before .before .before .before .before .before .before .before .before .before .before .flags .ensures)) _ _ (says wordSays (c .before .before .before .before .before .before .before .n .given .1) (c .before .before .before .before .before .before .before .before .before .count .ensures)) _ _ (ends-as (c .before .before .before .before .read-ends .ensures) (c .enum-told3 .given .1)) }
+returns-3 c =
+    let b4 = c .before .before .before .before in
+    let b7 = b4 .before .before .before in
+    let b9 = b7 .before .before in
+    let b11 = b9 .before .before in
+    let b13 = b11 .before .before in
+    record { read = λ s d h. no-ends _ s d h _ _ (says flagsSays (b11 .flags2 .given .1) (b13 .flags .ensures)) _ _ (says wordSays (b7 .n .given .1) (b9 .count .ensures)) _ _ (ends-as (b4 .read-ends .ensures) (c .enum-told3 .given .1)); few = tt }
 
 -- src/lib.rt:138:32
 count-requires-2 : tie.Need-count-requires-2
@@ -92,7 +104,14 @@ same-length-2 c = search needs
 
 -- src/lib.rt:139:9
 returns-4 : tie.Need-returns-4
-returns-4 c = record { read = λ s d h. no-functions _ s d h _ _ (says flagsSays (c .before .before .before .before .before .before .before .before .before .before .before .before .before .before .before .flags2 .given .1) (c .before .before .before .before .before .before .before .before .before .before .before .before .before .before .before .before .before .flags .ensures)) _ _ (says wordSays (c .before .before .before .before .before .before .before .before .before .before .before .n .given .1) (c .before .before .before .before .before .before .before .before .before .before .before .before .before .count .ensures)) _ _ _ (ends-as (c .before .before .before .before .before .before .before .before .read-ends .ensures) (c .before .before .before .before .c3 .given .1)) _ (says wordSays (c .enum-told4 .given .1) (c .before .before .count2 .ensures)) }
+returns-4 c =
+    let b4 = c .before .before .before .before in
+    let b8 = b4 .before .before .before .before in
+    let b11 = b8 .before .before .before in
+    let b13 = b11 .before .before in
+    let b15 = b13 .before .before in
+    let b17 = b15 .before .before in
+    record { read = λ s d h. no-functions _ s d h _ _ (says flagsSays (b15 .flags2 .given .1) (b17 .flags .ensures)) _ _ (says wordSays (b11 .n .given .1) (b13 .count .ensures)) _ _ _ (ends-as (b8 .read-ends .ensures) (b4 .c3 .given .1)) _ (says wordSays (c .enum-told4 .given .1) (c .before .before .count2 .ensures)); few = tt }
 
 -- src/lib.rt:141:54
 cast-read-functions : tie.Need-cast-read-functions
@@ -100,7 +119,11 @@ cast-read-functions c = search needs
 
 -- src/lib.rt:141:24
 read-functions-requires : tie.Need-read-functions-requires
-read-functions-requires c κs = (count-reads 64 _ _ _ _ (says wordSays (c .before .before .m .given .1) (c .before .before .before .before .count2 .ensures)), (omega (arith, c .before .before .before .before .before .before .before .before .before .before .before .before .before .before .before .before .before .before .before .before .before .before .pre .0, c .before .before .before .before .before .before .before .before .before .before .read-ends .ensures .same), (c .before .before .before .before .before .before .before .before .before .before .before .before .before .before .before .before .before .before .before .before .before .before .pre .1, count-within 64 _ _ _ _ (says wordSays (c .before .before .m .given .1) (c .before .before .before .before .count2 .ensures)))))
+read-functions-requires c κs =
+    let b4 = c .before .before .before .before in
+    let b10 = b4 .before .before .before .before .before .before in
+    let b22 = b10 .before .before .before .before .before .before .before .before .before .before .before .before in
+    (count-reads 64 _ _ _ _ (says wordSays (c .before .before .m .given .1) (b4 .count2 .ensures)), (omega (arith, b22 .pre .0, b10 .read-ends .ensures .same), (b22 .pre .1, count-within 64 _ _ _ _ (says wordSays (c .before .before .m .given .1) (b4 .count2 .ensures)))))
 
 -- src/lib.rt:141:18
 enum-known-c5 : tie.Need-enum-known-c5
@@ -116,7 +139,17 @@ same-length-3 c = search needs
 
 -- src/lib.rt:142:9
 returns-5 : tie.Need-returns-5
-returns-5 c = record { read = λ s d h. no-list _ s d h _ _ (says flagsSays (c .before .before .before .before .before .before .before .before .before .before .before .before .before .before .before .before .before .before .before .before .before .before .flags2 .given .1) (c .before .before .before .before .before .before .before .before .before .before .before .before .before .before .before .before .before .before .before .before .before .before .before .before .flags .ensures)) _ _ (says wordSays (c .before .before .before .before .before .before .before .before .before .before .before .before .before .before .before .before .before .before .n .given .1) (c .before .before .before .before .before .before .before .before .before .before .before .before .before .before .before .before .before .before .before .before .count .ensures)) _ _ _ (ends-as (c .before .before .before .before .before .before .before .before .before .before .before .before .before .before .before .read-ends .ensures) (c .before .before .before .before .before .before .before .before .before .before .before .c3 .given .1)) _ _ (says wordSays (c .before .before .before .before .before .before .before .m .given .1) (c .before .before .before .before .before .before .before .before .before .count2 .ensures)) _ (functions-as (c .before .before .before .before .read-functions .ensures) (c .enum-told5 .given .1)) }
+returns-5 c =
+    let b4 = c .before .before .before .before in
+    let b7 = b4 .before .before .before in
+    let b9 = b7 .before .before in
+    let b11 = b9 .before .before in
+    let b15 = b11 .before .before .before .before in
+    let b18 = b15 .before .before .before in
+    let b20 = b18 .before .before in
+    let b22 = b20 .before .before in
+    let b24 = b22 .before .before in
+    record { read = λ s d h. no-list _ s d h _ _ (says flagsSays (b22 .flags2 .given .1) (b24 .flags .ensures)) _ _ (says wordSays (b18 .n .given .1) (b20 .count .ensures)) _ _ _ (ends-as (b15 .read-ends .ensures) (b11 .c3 .given .1)) _ _ (says wordSays (b7 .m .given .1) (b9 .count2 .ensures)) _ (functions-as (b4 .read-functions .ensures) (c .enum-told5 .given .1)); few = tt }
 
 -- src/lib.rt:144:9
 records-errors-requires : tie.Need-records-errors-requires
@@ -128,7 +161,17 @@ same-length-4 c = search needs
 
 -- src/lib.rt:124:1
 returns-6 : tie.Need-returns-6
-returns-6 c = record { read = λ s d h. tops _ _ _ _ s d h _ _ (says flagsSays (c .before .before .before .before .before .before .before .before .before .before .before .before .before .before .before .before .before .before .before .before .before .before .before .before .flags2 .given .1) (c .before .before .before .before .before .before .before .before .before .before .before .before .before .before .before .before .before .before .before .before .before .before .before .before .before .before .flags .ensures)) _ _ (says wordSays (c .before .before .before .before .before .before .before .before .before .before .before .before .before .before .before .before .before .before .before .before .n .given .1) (c .before .before .before .before .before .before .before .before .before .before .before .before .before .before .before .before .before .before .before .before .before .before .count .ensures)) _ (ends-as (c .before .before .before .before .before .before .before .before .before .before .before .before .before .before .before .before .before .read-ends .ensures) (c .before .before .before .before .before .before .before .before .before .before .before .before .before .c3 .given .1)) _ _ (says wordSays (c .before .before .before .before .before .before .before .before .before .m .given .1) (c .before .before .before .before .before .before .before .before .before .before .before .count2 .ensures)) _ (functions-as (c .before .before .before .before .before .before .read-functions .ensures) (c .before .before .c5 .given .1)) _ (c .records-errors .ensures) }
+returns-6 c =
+    let b6 = c .before .before .before .before .before .before in
+    let b9 = b6 .before .before .before in
+    let b11 = b9 .before .before in
+    let b13 = b11 .before .before in
+    let b17 = b13 .before .before .before .before in
+    let b20 = b17 .before .before .before in
+    let b22 = b20 .before .before in
+    let b24 = b22 .before .before in
+    let b26 = b24 .before .before in
+    record { read = λ s d h. tops _ _ _ _ s d h _ _ (says flagsSays (b24 .flags2 .given .1) (b26 .flags .ensures)) _ _ (says wordSays (b20 .n .given .1) (b22 .count .ensures)) _ (ends-as (b17 .read-ends .ensures) (b13 .c3 .given .1)) _ _ (says wordSays (b9 .m .given .1) (b11 .count2 .ensures)) _ (functions-as (b6 .read-functions .ensures) (c .before .before .c5 .given .1)) _ (c .records-errors .ensures); few = count-reads 512 _ _ _ _ (says wordSays (b20 .n .given .1) (b22 .count .ensures)) }
 
 pub read-top-spec : {M : Type 1} → statement M
 read-top-spec =

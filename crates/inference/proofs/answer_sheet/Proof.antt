@@ -1,6 +1,6 @@
 use native.Mathlib.Omega.{arith}
 use mathlib.Core.Path.{_∙_}
-use Rattle.inference.proofs.Making.{prepared-got, no-answer, described-none}
+use Rattle.inference.proofs.Making.{prepared-got, no-answer}
 use Rattle.inference.proofs.Ending.{too-long, fitting}
 use borrow.Author.Needs.{needs}
 use Rattle.inference.proofs.answer_sheet.Statement.{statement}
@@ -13,9 +13,7 @@ use Rattle.rows.proofs.clear.Reads as clear-reads
 
 -- src/lib.rt:106:35
 build-requires : tie.Need-build-requires
-build-requires c κs =
-    let b4 = c .before .before .before .before in
-    (b4 .pre .0, b4 .pre .1 .0)
+build-requires c κs = c .before .before .before .before .pre
 
 -- src/lib.rt:106:27
 enum-known-f : tie.Need-enum-known-f
@@ -42,7 +40,7 @@ put-answer-requires c κs =
     let b3 = c .before .before .before in
     let b7 = b3 .before .before .before .before in
     let b12 = b7 .before .before .before .before .before in
-    ((b12 .pre .1 .0 .0, prepared-got (b7 .build .ensures) (b3 .f .given .1) (b12 .pre .1 .0 .0) (b12 .pre .1 .0 .1)), described-none (b12 .pre .1 .0 .0) (b12 .pre .1 .0 .1) (prepared-got (b7 .build .ensures) (b3 .f .given .1) (b12 .pre .1 .0 .0) (b12 .pre .1 .0 .1)) (b12 .pre .1 .1))
+    (b12 .pre .1 .0 .0, prepared-got (b7 .build .ensures) (b3 .f .given .1) (b12 .pre .1 .0 .0) (b12 .pre .1 .0 .1))
 
 -- src/lib.rt:111:5
 clear-requires : tie.Need-clear-requires

@@ -1,7 +1,7 @@
 use mathlib.Core.Path.{_∙_}
 use borrow.Author.Needs.{needs}
 use Rattle.building.proofs.Ends.{starts-begun}
-use Rattle.parameters.proofs.Before.{no-top, too-many, no-tracked, function-read}
+use Rattle.parameters.proofs.Before.{no-top, few-identifiers, no-tracked, function-read}
 use Rattle.parameters.proofs.read_function.Statement.{statement}
 use Rattle.parameters.proofs.read_function.Tie as tie
 
@@ -22,24 +22,15 @@ returns c =
     let b3 = c .before .before .before in
     let b4 = b3 .before in no-top (b4 .read-top .ensures) (c .enum-told .given .1)
 
-same-length-2 : tie.Need-same-length-2
-same-length-2 c = search needs
-
-returns-2 : tie.Need-returns-2
-returns-2 c =
-    let b3 = c .before .before .before in
-    let b7 = b3 .before .before .before .before in
-    too-many (b7 .read-top .ensures) (b3 .top .given .1) (c .if1 .taken)
-
 start-requires : tie.Need-start-requires
 start-requires c κs = search needs
 
 read-tracked-requires : tie.Need-read-tracked-requires
 read-tracked-requires c κs =
-    let b3 = c .before .before .before in
-    let b4 = b3 .before in
-    let b6 = b4 .before .before in
-    (b6 .if1 .left, starts-begun (b4 .start .ensures) .sound)
+    let b4 = c .before .before .before .before in
+    let b7 = b4 .before .before .before in
+    let b11 = b7 .before .before .before .before in
+    (few-identifiers (b11 .read-top .ensures) (b7 .top .given .1), starts-begun (b4 .start .ensures) .sound)
 
 enum-known-t : tie.Need-enum-known-t
 enum-known-t c = search needs
@@ -47,35 +38,35 @@ enum-known-t c = search needs
 enum-told-2 : tie.Need-enum-told-2
 enum-told-2 c = search needs
 
-same-length-3 : tie.Need-same-length-3
-same-length-3 c = search needs
+same-length-2 : tie.Need-same-length-2
+same-length-2 c = search needs
 
-returns-3 : tie.Need-returns-3
-returns-3 c =
-    let b3 = c .before .before .before in
-    let b4 = b3 .before in
+returns-2 : tie.Need-returns-2
+returns-2 c =
+    let b4 = c .before .before .before .before in
     let b9 = b4 .before .before .before .before .before in
-    let b14 = b9 .before .before .before .before .before in
-    let b18 = b14 .before .before .before .before in no-tracked (b18 .read-top .ensures) (b14 .top .given .1) (starts-begun (b9 .start .ensures)) (b4 .read-tracked .ensures) (c .enum-told2 .given .1)
+    let b12 = b9 .before .before .before in
+    let b16 = b12 .before .before .before .before in
+    no-tracked (b16 .read-top .ensures) (b12 .top .given .1) (starts-begun (b9 .start .ensures)) (b4 .read-tracked .ensures) (c .enum-told2 .given .1)
 
 begun-requires : tie.Need-begun-requires
 begun-requires c κs = tt
 
-same-length-4 : tie.Need-same-length-4
-same-length-4 c =
+same-length-3 : tie.Need-same-length-3
+same-length-3 c =
     let b9 = c .before .before .before .before .before .before .before .before .before in
     let b14 = b9 .before .before .before .before .before in
-    let b23 = b14 .before .before .before .before .before .before .before .before .before in
-    b9 .read-tracked .kept .1 .0 ∙ b14 .start .kept .0 ∙ b23 .read-top .kept .1 .0
+    let b21 = b14 .before .before .before .before .before .before .before in
+    b9 .read-tracked .kept .1 .0 ∙ b14 .start .kept .0 ∙ b21 .read-top .kept .1 .0
 
-returns-4 : tie.Need-returns-4
-returns-4 c =
+returns-3 : tie.Need-returns-3
+returns-3 c =
     let b5 = c .before .before .before .before .before in
     let b9 = b5 .before .before .before .before in
     let b14 = b9 .before .before .before .before .before in
-    let b19 = b14 .before .before .before .before .before in
-    let b23 = b19 .before .before .before .before in
-    function-read (b23 .read-top .ensures) (b19 .top .given .1) (starts-begun (b14 .start .ensures)) (b9 .read-tracked .ensures) (b5 .t .given .1) (c .begun .ensures)
+    let b17 = b14 .before .before .before in
+    let b21 = b17 .before .before .before .before in
+    function-read (b21 .read-top .ensures) (b17 .top .given .1) (starts-begun (b14 .start .ensures)) (b9 .read-tracked .ensures) (b5 .t .given .1) (c .begun .ensures)
 
 pub read-function-spec : {M : Type 1} → statement M
 read-function-spec =
@@ -86,14 +77,12 @@ read-function-spec =
     enum-told
     same-length
     returns
-    same-length-2
-    returns-2
     start-requires
     read-tracked-requires
     enum-known-t
     enum-told-2
-    same-length-3
-    returns-3
+    same-length-2
+    returns-2
     begun-requires
-    same-length-4
-    returns-4)
+    same-length-3
+    returns-3)

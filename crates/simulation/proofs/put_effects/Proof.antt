@@ -30,14 +30,14 @@ cast-context c =
 put-requires : tie.Need-put-requires
 put-requires c κs =
     let b7 = c .before .before .before .before .before .before .before in
-    omega (arith, b7 .pre .1 .1 .1 .1)
+    omega (arith, b7 .pre .1 .1 .1)
 
 -- src/lib.rt:98:9
 put-copied-requires : tie.Need-put-copied-requires
 put-copied-requires c κs =
     let b3 = c .before .before .before in
     let b11 = b3 .before .before .before .before .before .before .before .before in
-    (b11 .pre .0, (b11 .pre .1 .1 .1 .0, omega (arith, b11 .pre .1 .1 .1 .1, b3 .put .ensures .next)))
+    (b11 .pre .0, omega (arith, b11 .pre .1 .1 .1, b3 .put .ensures .next))
 
 -- src/lib.rt:108:9
 collect-effects-requires : tie.Need-collect-effects-requires
@@ -45,7 +45,7 @@ collect-effects-requires c κs =
     let b4 = c .before .before .before .before in
     let b8 = b4 .before .before .before .before in
     let b16 = b8 .before .before .before .before .before .before .before .before in
-    ((omega (arith, b16 .pre .0 .params, b16 .pre .0 .context), b16 .pre .1 .0 .size), omega (arith, b16 .pre .1 .1 .1 .1, b16 .pre .0 .context, b8 .put .ensures .next, b4 .put-copied .ensures .few))
+    ((omega (arith, b16 .pre .0 .params, b16 .pre .0 .context), b16 .pre .1 .0 .size), omega (arith, b16 .pre .1 .1 .1, b16 .pre .0 .context, b8 .put .ensures .next, b4 .put-copied .ensures .few))
 
 -- src/lib.rt:109:9
 collect-effects-requires-2 : tie.Need-collect-effects-requires-2
@@ -54,7 +54,7 @@ collect-effects-requires-2 c κs =
     let b9 = b4 .before .before .before .before .before in
     let b13 = b9 .before .before .before .before in
     let b21 = b13 .before .before .before .before .before .before .before .before in
-    ((omega (arith, b21 .pre .0 .params), b21 .pre .1 .0 .size), omega (arith, b21 .pre .1 .1 .1 .1, b21 .pre .0 .params, after-context _ _ _ (b21 .args .index) (b21 .pre .0) (b13 .put .ensures) (b9 .put-copied .ensures) (b4 .collect-effects .ensures)))
+    ((omega (arith, b21 .pre .0 .params), b21 .pre .1 .0 .size), omega (arith, b21 .pre .1 .1 .1, b21 .pre .0 .params, after-context _ _ _ (b21 .args .index) (b21 .pre .0) (b13 .put .ensures) (b9 .put-copied .ensures) (b4 .collect-effects .ensures)))
 
 -- src/lib.rt:110:9
 put-create-returns-requires : tie.Need-put-create-returns-requires
@@ -64,7 +64,7 @@ put-create-returns-requires c κs =
     let b13 = b8 .before .before .before .before .before in
     let b17 = b13 .before .before .before .before in
     let b25 = b17 .before .before .before .before .before .before .before .before in
-    omega (arith, b25 .pre .1 .1 .1 .1, after-params _ _ _ (b25 .args .index) (b25 .pre .0) (b17 .put .ensures) (b13 .put-copied .ensures) (b8 .collect-effects .ensures) (b3 .collect-effects2 .ensures))
+    omega (arith, b25 .pre .1 .1 .1, after-params _ _ _ (b25 .args .index) (b25 .pre .0) (b17 .put .ensures) (b13 .put-copied .ensures) (b8 .collect-effects .ensures) (b3 .collect-effects2 .ensures))
 
 -- src/lib.rt:111:22
 add-mark-tracked : tie.Need-add-mark-tracked
@@ -100,7 +100,7 @@ simulate-requires c κs =
     let b22 = b17 .before .before .before .before .before in
     let b26 = b22 .before .before .before .before in
     let b34 = b26 .before .before .before .before .before .before .before .before in
-    (indexed-after (b34 .pre .1 .0) (b4 .mark-tracked .ensures), (some-marked _ _ _ _ (b34 .pre .0) (b26 .put .ensures) (b22 .put-copied .ensures) (b17 .collect-effects .ensures) (b12 .collect-effects2 .ensures) (b34 .pre .1 .1 .0) (b8 .put-create-returns .ensures) (b4 .mark-tracked .ensures), (omega (arith, b34 .pre .0 .params, b34 .pre .0 .context), (b34 .pre .1 .1 .1 .1 .0, omega (arith, b34 .pre .1 .1 .1 .1, after-returns _ _ _ _ (b34 .pre .0) (b26 .put .ensures) (b22 .put-copied .ensures) (b17 .collect-effects .ensures) (b12 .collect-effects2 .ensures) (b34 .pre .1 .1 .0) (b8 .put-create-returns .ensures))))))
+    (indexed-after (b34 .pre .1 .0) (b4 .mark-tracked .ensures), (some-marked _ _ _ _ (b34 .pre .0) (b26 .put .ensures) (b22 .put-copied .ensures) (b17 .collect-effects .ensures) (b12 .collect-effects2 .ensures) (b34 .pre .1 .1 .0) (b8 .put-create-returns .ensures) (b4 .mark-tracked .ensures), (omega (arith, b34 .pre .0 .params, b34 .pre .0 .context), (b34 .pre .1 .1 .1 .0, omega (arith, b34 .pre .1 .1 .1, after-returns _ _ _ _ (b34 .pre .0) (b26 .put .ensures) (b22 .put-copied .ensures) (b17 .collect-effects .ensures) (b12 .collect-effects2 .ensures) (b34 .pre .1 .1 .0) (b8 .put-create-returns .ensures))))))
 
 -- src/lib.rt:120:25
 sub-patch : tie.Need-sub-patch
@@ -153,7 +153,7 @@ same-length-2 c =
     ∙ b17 .put-create-returns .kept .1 .1 .1 .0
     ∙ b21 .collect-effects2 .kept .1 .1 .1 .0
     ∙ b26 .collect-effects .kept .1 .1 .1 .0
-    ∙ b31 .put-copied .kept .1 .1 .1 .0
+    ∙ b31 .put-copied .kept .1 .1 .0
     ∙ b35 .put .kept .0
 
 -- src/lib.rt:80:1
