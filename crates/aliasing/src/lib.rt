@@ -3,20 +3,21 @@ ghost use mathlib.Core.Path.{_≡_};
 ghost use Prim.Native.Nat.{_+_, _-_, _*_, _≤_, _<_, max};
 ghost use lib.ListN.{length, getD};
 ghost use Rattle.model.specs.Limits.{mostOrder};
-ghost use Rattle.rows.specs.Layout.{LEAST, SEEN, MUTATIONS, QUEUE, VALUE};
+ghost use Rattle.rows.specs.Layout.{LEAST, SEEN, BASE, MUTATIONS, QUEUE, VALUE};
 ghost use Rattle.rows.specs.Rows.{Indexed};
 ghost use Rattle.pushes.specs.Pushes.{Pushed};
 ghost use Rattle.rows.specs.Pending.{kindOf};
 ghost use Rattle.aliasing.specs.Says.{bit, kindBit, kindSays};
 ghost use Rattle.aliasing.specs.State.{nodesOf, fieldAt, Handing, NoneAbove};
 ghost use Rattle.aliasing.specs.Accepts.{raiseW, recordW, acceptW, functionW, handW};
-ghost use Rattle.aliasing.specs.Walks.{Ready, AllConditional, Callable, Stepped, Walked, Mutated};
+ghost use Rattle.aliasing.specs.Walks.{Ready, AllConditional, Callable, Stepped, Walked, Unmarked, BaseTaken, Mutated};
 ghost use Rattle.aliasing.specs.Pending.{Pending, Made, Processed};
 use hir::EvaluationOrder;
 use hir::IdentifierId;
 use pushes::entry;
 use pushes::push_all;
 use pushes::push_whole;
+use rows::BASE;
 use rows::END;
 use rows::HANDED;
 use rows::KEPT;
@@ -279,18 +280,42 @@ fn kind_bit(k: MutationKind) -> u32
     }
 }
 
-// The walk of one mutation: the entries taken, and the functions handed over from `hand` on. Its levels count from `base` on, where no earlier walk has left a mark; its own are at most 2 higher.
-pub fn mutate(ws: &mut [u32], hand: usize, m: Mutation, base: u32) -> Taken
+// No identifier is marked, and levels count from 0.
+pub fn clear_marks(ws: &mut [u32])
+    requires { ⌜ Indexed (now ws) ⌝ }
+    ensures { λ _. ⌜ Unmarked (now (ws .entry)) (now (ws .exit)) ⌝ }
+{
+    let nodes = ws[NODES] as usize;
+    clear(ws, SEEN, nodes);
+    ws[BASE] = 0;
+}
+
+// Where the levels of a walk count from, above the marks of earlier walks; the next walk's count from 2 higher. Marks that have come high are cleared.
+fn take_base(ws: &mut [u32]) -> u32
+    requires { ⌜ Indexed (now ws) ⌝ }
+    requires { ⌜ NoneAbove (getD (now ws) BASE 0) (now ws) ⌝ }
+    ensures { λ r. ⌜ BaseTaken (now (ws .entry)) (now (ws .exit)) r ⌝ }
+{
+    if 4096 < ws[BASE] {
+        clear_marks(ws);
+    }
+    let base = ws[BASE];
+    ws[BASE] = base + 2;
+    base
+}
+
+// The walk of one mutation: the entries taken, and the functions handed over from `hand` on.
+pub fn mutate(ws: &mut [u32], hand: usize, m: Mutation) -> Taken
     requires { ⌜ Indexed (now ws) ⌝ }
     requires { ⌜ Handing (now ws) hand ⌝ }
     requires { ⌜ Callable m ⌝ }
-    requires { ⌜ (base ≤ 4096) × NoneAbove base (now ws) ⌝ }
-    ensures { λ r. ⌜ Mutated m (now (ws .entry)) hand (now (ws .exit)) (r .count) (r .hand) × NoneAbove (base + 2) (now (ws .exit)) ⌝ }
+    ensures { λ r. ⌜ Mutated m (now (ws .entry)) hand (now (ws .exit)) (r .count) (r .hand) ⌝ }
 {
-    let kind = m.kind;
-    ws[QUEUE] = entry(m.start.0, bit_of(m.transitive), 0, kind_bit(kind));
+    let base = take_base(ws);
+    let kind = kind_bit(m.kind);
+    ws[QUEUE] = entry(m.start.0, bit_of(m.transitive), 0, kind);
     if m.transitive {
-        if kind_bit(kind) == 0 {
+        if kind == 0 {
             return walk_conditional(ws, QUEUE + 1, hand, m, base);
         }
     }
@@ -331,14 +356,13 @@ pub fn process_mutations(ws: &mut [u32], count: usize, should_record_errors: boo
     requires { ⌜ Pending (now ws) count ⌝ }
     ensures { λ r. ⌜ Processed «should_record_errors» (now (ws .entry)) count (now (ws .exit)) r ⌝ }
 {
-    let nodes = ws[NODES] as usize;
-    clear(ws, SEEN, nodes);
+    clear_marks(ws);
     let mut i = 0;
     let mut hand = HANDED;
     while i < count {
         let at = MUTATIONS + 3 * i;
         let m = pending_mutation(ws[at], ws[at + 1], ws[at + 2], should_record_errors);
-        let r = mutate(ws, hand, m, (2 * i) as u32);
+        let r = mutate(ws, hand, m);
         ws[at + 2] = r.count;
         hand = r.hand;
         i += 1;

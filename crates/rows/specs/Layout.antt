@@ -32,7 +32,11 @@ END = 2112
 abbrev pub SEEN : ℕ
 SEEN = 2624
 
--- the rows of the graph, from here up to QUEUE, after 64 words that are not used: the values, 512 words (0 no node, 1 object, 2 phi, 3 + k function k)
+-- where the levels of the next walk count from
+abbrev pub BASE : ℕ
+BASE = 3136
+
+-- the rows of the graph, from here up to QUEUE, after 63 words that are not used: the values, 512 words (0 no node, 1 object, 2 phi, 3 + k function k)
 abbrev pub VALUE : ℕ
 VALUE = 3200
 
