@@ -29,11 +29,11 @@ use Rattle.aliasing.specs.State.{nodesOf, seenOf, levels, NoneAbove, rec
 use Rattle.aliasing.specs.Accepts.{acceptW, handW}
 use Rattle.aliasing.specs.Potential.{phi}
 use Rattle.aliasing.specs.Walks.{Shows, Ready, Callable, Stepped}
-use Rattle.aliasing.proofs.Parts.{slice-below, slice-above, nodes-below, seen-below, seen-above, rows-below, rows-above, mark-kept, mark-seen, seen-at, seen-length, accept-kept, accept-nodes, nodes-length}
+use Rattle.aliasing.proofs.Parts.{slice-below, slice-above, nodes-below, seen-below, seen-above, rows-below, rows-above, base-below, base-above, mark-kept, mark-seen, seen-at, seen-length, accept-kept, accept-nodes, nodes-length}
 use Rattle.aliasing.proofs.Levels.{levels-length, levels-at, levels-set, above-as, above-set}
 use Rattle.aliasing.proofs.Records.{level-is, accept-records, accept-kept-count, accept-ends}
-use Rattle.aliasing.proofs.Fields.{covered-as, covered-nodes}
-use Rattle.aliasing.proofs.Hands.{handed-is, hand-same, room-kept, records-length}
+use Rattle.aliasing.proofs.Fields.{covered-as}
+use Rattle.aliasing.proofs.Hands.{handed-is, hand-same, room-kept, records-length, handing-as}
 use Rattle.aliasing.proofs.Potential.{phi-falls}
 use Rattle.aliasing.proofs.Cases.{step-skips, step-misses, step-accepts}
 
@@ -134,7 +134,7 @@ module _ (m : Mutation) (base : ℕ) (ws : List ℕ) (top hand : ℕ) (ready : R
   stays : ((w : Walk) → Shows base ws top hand w → Shows base ws (top - 1) hand (step (modeSays m) (mutationSays m) (w .queue) w)) → Stepped m base ws top hand ws (top - 1) hand
   stays follows = record {
     follows = follows;
-    ready = record { size = ready .size; low = omega arith; good = ready .good; fits = omega (arith, ready .fits); few = ready .few; marked = ready .marked; handing = ready .handing };
+    ready = record { size = ready .size; low = omega arith; good = ready .good; fits = omega (arith, ready .fits); few = ready .few; next = ready .next; handing = ready .handing };
     falls = omega arith;
     aside = record { graph = refl; behind = refl; same = refl };
   }
@@ -170,8 +170,11 @@ module _ (m : Mutation) (base : ℕ) (ws : List ℕ) (top hand : ℕ) (ready : R
         ap (levels base) (mark-seen ws (placeAt ws top) (base + kindAt ws top + 1) x-below)
         ∙ levels-set base (seenOf ws) (placeAt ws top) (base + kindAt ws top + 1) (kindAt ws top + 1) (omega (arith, seen-length ws (ready .size))) (omega arith)
 
-    mark-most : NoneAbove (base + 2) marked
-    mark-most = above-set ws (placeAt ws top) (base + kindAt ws top + 1) (ready .size) x-below (omega arith) (ready .marked)
+    mark-base : getD marked 3136 0 ≡ getD ws 3136 0
+    mark-base = base-above mark (omega arith)
+
+    mark-most : NoneAbove (getD marked 3136 0) marked
+    mark-most = above-set ws (placeAt ws top) (base + kindAt ws top + 1) (ready .size) x-below (omega (arith, mark-base, ready .next)) (omega (arith, mark-base)) (ready .handing .marks)
 
     falls-by : phi (set (levels base (seenOf ws)) (placeAt ws top) (kindAt ws top + 1)) (rowsOf ws) 512 + deg (rowsOf ws) (placeAt ws top) ≤ phi (levels base (seenOf ws)) (rowsOf ws) 512
     falls-by =
@@ -224,8 +227,8 @@ module _ (m : Mutation) (base : ℕ) (ws : List ℕ) (top hand : ℕ) (ready : R
           good = subst Good (sym (rows-above mark (omega arith))) (ready .good);
           fits = omega (arith, ready .fits, falls-by, phi-marked);
           few = ready .few;
-          marked = mark-most;
-          handing = record { low = ready .handing .low; covered = covered-nodes ws marked (rows-above mark (omega arith)) (nodes-below mark (omega arith)) (ready .handing .covered); room = omega (arith, ready .handing .room, ap (λ (l : List ℕ). bare (recordsOf l)) (nodes-below mark (omega arith))) };
+          next = mark-base ∙ ready .next;
+          handing = handing-as ws marked hand (rows-above mark (omega arith)) (nodes-below mark (omega arith)) mark-most (ready .handing);
         };
         falls = omega (arith, falls-by, phi-marked);
         aside = record { graph = rows-above mark (omega arith); behind = drop-more 3136 13827 marked ws (omega arith) (mark .high); same = mark .same };
@@ -318,6 +321,9 @@ module _ (m : Mutation) (base : ℕ) (ws : List ℕ) (top hand : ℕ) (ready : R
           marks₃ : seenOf ws₃ ≡ seenOf marked
           marks₃ = seen-below kept-queue (omega arith) ∙ seen-above kept-fields (omega arith) ∙ seen-below kept-hand (omega arith)
 
+          base₃ : getD ws₃ 3136 0 ≡ getD marked 3136 0
+          base₃ = base-below kept-queue (omega arith) ∙ base-above kept-fields (omega arith) ∙ base-below kept-hand (omega arith)
+
           seen₃ : levels base (seenOf ws₃) ≡ set (levels base (seenOf ws)) (placeAt ws top) (kindAt ws top + 1)
           seen₃ = ap (levels base) marks₃ ∙ mark-levels
 
@@ -387,8 +393,13 @@ module _ (m : Mutation) (base : ℕ) (ws : List ℕ) (top hand : ℕ) (ready : R
               good = subst Good (sym rows₃) (ready .good);
               fits = omega (arith, p′ .next, few, falls-by, phi₃, ready .fits);
               few = ready .few;
-              marked = above-as marks₃ (rows₃ ∙ sym (rows-above mark (omega arith))) mark-most;
-              handing = record { low = omega (arith, ph′ .next, ready .handing .low); covered = covered-as ws ws₃ rows₃ (ap (λ (l : List ℕ). getD l 2048 0) nodes₃ ∙ accept-kept-count (nodesOf ws) (nodes-length ws (ready .size)) (placeAt ws top) (transitiveAt ws top) (kindAt ws top + 1) m x-below kept-there) (ready .handing .covered); room = omega (arith, hand-room, ap bare records₃) };
+              next = base₃ ∙ mark-base ∙ ready .next;
+              handing = record {
+                low = omega (arith, ph′ .next, ready .handing .low);
+                covered = covered-as ws ws₃ rows₃ (ap (λ (l : List ℕ). getD l 2048 0) nodes₃ ∙ accept-kept-count (nodesOf ws) (nodes-length ws (ready .size)) (placeAt ws top) (transitiveAt ws top) (kindAt ws top + 1) m x-below kept-there) (ready .handing .covered);
+                marks = above-as marks₃ (rows₃ ∙ sym (rows-above mark (omega arith))) (omega (arith, base₃)) mark-most;
+                room = omega (arith, hand-room, ap bare records₃);
+              };
             };
             falls = omega (arith, p′ .next, few, falls-by, phi₃);
             aside = record {

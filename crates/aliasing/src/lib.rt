@@ -312,7 +312,8 @@ pub fn mutate(ws: &mut [u32], hand: usize, m: Mutation) -> Taken
     ensures { λ r. ⌜ Mutated m (now (ws .entry)) hand (now (ws .exit)) (r .count) (r .hand) ⌝ }
 {
     let base = take_base(ws);
-    let kind = kind_bit(m.kind);
+    let k = m.kind;
+    let kind = kind_bit(k);
     ws[QUEUE] = entry(m.start.0, bit_of(m.transitive), 0, kind);
     if m.transitive {
         if kind == 0 {
