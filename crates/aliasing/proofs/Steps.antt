@@ -88,6 +88,20 @@ graph-there ws hand x h e = ap (λ (g : Graph). nodeAt g x) (graph-is ws hand) �
 shows-to : {base : ℕ} {ws : List ℕ} {top hand : ℕ} (w v : Walk) → Shows base ws top hand v → w ≡ v → Shows base ws top hand w
 shows-to {base} {ws} {top} {hand} w v s p = subst (Shows base ws top hand) (sym p) s
 
+-- ---- once an entry that was not seen is marked, by the two bits that the code takes of it and the level
+-- its fields are written in ws₂, and the next function is to be handed over at h
+pub record Accepting (m : Mutation) (base : ℕ) (ws : List ℕ) (top hand transitive kind h : ℕ) (ws₂ : List ℕ) : Type 0 where
+  pub room : Room ws₂ (top - 1) (deg (rowsOf ws₂) (placeAt ws top))
+  -- its rows have bounds
+  pub below : placeAt ws top < used (rowsOf ws₂)
+  pub stepped : (ws₃ : List ℕ) (r : ℕ) → Pushed ws₂ (top - 1) (pushedW (rowsOf ws₂) (placeAt ws top) (directionAt ws top) (m .index) transitive kind) ws₃ r → Stepped m base ws top hand ws₃ r h
+
+pub record Marking (m : Mutation) (base : ℕ) (ws : List ℕ) (top hand transitive kind level : ℕ) (marked : List ℕ) : Type 0 where
+  pub missing : getD marked (3200 + placeAt ws top) 0 ≡ 0 → Stepped m base ws top hand marked (top - 1) hand
+  pub accepted : (getD marked (3200 + placeAt ws top) 0 ≡ 0 → ⊥)
+      → (wsH : List ℕ) (h : ℕ) → Pushed marked hand (handW marked (getD marked (3200 + placeAt ws top) 0) (placeAt ws top) (m .«should_record_errors»)) wsH h
+      → (ws₂ : List ℕ) → ws₂ ≡ acceptW wsH (placeAt ws top) transitive level m → Accepting m base ws top hand transitive kind h ws₂
+
 module _ (m : Mutation) (base : ℕ) (ws : List ℕ) (top hand : ℕ) (ready : Ready base ws top hand) (callable : Callable m) (more : 8528 < top) where
   fit : top ≤ length ws
   fit = omega (arith, ready .fits, ready .size)
@@ -218,7 +232,7 @@ module _ (m : Mutation) (base : ℕ) (ws : List ℕ) (top hand : ℕ) (ready : R
           gone : nodeAt (stateOf ws hand .graph) (placeAt ws top) ≡ none
           gone = graph-missing ws hand (placeAt ws top) x-below (sym value-kept ∙ none-there)
 
-      pub step-missing : Stepped m base ws top hand marked (top - 1) hand
+      step-missing : Stepped m base ws top hand marked (top - 1) hand
       step-missing = record {
         follows = misses;
         ready = record {
@@ -284,7 +298,7 @@ module _ (m : Mutation) (base : ℕ) (ws : List ℕ) (top hand : ℕ) (ready : R
         length₂ : length ws₂ ≡ length ws
         length₂ = kept-fields .same ∙ kept-hand .same ∙ mark .same
 
-        pub step-room : Room ws₂ (top - 1) (deg (rowsOf ws₂) (placeAt ws top))
+        step-room : Room ws₂ (top - 1) (deg (rowsOf ws₂) (placeAt ws top))
         step-room = record {
           size = omega (arith, ready .size, length₂);
           low = omega arith;
@@ -292,8 +306,7 @@ module _ (m : Mutation) (base : ℕ) (ws : List ℕ) (top hand : ℕ) (ready : R
           room = omega (arith, falls-by, ready .fits, ap (λ (g : List ℕ). deg g (placeAt ws top)) rows₂);
         }
 
-        -- its rows have bounds
-        pub step-used : (getD marked (3200 + placeAt ws top) 0 ≡ 0 → ⊥) → placeAt ws top < used (rowsOf ws₂)
+        step-used : (getD marked (3200 + placeAt ws top) 0 ≡ 0 → ⊥) → placeAt ws top < used (rowsOf ws₂)
         step-used there = subst (λ (g : List ℕ). placeAt ws top < used g) (sym rows₂) (used-below (rowsOf ws) (placeAt ws top) x-below (λ z. there (value-kept ∙ z)))
 
         module _ (there : getD marked (3200 + placeAt ws top) 0 ≡ 0 → ⊥) (ws₃ : List ℕ) (r : ℕ)
@@ -384,7 +397,7 @@ module _ (m : Mutation) (base : ℕ) (ws : List ℕ) (top hand : ℕ) (ready : R
           phi₃ : phi (levels base (seenOf ws₃)) (rowsOf ws₃) 512 ≡ phi (set (levels base (seenOf ws)) (placeAt ws top) (kindAt ws top + 1)) (rowsOf ws) 512
           phi₃ = ap (λ (l : List ℕ). phi l (rowsOf ws₃) 512) seen₃ ∙ ap (λ (g : List ℕ). phi (set (levels base (seenOf ws)) (placeAt ws top) (kindAt ws top + 1)) g 512) rows₃
 
-          pub step-accepted : Stepped m base ws top hand ws₃ r h
+          step-accepted : Stepped m base ws top hand ws₃ r h
           step-accepted = record {
             follows = accepts-it;
             ready = record {
@@ -408,3 +421,9 @@ module _ (m : Mutation) (base : ℕ) (ws : List ℕ) (top hand : ℕ) (ready : R
               same = kept-queue .same ∙ length₂;
             };
           }
+
+    pub step-marks : Marking m base ws top hand (transitiveAt ws top) (kindAt ws top) (kindAt ws top + 1) marked
+    step-marks = record {
+      missing = step-missing;
+      accepted = λ there wsH h ph ws₂ is₂. record { room = step-room wsH h ph ws₂ is₂; below = step-used wsH h ph ws₂ is₂ there; stepped = step-accepted wsH h ph ws₂ is₂ there };
+    }

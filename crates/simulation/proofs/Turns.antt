@@ -12,7 +12,7 @@ use Rattle.model.specs.Mutation.{Mutation}
 use Rattle.model.specs.Building.{build}
 use Rattle.model.specs.State.{State, Mode, simulated}
 use Rattle.model.specs.Walks.{Walk, mutate}
-use Rattle.model.specs.Simulated.{tracked, simulation, flowEffects, Simulated, simulate}
+use Rattle.model.specs.Simulated.{tracked, simulation, flowEffects, simulate}
 use Rattle.model.specs.Answer.{effectWords}
 use Rattle.model.proofs.Handed.{withHanded}
 use Rattle.model.proofs.Simulating.{takenBy, After, after-start, after-turn, after-done}
