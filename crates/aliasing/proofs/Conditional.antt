@@ -20,7 +20,8 @@ use Rattle.aliasing.specs.declared.Mutation.{Mutation as CodeMutation}
 use Rattle.aliasing.specs.Says.{modeSays, mutationSays}
 use Rattle.aliasing.specs.State.{seenOf, levels, stateOf}
 use Rattle.aliasing.specs.Walks.{Ready, Callable, TransitiveConditional, AllConditional, Stepped}
-use Rattle.aliasing.proofs.Steps.{last, placeAt, kindAt, transitiveAt, queue-head, Marking, step-seen, step-marks}
+use Rattle.aliasing.proofs.Steps.{last, placeAt, kindAt, transitiveAt, queue-head, Entering, step-enters}
+use Rattle.aliasing.proofs.Enters.{Enters}
 
 -- ---- what such an entry pushes
 module _ {A : Type 0} (P : A → Type 0) where
@@ -92,12 +93,9 @@ module _ (m : CodeMutation) (base : ℕ) (ws : List ℕ) (top hand : ℕ) (ready
   unfolding itemOf
   is-transitive = eqb-true (transitiveAt ws top) 1 (first .0)
 
-  pub conditional-seen : base < getD ws (2624 + placeAt ws top) 0 → Stepped m base ws top hand ws (top - 1) hand
-  conditional-seen seen = step-seen m base ws top hand ready callable (more .0) (omega (arith, seen, is-conditional))
-
-  pub conditional-marks : getD ws (2624 + placeAt ws top) 0 ≤ base → placeAt ws top < getD ws 8322 0 → Marking m base ws top hand 1 0 1 (set ws (2624 + placeAt ws top) (base + 1))
-  conditional-marks unseen below =
+  pub conditional-enters : {ws₁ : List ℕ} {r : Bool} → Enters ws (placeAt ws top) base ws₁ r → Entering m base ws top hand 1 0 1 ws₁ r
+  conditional-enters {ws₁} {r} is =
       let one : kindAt ws top + 1 ≡ 1 = omega (arith, is-conditional) in
-      let mark : base + kindAt ws top + 1 ≡ base + 1 = omega (arith, is-conditional) in
-      subst (λ (A : Type 0). A) (λ j. Marking m base ws top hand (is-transitive j) (is-conditional j) (one j) (set ws (2624 + placeAt ws top) (mark j)))
-      (step-marks m base ws top hand ready callable (more .0) (omega (arith, unseen)) below)
+      let mark : base + kindAt ws top ≡ base = omega (arith, is-conditional) in
+      subst (λ (A : Type 0). A) (λ j. Entering m base ws top hand (is-transitive j) (is-conditional j) (one j) ws₁ r)
+      (step-enters m base ws top hand ready callable (more .0) (subst (λ (l : ℕ). Enters ws (placeAt ws top) l ws₁ r) (sym mark) is))

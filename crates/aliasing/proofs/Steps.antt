@@ -2,12 +2,14 @@
 use Prim.Native.Nat.{ℕ, suc, _+_, _-_, _/_, _%_, _≤_, _<_}
 use native.Mathlib.Omega.{arith}
 use native.Mathlib.Decide.{decLt}
-use mathlib.Core.Bool.{_&&_, not}
+use mathlib.Core.Bool.{Bool, true, false, true≢false, _&&_, not}
 use mathlib.Core.List.{List, [], _∷_, _++_, reverseAux}
 use mathlib.Core.Option.{none, some}
 use mathlib.Core.Path.{_≡_, refl, sym, ap, subst, _∙_}
 use lib.ListN.{length, getD, set, take, drop}
 use lib.Seq.{slice, length-take-le, take-suc, drop-append-le, getD-set-other, getD-take, take-set-le, take-set-lt}
+use lib.Dec.{eqb}
+use borrow.Author.Tests.{eqb-true, eqb-false, not-true, not-false}
 use Rattle.model.specs.Lists.{listIf}
 use Rattle.model.specs.Graph.{Graph, Node, nodeAt}
 use Rattle.model.specs.Mutation.{level}
@@ -35,6 +37,7 @@ use Rattle.aliasing.proofs.Records.{level-is, accept-records, accept-ke
 use Rattle.aliasing.proofs.Fields.{covered-as}
 use Rattle.aliasing.proofs.Hands.{handed-is, hand-same, room-kept, records-length, handing-as}
 use Rattle.aliasing.proofs.Potential.{phi-falls}
+use Rattle.aliasing.proofs.Enters.{Enters, enters-beyond, enters-seen, enters-marked}
 use Rattle.aliasing.proofs.Cases.{step-skips, step-misses, step-accepts}
 
 -- ---- the entry
@@ -88,7 +91,7 @@ graph-there ws hand x h e = ap (λ (g : Graph). nodeAt g x) (graph-is ws hand) �
 shows-to : {base : ℕ} {ws : List ℕ} {top hand : ℕ} (w v : Walk) → Shows base ws top hand v → w ≡ v → Shows base ws top hand w
 shows-to {base} {ws} {top} {hand} w v s p = subst (Shows base ws top hand) (sym p) s
 
--- ---- once an entry that was not seen is marked, by the two bits that the code takes of it and the level
+-- ---- what an entry leads to, by the two bits that the code takes of it and the level
 -- its fields are written in ws₂, and the next function is to be handed over at h
 pub record Accepting (m : Mutation) (base : ℕ) (ws : List ℕ) (top hand transitive kind h : ℕ) (ws₂ : List ℕ) : Type 0 where
   pub room : Room ws₂ (top - 1) (deg (rowsOf ws₂) (placeAt ws top))
@@ -96,10 +99,11 @@ pub record Accepting (m : Mutation) (base : ℕ) (ws : List ℕ) (top hand trans
   pub below : placeAt ws top < used (rowsOf ws₂)
   pub stepped : (ws₃ : List ℕ) (r : ℕ) → Pushed ws₂ (top - 1) (pushedW (rowsOf ws₂) (placeAt ws top) (directionAt ws top) (m .index) transitive kind) ws₃ r → Stepped m base ws top hand ws₃ r h
 
-pub record Marking (m : Mutation) (base : ℕ) (ws : List ℕ) (top hand transitive kind level : ℕ) (marked : List ℕ) : Type 0 where
-  pub missing : getD marked (3200 + placeAt ws top) 0 ≡ 0 → Stepped m base ws top hand marked (top - 1) hand
-  pub accepted : (getD marked (3200 + placeAt ws top) 0 ≡ 0 → ⊥)
-      → (wsH : List ℕ) (h : ℕ) → Pushed marked hand (handW marked (getD marked (3200 + placeAt ws top) 0) (placeAt ws top) (m .«should_record_errors»)) wsH h
+-- whether it is entered, and the words then
+pub record Entering (m : Mutation) (base : ℕ) (ws : List ℕ) (top hand transitive kind level : ℕ) (ws₁ : List ℕ) (enters : Bool) : Type 0 where
+  pub passed : enters ≡ false → Stepped m base ws top hand ws₁ (top - 1) hand
+  pub accepted : enters ≡ true
+      → (wsH : List ℕ) (h : ℕ) → Pushed ws₁ hand (handW ws₁ (getD ws₁ (3200 + placeAt ws top) 0) (placeAt ws top) (m .«should_record_errors»)) wsH h
       → (ws₂ : List ℕ) → ws₂ ≡ acceptW wsH (placeAt ws top) transitive level m → Accepting m base ws top hand transitive kind h ws₂
 
 module _ (m : Mutation) (base : ℕ) (ws : List ℕ) (top hand : ℕ) (ready : Ready base ws top hand) (callable : Callable m) (more : 8528 < top) where
@@ -154,11 +158,11 @@ module _ (m : Mutation) (base : ℕ) (ws : List ℕ) (top hand : ℕ) (ready : R
   }
 
   -- ---- from the limit on
-  pub step-beyond : getD ws 8322 0 ≤ placeAt ws top → Stepped m base ws top hand ws (top - 1) hand
+  step-beyond : getD ws 8322 0 ≤ placeAt ws top → Stepped m base ws top hand ws (top - 1) hand
   step-beyond beyond = stays (λ w s. nothing w s (omega (arith, beyond, limit-at ws (ready .size))))
 
   -- ---- seen at this kind or a higher one; what stands from the limit on is no mark
-  pub step-seen : base + kindAt ws top < getD ws (2624 + placeAt ws top) 0 → Stepped m base ws top hand ws (top - 1) hand
+  step-seen : base + kindAt ws top < getD ws (2624 + placeAt ws top) 0 → Stepped m base ws top hand ws (top - 1) hand
   step-seen seen = stays (λ w s. go w s (decLt (placeAt ws top) (limit (rowsOf ws))))
     where
       go : (w : Walk) → Shows base ws top hand w → Dec (placeAt ws top < limit (rowsOf ws)) → Shows base ws (top - 1) hand (step (modeSays m) (mutationSays m) (w .queue) w)
@@ -422,8 +426,29 @@ module _ (m : Mutation) (base : ℕ) (ws : List ℕ) (top hand : ℕ) (ready : R
             };
           }
 
-    pub step-marks : Marking m base ws top hand (transitiveAt ws top) (kindAt ws top) (kindAt ws top + 1) marked
-    step-marks = record {
-      missing = step-missing;
-      accepted = λ there wsH h ph ws₂ is₂. record { room = step-room wsH h ph ws₂ is₂; below = step-used wsH h ph ws₂ is₂ there; stepped = step-accepted wsH h ph ws₂ is₂ there };
+    entering : Entering m base ws top hand (transitiveAt ws top) (kindAt ws top) (kindAt ws top + 1) marked (not (eqb (getD ws (3200 + placeAt ws top) 0) 0))
+    entering = record {
+      passed = λ e. step-missing (value-same ∙ eqb-true (getD ws (3200 + placeAt ws top) 0) 0 (not-false _ e));
+      accepted = λ e wsH h ph ws₂ is₂.
+          let there : getD marked (3200 + placeAt ws top) 0 ≡ 0 → ⊥ = λ z. eqb-false (getD ws (3200 + placeAt ws top) 0) 0 (not-true _ e) (sym value-same ∙ z) in
+          record { room = step-room wsH h ph ws₂ is₂; below = step-used wsH h ph ws₂ is₂ there; stepped = step-accepted wsH h ph ws₂ is₂ there };
     }
+      where
+        value-same : getD marked (3200 + placeAt ws top) 0 ≡ getD ws (3200 + placeAt ws top) 0
+        value-same = getD-set-other ws (2624 + placeAt ws top) (3200 + placeAt ws top) (base + kindAt ws top + 1) 0 (omega arith)
+
+  -- no word is written
+  entering-not : Stepped m base ws top hand ws (top - 1) hand → Entering m base ws top hand (transitiveAt ws top) (kindAt ws top) (kindAt ws top + 1) ws false
+  entering-not s = record { passed = λ e. s; accepted = λ e. absurd (true≢false (sym e)) }
+
+  pub step-enters : {ws₁ : List ℕ} {r : Bool} → Enters ws (placeAt ws top) (base + kindAt ws top) ws₁ r → Entering m base ws top hand (transitiveAt ws top) (kindAt ws top) (kindAt ws top + 1) ws₁ r
+  step-enters {ws₁} {r} is = go (decLt (placeAt ws top) (getD ws 8322 0)) (decLt (base + kindAt ws top) (getD ws (2624 + placeAt ws top) 0))
+    where
+      to : {ws′ : List ℕ} {r′ : Bool} → Enters ws (placeAt ws top) (base + kindAt ws top) ws′ r′ → Entering m base ws top hand (transitiveAt ws top) (kindAt ws top) (kindAt ws top + 1) ws′ r′
+          → Entering m base ws top hand (transitiveAt ws top) (kindAt ws top) (kindAt ws top + 1) ws₁ r
+      to {ws′} {r′} e p = subst (λ (A : Type 0). A) (λ j. Entering m base ws top hand (transitiveAt ws top) (kindAt ws top) (kindAt ws top + 1) ((e .0 ∙ sym (is .0)) j) ((e .1 ∙ sym (is .1)) j)) p
+
+      go : Dec (placeAt ws top < getD ws 8322 0) → Dec (base + kindAt ws top < getD ws (2624 + placeAt ws top) 0) → Entering m base ws top hand (transitiveAt ws top) (kindAt ws top) (kindAt ws top + 1) ws₁ r
+      go (no h) d = to (enters-beyond ws (placeAt ws top) (base + kindAt ws top) (omega (arith, h))) (entering-not (step-beyond (omega (arith, h))))
+      go (yes h) (yes k) = to (enters-seen ws (placeAt ws top) (base + kindAt ws top) h k) (entering-not (step-seen k))
+      go (yes h) (no k) = to (enters-marked ws (placeAt ws top) (base + kindAt ws top) h (omega (arith, k))) (entering (omega (arith, k)) h)

@@ -9,7 +9,7 @@ ghost use Rattle.pushes.specs.Pushes.{Pushed};
 ghost use Rattle.rows.specs.Pending.{kindOf};
 ghost use Rattle.aliasing.specs.Says.{bit, kindBit, kindSays};
 ghost use Rattle.aliasing.specs.State.{nodesOf, fieldAt, Handing, NoneAbove};
-ghost use Rattle.aliasing.specs.Accepts.{raiseW, recordW, acceptW, functionW, handW};
+ghost use Rattle.aliasing.specs.Accepts.{enterW, entersW, raiseW, recordW, acceptW, functionW, handW};
 ghost use Rattle.aliasing.specs.Walks.{Ready, AllConditional, Callable, Stepped, Walked, Unmarked, BaseTaken, Mutated};
 ghost use Rattle.aliasing.specs.Pending.{Pending, Made, Processed};
 use hir::EvaluationOrder;
@@ -164,6 +164,21 @@ fn record_errors(ws: &mut [u32], x: usize, errors: bool, hand: usize) -> usize
     hand
 }
 
+// Is x to be accepted at this level? It has a node, and was not marked at a higher one; it is marked now. From the limit on there is no node, and neither value nor mark is written.
+fn enter(ws: &mut [u32], x: usize, level: u32) -> bool
+    requires { ⌜ (x < 512) × ((LEAST ≤ length (now ws)) × (level ≤ 4097)) ⌝ }
+    ensures { λ r. ⌜ (now (ws .exit) ≡ enterW (now (ws .entry)) x level) × (r ≡ entersW (now (ws .entry)) x level) ⌝ }
+{
+    if ws[NODES] <= x as u32 {
+        return false;
+    }
+    if level < ws[SEEN + x] {
+        return false;
+    }
+    ws[SEEN + x] = level + 1;
+    ws[VALUE + x] != 0
+}
+
 // Takes the last entry pushed. The walk's levels count from `base` on.
 fn step(ws: &mut [u32], top: usize, hand: usize, m: Mutation, base: u32) -> Next
     requires { ⌜ Ready base (now ws) top hand ⌝ }
@@ -175,15 +190,7 @@ fn step(ws: &mut [u32], top: usize, hand: usize, m: Mutation, base: u32) -> Next
     let e = ws[t];
     let x = (e % 512) as usize;
     let kind = e / 2048 % 2;
-    // From the limit on there is no node, and neither value nor mark is written.
-    if ws[NODES] <= e % 512 {
-        return Next { top: t, hand: hand };
-    }
-    if base + kind < ws[SEEN + x] {
-        return Next { top: t, hand: hand };
-    }
-    ws[SEEN + x] = base + kind + 1;
-    if ws[VALUE + x] == 0 {
+    if !enter(ws, x, base + kind) {
         return Next { top: t, hand: hand };
     }
     let transitive = e / 512 % 2;
@@ -225,15 +232,7 @@ fn step_conditional(ws: &mut [u32], top: usize, hand: usize, m: Mutation, base: 
     let t = top - 1;
     let e = ws[t];
     let x = (e % 512) as usize;
-    // As in `step`: from the limit on there is no node.
-    if ws[NODES] <= e % 512 {
-        return Next { top: t, hand: hand };
-    }
-    if base < ws[SEEN + x] {
-        return Next { top: t, hand: hand };
-    }
-    ws[SEEN + x] = base + 1;
-    if ws[VALUE + x] == 0 {
+    if !enter(ws, x, base) {
         return Next { top: t, hand: hand };
     }
     let index = m.index;
