@@ -70,14 +70,14 @@ module _ (ws : List ℕ) (indexed : Indexed ws) where
             clear-at ws 2624 (getD ws 8322 0) x (omega (arith, nodes-few, indexed .size)) h,
           )
 
-  -- there is room for all functions
-  pub unmarked-handing : (l : List ℕ) → Unmarked ws l → Covered ws → Handing l 13315
-  unmarked-handing l u covered = record {
-    low = omega arith;
-    covered = covered-nodes ws l (rows-above (u .kept) (omega arith)) (nodes-below (u .kept) (omega arith)) covered;
-    marks = above-as refl refl (omega arith) (u .marks);
-    room = omega (arith, bare-top (recordsOf (nodesOf l)), records-length (nodesOf l));
-  }
+-- there is room for all functions then
+pub unmarked-handing : (ws l : List ℕ) → Unmarked ws l → Covered ws → Handing l 13315
+unmarked-handing ws l u covered = record {
+  low = omega arith;
+  covered = covered-nodes ws l (rows-above (u .kept) (omega arith)) (nodes-below (u .kept) (omega arith)) covered;
+  marks = above-as refl refl (omega arith) (u .marks);
+  room = omega (arith, bare-top (recordsOf (nodesOf l)), records-length (nodesOf l));
+}
 
 -- ---- l is ws with its marks cleared, or as it was where the base was low
 pub record Lowered (ws l : List ℕ) : Type 0 where

@@ -227,7 +227,7 @@ module _ (ws : List ℕ) (indexed : Indexed ws) (l : List ℕ) (clear : Unmarked
   cleared-start errors =
       process-start errors l count (u .indexed)
       (record { few = pending .few; covered = covered-nodes ws l (u .aside .graph) (u .nodes) (pending .covered); orders = subst (Every (λ (m : Mutation). m .order ≤ 999999)) (sym mutations-are) (pending .orders) })
-      (unmarked-handing ws indexed l clear (pending .covered))
+      (unmarked-handing ws l clear (pending .covered))
 
   pub cleared-end : (errors : Bool) (ws′ : List ℕ) (hand : ℕ) → Processed errors l count ws′ hand → Processed errors ws count ws′ hand
   cleared-end errors ws′ hand p = record {

@@ -225,7 +225,7 @@ module _ (ws : List ℕ) (indexed : Indexed ws) (l : List ℕ) (clear : Unmarked
 
   pub cleared-start : (count index returns : ℕ) (answer : List ℕ) (at : ℕ) → Covered ws → Turned l count index returns answer at l answer at 0 index
   cleared-start count index returns answer at covered =
-      turned-start l count index returns answer at (u .indexed) (unmarked-handing ws indexed l clear covered)
+      turned-start l count index returns answer at (u .indexed) (unmarked-handing ws l clear covered)
 
   pub cleared-marked : (s : Sheet) {count index returns : ℕ} → Marked s ws count index returns → Marked s l count index returns
   cleared-marked s {count} d = record {
