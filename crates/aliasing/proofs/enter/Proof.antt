@@ -4,6 +4,7 @@ use lib.ListN.{length-set}
 use lib.Seq.{getD-set-other}
 use lib.Dec.{eqb}
 use native.Mathlib.Omega.{arith}
+use borrow.Author.Needs.{needs}
 use Prim.Native.Nat.{ℕ, _+_}
 use Rattle.aliasing.proofs.Enters.{enters-beyond, enters-seen, enters-marked}
 use Rattle.aliasing.proofs.enter.Statement.{statement}
@@ -56,7 +57,7 @@ slice-read-result : tie.Need-slice-read-result
 slice-read-result c = simp length-set (omega arith)
 
 same-length : tie.Need-same-length
-same-length c = omega (arith, length-set (c .before .before .before .before .before .args .ws .now) (2624 + c .before .before .before .before .before .args .x) (c .before .before .before .before .before .args .level + 1))
+same-length c = search needs
 
 returns-3 : tie.Need-returns-3
 returns-3 c =
