@@ -4,7 +4,7 @@ use native.Mathlib.Omega.{arith}
 use mathlib.Core.Bool.{Bool, true, false}
 use mathlib.Core.List.{List, [], _∷_, _++_, map, reverseAux}
 use mathlib.Core.Option.{Option, none, some}
-use mathlib.Core.Path.{_≡_, refl, sym, ap, subst, _∙_}
+use mathlib.Core.Path.{_≡_, refl, sym, ap, subst}
 use lib.ListN.{getD, set}
 use lib.Seq.{slice}
 use borrow.Author.Tests.{eqb-true}
@@ -14,16 +14,14 @@ use Rattle.model.specs.Mutation.{Kind, conditional, level, Mutation}
 use Rattle.model.specs.State.{Mode}
 use Rattle.model.specs.Walks.{Item, Walk, kindOver, stepForward, stepCreated, stepAlias, stepMaybe, untilIndex, belowIndex, looksBack, rule1, rule2, rule3, rule4, pushes, fresh, visit, step}
 use Rattle.model.proofs.Everywhere.{every-append, every-map}
-use Rattle.rows.specs.Rows.{rowsOf, used}
 use Rattle.rows.specs.Pending.{kindOf}
-use Rattle.pushes.specs.Pushes.{pushedW, Pushed, Room, deg}
 use Rattle.pushes.specs.Items.{itemOf, queueOf}
 use Rattle.aliasing.specs.declared.Mutation.{Mutation as CodeMutation}
 use Rattle.aliasing.specs.Says.{modeSays, mutationSays}
 use Rattle.aliasing.specs.State.{seenOf, levels, stateOf}
-use Rattle.aliasing.specs.Accepts.{acceptW, handW}
 use Rattle.aliasing.specs.Walks.{Ready, Callable, TransitiveConditional, AllConditional, Stepped}
-use Rattle.aliasing.proofs.Steps.{last, placeAt, kindAt, transitiveAt, directionAt, queue-head, step-beyond, step-seen, step-missing, step-room, step-used, step-accepted}
+use Rattle.aliasing.proofs.Steps.{last, placeAt, kindAt, transitiveAt, queue-head, Entering, step-enters}
+use Rattle.aliasing.proofs.Enters.{Enters}
 
 -- ---- what such an entry pushes
 module _ {A : Type 0} (P : A → Type 0) where
@@ -95,50 +93,9 @@ module _ (m : CodeMutation) (base : ℕ) (ws : List ℕ) (top hand : ℕ) (ready
   unfolding itemOf
   is-transitive = eqb-true (transitiveAt ws top) 1 (first .0)
 
-  pub conditional-seen : base < getD ws (2624 + placeAt ws top) 0 → Stepped m base ws top hand ws (top - 1) hand
-  conditional-seen seen = step-seen m base ws top hand ready callable (more .0) (omega (arith, seen, is-conditional))
-
-  pub conditional-beyond : getD ws 8322 0 ≤ placeAt ws top → Stepped m base ws top hand ws (top - 1) hand
-  conditional-beyond beyond = step-beyond m base ws top hand ready callable (more .0) beyond
-
-  module _ (unseen : getD ws (2624 + placeAt ws top) 0 ≤ base) (below : placeAt ws top < getD ws 8322 0) where
-    abbrev marked : List ℕ
-    marked = set ws (2624 + placeAt ws top) (base + 1)
-
-    lower : getD ws (2624 + placeAt ws top) 0 ≤ base + kindAt ws top
-    lower = omega (arith, unseen)
-
-    level-is : base + 1 ≡ base + kindAt ws top + 1
-    level-is = omega (arith, is-conditional)
-
-    mark-is : marked ≡ set ws (2624 + placeAt ws top) (base + kindAt ws top + 1)
-    mark-is = ap (set ws (2624 + placeAt ws top)) level-is
-
-    value-is : getD marked (3200 + placeAt ws top) 0 ≡ getD (set ws (2624 + placeAt ws top) (base + kindAt ws top + 1)) (3200 + placeAt ws top) 0
-    value-is = ap (λ (l : List ℕ). getD l (3200 + placeAt ws top) 0) mark-is
-
-    pub conditional-missing : getD marked (3200 + placeAt ws top) 0 ≡ 0 → Stepped m base ws top hand marked (top - 1) hand
-    conditional-missing gone = subst (λ (l : List ℕ). Stepped m base ws top hand l (top - 1) hand) (sym mark-is) (step-missing m base ws top hand ready callable (more .0) lower below (sym value-is ∙ gone))
-
-    module _ (wsH : List ℕ) (h : ℕ) (ph : Pushed marked hand (handW marked (getD marked (3200 + placeAt ws top) 0) (placeAt ws top) (m .«should_record_errors»)) wsH h)
-        (ws₂ : List ℕ) (is₂ : ws₂ ≡ acceptW wsH (placeAt ws top) 1 1 m) where
-      handed : Pushed (set ws (2624 + placeAt ws top) (base + kindAt ws top + 1)) hand
-          (handW (set ws (2624 + placeAt ws top) (base + kindAt ws top + 1)) (getD (set ws (2624 + placeAt ws top) (base + kindAt ws top + 1)) (3200 + placeAt ws top) 0) (placeAt ws top) (m .«should_record_errors»)) wsH h
-      handed = subst (λ (l : List ℕ). Pushed l hand (handW l (getD l (3200 + placeAt ws top) 0) (placeAt ws top) (m .«should_record_errors»)) wsH h) mark-is ph
-
-      accepted : ws₂ ≡ acceptW wsH (placeAt ws top) (transitiveAt ws top) (kindAt ws top + 1) m
-      accepted = is₂ ∙ sym (rw (is-transitive, is-conditional))
-
-      pub conditional-room : Room ws₂ (top - 1) (deg (rowsOf ws₂) (placeAt ws top))
-      conditional-room = step-room m base ws top hand ready callable (more .0) lower below wsH h handed ws₂ accepted
-
-      module _ (there : getD marked (3200 + placeAt ws top) 0 ≡ 0 → ⊥) where
-        pub conditional-used : placeAt ws top < used (rowsOf ws₂)
-        conditional-used = step-used m base ws top hand ready callable (more .0) lower below wsH h handed ws₂ accepted (λ z. there (value-is ∙ z))
-
-        pub conditional-accepted : (ws₃ : List ℕ) (r : ℕ) → Pushed ws₂ (top - 1) (pushedW (rowsOf ws₂) (placeAt ws top) (directionAt ws top) (m .index) 1 0) ws₃ r → Stepped m base ws top hand ws₃ r h
-        conditional-accepted ws₃ r p =
-            step-accepted m base ws top hand ready callable (more .0) lower below wsH h handed ws₂ accepted (λ z. there (value-is ∙ z)) ws₃ r
-            (subst (λ (vs : List ℕ). Pushed ws₂ (top - 1) vs ws₃ r)
-            (ap (λ (t : ℕ). pushedW (rowsOf ws₂) (placeAt ws top) (directionAt ws top) (m .index) t 0) (sym is-transitive)
-            ∙ ap (pushedW (rowsOf ws₂) (placeAt ws top) (directionAt ws top) (m .index) (transitiveAt ws top)) (sym is-conditional)) p)
+  pub conditional-enters : {ws₁ : List ℕ} {r : Bool} → Enters ws (placeAt ws top) base ws₁ r → Entering m base ws top hand 1 0 1 ws₁ r
+  conditional-enters {ws₁} {r} is =
+      let one : kindAt ws top + 1 ≡ 1 = omega (arith, is-conditional) in
+      let mark : base + kindAt ws top ≡ base = omega (arith, is-conditional) in
+      subst (λ (A : Type 0). A) (λ j. Entering m base ws top hand (is-transitive j) (is-conditional j) (one j) ws₁ r)
+      (step-enters m base ws top hand ready callable (more .0) (subst (λ (l : ℕ). Enters ws (placeAt ws top) l ws₁ r) (sym mark) is))

@@ -13,15 +13,19 @@ use Rattle.model.specs.Lists.{pick, listIf, isSome, oneIf}
 use Rattle.model.specs.Graph.{Value, object, phi, function}
 use Rattle.model.specs.Mutation.{Mutation}
 use Rattle.model.specs.State.{Info, Record, noRecord, hasRecord, recordsErrors, highest, touch, functionOf}
+use Rattle.rows.specs.Layout.{BASE, HANDED, QUEUE}
+use Rattle.rows.specs.Rows.{rowsOf, Kept}
 use Rattle.rows.specs.Graph.{valueOf}
 use Rattle.rows.proofs.Tables.{tab-at, tab-length}
 use Rattle.aliasing.specs.declared.Mutation.{Mutation as CodeMutation}
 use Rattle.aliasing.specs.Says.{modeOf, modeSays}
-use Rattle.aliasing.specs.State.{fieldAt, recordAt, recordsOf, bare}
+use Rattle.aliasing.specs.State.{nodesOf, NoneAbove, fieldAt, recordAt, recordsOf, bare, Handing}
 use Rattle.aliasing.specs.Accepts.{functionW, handW}
 use Rattle.aliasing.specs.Walks.{Callable}
 use Rattle.aliasing.proofs.Packed.{has-word}
-use Rattle.aliasing.proofs.Fields.{field-there}
+use Rattle.aliasing.proofs.Fields.{field-there, covered-nodes}
+use Rattle.aliasing.proofs.Parts.{nodes-below, seen-below, rows-below, base-below}
+use Rattle.aliasing.proofs.Levels.{above-as}
 
 -- ---- which
 pub function-is : (v : ℕ) → functionW v ≡ functionOf (valueOf v)
@@ -101,3 +105,16 @@ room-kept rs x e v t m i h =
 pub records-length : (ns : List ℕ) → length (recordsOf ns) ≡ 512
 unfolding recordsOf
 records-length ns = tab-length 512 (recordAt ns)
+
+-- ---- what one mutation after another keeps true, kept
+pub handing-as : (ws ws′ : List ℕ) (hand : ℕ) → rowsOf ws′ ≡ rowsOf ws → nodesOf ws′ ≡ nodesOf ws → NoneAbove (getD ws′ BASE 0) ws′ → Handing ws hand → Handing ws′ hand
+handing-as ws ws′ hand rows nodes marks h = record { low = h .low; covered = covered-nodes ws ws′ rows nodes (h .covered); marks = marks; room = omega (arith, h .room, ap (λ (ns : List ℕ). bare (recordsOf ns)) nodes) }
+
+-- by a write behind the graph
+pub handing-behind : {b e : ℕ} {ws ws′ : List ℕ} (hand : ℕ) → Kept b e ws ws′ → QUEUE ≤ b → Handing ws hand → Handing ws′ hand
+handing-behind {b} {e} {ws} {ws′} hand k q h =
+    handing-as ws ws′ hand (rows-below k q) (nodes-below k (omega (arith, q))) (above-as (seen-below k (omega (arith, q))) (rows-below k q) (omega (arith, base-below k (omega (arith, q)))) (h .marks)) h
+
+-- where the functions handed over are forgotten
+pub handing-anew : {ws : List ℕ} {hand : ℕ} → Handing ws hand → Handing ws HANDED
+handing-anew h = record { low = omega arith; covered = h .covered; marks = h .marks; room = omega (arith, h .low, h .room) }

@@ -39,17 +39,15 @@ levels-none base ws good m =
     let j : i < 512 = omega (arith, k, good .few) in
     getD-take n l i 0 k ∙ levels-at base (seenOf ws) i j ∙ omega (arith, m .marks i k) ∙ sym (getD-replicate {A = ℕ} 512 i 0 0 j) ∙ sym (getD-take n z i 0 k))
 
-pub above-as : {most : ℕ} {ws ws′ : List ℕ} → seenOf ws′ ≡ seenOf ws → rowsOf ws′ ≡ rowsOf ws → NoneAbove most ws → NoneAbove most ws′
-above-as e g m = record { marks = λ x h. omega (arith, m .marks x (omega (arith, h, ap limit g)), ap (λ (l : List ℕ). getD l x 0) e) }
+-- the same marks, and a bound that is no lower
+pub above-as : {most more : ℕ} {ws ws′ : List ℕ} → seenOf ws′ ≡ seenOf ws → rowsOf ws′ ≡ rowsOf ws → most ≤ more → NoneAbove most ws → NoneAbove more ws′
+above-as e g q m = record { marks = λ x h. omega (arith, m .marks x (omega (arith, h, ap limit g)), ap (λ (l : List ℕ). getD l x 0) e) }
 
-pub above-more : {most more : ℕ} {ws : List ℕ} → most ≤ more → NoneAbove most ws → NoneAbove more ws
-above-more q m = record { marks = λ x h. omega (arith, m .marks x h) }
-
-pub above-set : {most : ℕ} (ws : List ℕ) (x v : ℕ) → 16384 ≤ length ws → x < 512 → v ≤ most → NoneAbove most ws → NoneAbove most (set ws (2624 + x) v)
-above-set {most} ws x v size h q m = record {
+pub above-set : {most more : ℕ} (ws : List ℕ) (x v : ℕ) → 16384 ≤ length ws → x < 512 → v ≤ more → most ≤ more → NoneAbove most ws → NoneAbove more (set ws (2624 + x) v)
+above-set {most} {more} ws x v size h q up m = record {
   marks = λ y l. omega (arith, ap (λ (s : List ℕ). getD s y 0) (mark-seen ws x v h), here y (omega (arith, l, ap limit (rows-above (mark-kept ws x v h) (omega arith)))) (ℕ-discrete y x));
 }
   where
-    here : (y : ℕ) → y < limit (rowsOf ws) → Dec (y ≡ x) → getD (set (seenOf ws) x v) y 0 ≤ most
+    here : (y : ℕ) → y < limit (rowsOf ws) → Dec (y ≡ x) → getD (set (seenOf ws) x v) y 0 ≤ more
     here y l (yes e) = omega (arith, ap (λ (k : ℕ). getD (set (seenOf ws) x v) k 0) e, getD-set-same (seenOf ws) x v 0 (omega (arith, seen-length ws size)))
     here y l (no e) = omega (arith, getD-set-other (seenOf ws) x y v 0 e, m .marks y l)

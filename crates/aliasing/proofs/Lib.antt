@@ -7,6 +7,7 @@ pub mod Parts
 pub mod Levels
 pub mod Potential
 pub mod Cases
+pub mod Enters
 pub mod Steps
 pub mod Conditional
 pub mod Walks

@@ -1,12 +1,12 @@
 -- The parts of the workspace after writes elsewhere.
-use Prim.Native.Nat.{ℕ, _+_, _-_, _≤_, _<_}
+use Prim.Native.Nat.{ℕ, _+_, _≤_, _<_}
 use native.Mathlib.Omega.{arith}
 use mathlib.Core.List.{List}
 use mathlib.Core.Path.{_≡_, refl}
 use lib.ListN.{length, getD, set}
 use lib.Seq.{slice, length-slice, length-take-le}
 use Rattle.rows.specs.Rows.{rowsOf, Kept}
-use Rattle.rows.proofs.Parts.{slice-at, slice-take, slice-drop, slice-set-in, take-less, kept-none, kept-set}
+use Rattle.rows.proofs.Parts.{slice-at, slice-take, slice-drop, slice-set-in, take-less, drop-word, kept-none, kept-set, kept-at}
 use Rattle.aliasing.specs.declared.Mutation.{Mutation}
 use Rattle.aliasing.specs.State.{nodesOf, seenOf}
 use Rattle.aliasing.specs.Accepts.{acceptW}
@@ -38,6 +38,12 @@ module _ {b e : ℕ} {ws ws′ : List ℕ} (k : Kept b e ws ws′) where
   pub rows-above : e ≤ 3200 → rowsOf ws′ ≡ rowsOf ws
   unfolding rowsOf
   rows-above h = slice-above 3200 8528 h (omega arith)
+
+  pub base-below : 3136 < b → getD ws′ 3136 0 ≡ getD ws 3136 0
+  base-below h = kept-at k 3136 h
+
+  pub base-above : e ≤ 3136 → getD ws′ 3136 0 ≡ getD ws 3136 0
+  base-above h = drop-word e 3136 ws ws′ h (k .high)
 
 -- ---- a level
 pub mark-kept : (ws : List ℕ) (x l : ℕ) → x < 512 → Kept 2624 3136 ws (set ws (2624 + x) l)

@@ -14,7 +14,6 @@ use Rattle.model.specs.State.{State, Mode, real}
 use Rattle.model.specs.Walks.{Walk, mutate}
 use Rattle.model.specs.Runs.{walksOf, after}
 use Rattle.rows.specs.Rows.{rowsOf, Good, Indexed, Kept}
-use Rattle.rows.specs.Sort.{clearW}
 use Rattle.rows.specs.Graph.{tab}
 use Rattle.rows.specs.Pending.{kindOf, mutationOf, mutationAt, mutationsOf}
 use Rattle.rows.proofs.Parts.{kept-none, kept-set, drop-more, drop-word}
@@ -23,15 +22,14 @@ use Rattle.rows.proofs.Pending.{mutations-next, mutations-end, mutations-kept}
 use Rattle.aliasing.specs.declared.MutationKind.{MutationKind}
 use Rattle.aliasing.specs.declared.Mutation.{Mutation as CodeMutation}
 use Rattle.aliasing.specs.Says.{kindSays, modeOf, modeSays, mutationSays}
-use Rattle.aliasing.specs.State.{nodesOf, recordsOf, NoneAbove, Covered, stateOf, bare, Handing}
+use Rattle.aliasing.specs.State.{stateOf, Handing}
 use Rattle.aliasing.proofs.Fields.{covered-nodes}
-use Rattle.aliasing.specs.Walks.{Mutated}
+use Rattle.aliasing.specs.Walks.{Unmarked, Mutated}
 use Rattle.aliasing.specs.Pending.{Pending, Made, takenOf, Processed}
-use Rattle.aliasing.proofs.Parts.{slice-below, nodes-below, seen-below, rows-below}
-use Rattle.aliasing.proofs.Hands.{bare-top, records-length}
+use Rattle.aliasing.proofs.Parts.{slice-below, nodes-below, rows-below}
+use Rattle.aliasing.proofs.Hands.{handing-behind}
 use Rattle.aliasing.proofs.Steps.{state-same}
-use Rattle.aliasing.proofs.Levels.{above-as, above-more}
-use Rattle.aliasing.proofs.Begin.{Unmarked, unmarked-nodes, unmarked-none}
+use Rattle.aliasing.proofs.Begin.{Remarked, remarked, unmarked-handing}
 
 -- ---- one mutation by its words
 pub kind-definite : (b : ℕ) → (b ≡ 0 → ⊥) → definite ≡ kindOf b
@@ -103,9 +101,6 @@ module _ (ws : List ℕ) (i v : ℕ) (low : 13827 ≤ i) where
   state-word : (hand : ℕ) → hand ≤ 13827 → stateOf (set ws i v) hand ≡ stateOf ws hand
   state-word hand h = state-same ws (set ws i v) hand hand (rows-below kept-word (omega arith)) (nodes-below kept-word (omega arith)) (slice-below kept-word 13315 hand h)
 
-  handing-word : (hand : ℕ) → Handing ws hand → Handing (set ws i v) hand
-  handing-word hand h = record { low = h .low; covered = covered-nodes ws (set ws i v) (rows-below kept-word (omega arith)) (nodes-below kept-word (omega arith)) (h .covered); room = omega (arith, h .room, ap (λ (ns : List ℕ). bare (recordsOf ns)) (nodes-below kept-word (omega arith))) }
-
 taken-next : (ws ws′ : List ℕ) (i c : ℕ) → ((j : ℕ) → j < i → getD ws′ (13827 + 3 * j + 2) 0 ≡ getD ws (13827 + 3 * j + 2) 0) → getD ws′ (13827 + 3 * i + 2) 0 ≡ c
     → takenOf ws′ (i + 1) ≡ takenOf ws i ++ (c ∷ [])
 unfolding takenOf tab
@@ -124,24 +119,18 @@ pub record Processing (errors : Bool) (ws₀ : List ℕ) (count : ℕ) (ws : Lis
   pub mid : i ≤ count
   pub indexed : Indexed ws
   pub handing : Handing ws hand
-  pub marked : NoneAbove (2 * i) ws
   pub rest : drop (13827 + 3 * i) ws ≡ drop (13827 + 3 * i) ws₀
   pub state : after (real errors) (drop i (mutationsOf ws₀ count)) (stateOf ws hand) ≡ after (real errors) (mutationsOf ws₀ count) (stateOf ws₀ 13315)
   pub counts : takenOf ws i ++ takens (walksOf (real errors) (drop i (mutationsOf ws₀ count)) (stateOf ws hand)) ≡ takens (walksOf (real errors) (mutationsOf ws₀ count) (stateOf ws₀ 13315))
   pub graph : rowsOf ws ≡ rowsOf ws₀
   pub same : length ws ≡ length ws₀
 
--- at the beginning there is room for all
-pub handing-start : (ws : List ℕ) → Covered ws → Handing ws 13315
-handing-start ws covered = record { low = omega arith; covered = covered; room = omega (arith, bare-top (recordsOf (nodesOf ws)), records-length (nodesOf ws)) }
-
-pub process-start : (errors : Bool) (ws : List ℕ) (count : ℕ) → Indexed ws → Pending ws count → NoneAbove 0 ws → Processing errors ws count ws 0 13315
-process-start errors ws count indexed pending marked = record {
+pub process-start : (errors : Bool) (ws : List ℕ) (count : ℕ) → Indexed ws → Pending ws count → Handing ws 13315 → Processing errors ws count ws 0 13315
+process-start errors ws count indexed pending handing = record {
   pending = pending;
   mid = omega arith;
   indexed = indexed;
-  handing = handing-start ws (pending .covered);
-  marked = above-more (omega arith) marked;
+  handing = handing;
   rest = refl;
   state = refl;
   counts = ap (λ (l : List ℕ). l ++ takens (walksOf (real errors) (mutationsOf ws count) (stateOf ws 13315))) (taken-none ws);
@@ -164,7 +153,7 @@ module _ (errors : Bool) (ws₀ : List ℕ) (count : ℕ) (ws : List ℕ) (i han
       rw (a, word-is 1, word-is 2)
 
   module _ (m : CodeMutation) (is : Made (getD ws (13827 + 3 * i) 0) (getD ws (13827 + 3 * i + 1) 0) (getD ws (13827 + 3 * i + 2) 0) errors m)
-      (ws₁ : List ℕ) (c h : ℕ) (w : Mutated m ws hand ws₁ c h) (marks : NoneAbove (2 * i + 2) ws₁) where
+      (ws₁ : List ℕ) (c h : ℕ) (w : Mutated m ws hand ws₁ c h) where
     walk-is : mutate (modeSays m) (mutationSays m) (stateOf ws hand) ≡ mutate (real errors) (mutationAt ws₀ i) (stateOf ws hand)
     walk-is = ap (λ (k : Mode). mutate k (mutationSays m) (stateOf ws hand)) (is .how) ∙ ap (λ (n : Mutation). mutate (real errors) n (stateOf ws hand)) (is .is ∙ mutation-is)
 
@@ -191,8 +180,7 @@ module _ (errors : Bool) (ws₀ : List ℕ) (count : ℕ) (ws : List ℕ) (i han
         size = omega (arith, length-set ws₁ (13827 + 3 * i + 2) c, w .aside .same, p .indexed .size);
         good = subst Good (sym rows-next) (p .indexed .good);
       };
-      handing = handing-word ws₁ (13827 + 3 * i + 2) c (omega arith) h (w .handing);
-      marked = above-more (omega arith) (above-as (seen-below (kept-word ws₁ (13827 + 3 * i + 2) c (omega arith)) (omega arith)) (rows-below (kept-word ws₁ (13827 + 3 * i + 2) c (omega arith)) (omega arith)) marks);
+      handing = handing-behind h (kept-word ws₁ (13827 + 3 * i + 2) c (omega arith)) (omega arith) (w .handing);
       rest = drop-set-lt (13827 + 3 * (i + 1)) ws₁ (13827 + 3 * i + 2) c (omega arith)
           ∙ drop-more 13827 (13827 + 3 * (i + 1)) ws₁ ws (omega arith) (w .aside .behind) ∙ drop-more (13827 + 3 * i) (13827 + 3 * (i + 1)) ws ws₀ (omega arith) (p .rest);
       state = ap (after (real errors) (drop (i + 1) (mutationsOf ws₀ count))) state-next
@@ -228,9 +216,9 @@ process-end errors ws₀ count ws i hand p done =
     }
 
 -- ---- the same from the words before the marks were cleared
-module _ (ws : List ℕ) (indexed : Indexed ws) (l : List ℕ) (is : l ≡ clearW ws 2624 (getD ws 8322 0)) (count : ℕ) (pending : Pending ws count) where
-  u : Unmarked ws l
-  u = unmarked-nodes ws indexed l is
+module _ (ws : List ℕ) (indexed : Indexed ws) (l : List ℕ) (clear : Unmarked ws l) (count : ℕ) (pending : Pending ws count) where
+  u : Remarked ws l
+  u = remarked ws l indexed (clear .kept)
 
   mutations-are : mutationsOf l count ≡ mutationsOf ws count
   mutations-are = mutations-kept ws l count (u .aside .behind)
@@ -238,7 +226,8 @@ module _ (ws : List ℕ) (indexed : Indexed ws) (l : List ℕ) (is : l ≡ clear
   pub cleared-start : (errors : Bool) → Processing errors l count l 0 13315
   cleared-start errors =
       process-start errors l count (u .indexed)
-      (record { few = pending .few; covered = covered-nodes ws l (u .aside .graph) (u .nodes) (pending .covered); orders = subst (Every (λ (m : Mutation). m .order ≤ 999999)) (sym mutations-are) (pending .orders) }) (unmarked-none ws indexed l is)
+      (record { few = pending .few; covered = covered-nodes ws l (u .aside .graph) (u .nodes) (pending .covered); orders = subst (Every (λ (m : Mutation). m .order ≤ 999999)) (sym mutations-are) (pending .orders) })
+      (unmarked-handing ws l clear (pending .covered))
 
   pub cleared-end : (errors : Bool) (ws′ : List ℕ) (hand : ℕ) → Processed errors l count ws′ hand → Processed errors ws count ws′ hand
   cleared-end errors ws′ hand p = record {

@@ -1,11 +1,11 @@
 -- The first entry of a mutation, and the whole walk as the definition's.
-use Prim.Native.Nat.{ℕ, _+_, _-_, _≤_, _<_}
+use Prim.Native.Nat.{ℕ, _+_, _≤_, _<_}
 use native.Mathlib.Omega.{arith}
 use native.Mathlib.Nat.{add-comm}
 use mathlib.Core.Bool.{Bool, true, false}
 use mathlib.Core.List.{List, [], _∷_}
 use mathlib.Core.Path.{_≡_, refl, sym, ap, subst, _∙_}
-use lib.ListN.{set, take}
+use lib.ListN.{length, set, take}
 use lib.Seq.{slice, slice-empty}
 use lib.Dec.{eqb}
 use Rattle.model.specs.Lists.{Every}
@@ -24,14 +24,15 @@ use Rattle.aliasing.specs.declared.MutationKind.{MutationKind}
 use Rattle.aliasing.specs.declared.MutationKind.the-variants.{Conditional, Definite}
 use Rattle.aliasing.specs.declared.Mutation.{Mutation as CodeMutation}
 use Rattle.aliasing.specs.Says.{bit, kindBit, kindSays, modeSays, mutationSays}
-use Rattle.aliasing.specs.State.{seenOf, levels, NoneAbove, recordsOf, stateOf, bare, Handing}
+use Rattle.aliasing.specs.State.{seenOf, levels, NoneAbove, stateOf, Handing}
 use Rattle.aliasing.specs.Potential.{phi}
-use Rattle.aliasing.specs.Walks.{Shows, Ready, TransitiveConditional, AllConditional, Callable, Walked, Mutated}
-use Rattle.aliasing.proofs.Fields.{covered-nodes}
+use Rattle.aliasing.specs.Walks.{Shows, Ready, TransitiveConditional, AllConditional, Callable, Walked, BaseTaken, Mutated}
+use Rattle.aliasing.proofs.Parts.{seen-below, base-below}
+use Rattle.aliasing.proofs.Hands.{handing-as, handing-behind}
 use Rattle.aliasing.proofs.Walks.{aside-then}
-use Rattle.aliasing.proofs.Levels.{levels-none, above-as, above-more}
+use Rattle.aliasing.proofs.Levels.{levels-none, above-as}
 use Rattle.aliasing.proofs.Potential.{phi-bound}
-use Rattle.aliasing.proofs.Begin.{levels-long, Entered, entered}
+use Rattle.aliasing.proofs.Begin.{levels-long, Remarked, remarked, Entered, entered}
 
 -- ---- however many steps, a walk at rest is the whole walk
 pub at-rest : (how : Mode) (m : Mutation) (s : State) (n : ℕ) → run how m n (start m s) .queue ≡ [] → run how m n (start m s) ≡ mutate how m s
@@ -59,55 +60,61 @@ kind-is : (k : MutationKind) → kindOf (kindBit k) ≡ kindSays k
 kind-is Conditional = refl
 kind-is Definite = refl
 
--- the entry that the code makes of its two bits
-pub entry-of : (m : CodeMutation) (e t k : ℕ) → t ≡ bit (m .transitive) → k ≡ kindBit (m .kind) → e ≡ entryW (m .start .0) t 0 k
-    → e ≡ entryW (m .start .0) (bit (m .transitive)) 0 (kindBit (m .kind))
-entry-of m e t k p q is = is ∙ rw (p, q)
-
-start-item : (m : CodeMutation) (e : ℕ) → m .start .0 < 512 → e ≡ entryW (m .start .0) (bit (m .transitive)) 0 (kindBit (m .kind)) → itemOf e ≡ startItem (mutationSays m)
+-- of the two bits that the code makes
+start-item : (m : CodeMutation) (e t k : ℕ) → m .start .0 < 512 → t ≡ bit (m .transitive) → k ≡ kindBit (m .kind) → e ≡ entryW (m .start .0) t 0 k → itemOf e ≡ startItem (mutationSays m)
 unfolding mutationSays
-start-item m e h is =
-    ap itemOf is ∙ item-entry (m .start .0) (bit (m .transitive)) 0 (kindBit (m .kind)) h (bit-below (m .transitive)) (omega arith) (kind-below (m .kind))
+start-item m e t k h p q is =
+    ap itemOf (is ∙ rw (p, q)) ∙ item-entry (m .start .0) (bit (m .transitive)) 0 (kindBit (m .kind)) h (bit-below (m .transitive)) (omega arith) (kind-below (m .kind))
     ∙ rw (bit-is (m .transitive), kind-is (m .kind))
 
-module _ (ws : List ℕ) (hand : ℕ) (m : CodeMutation) (base : ℕ) (indexed : Indexed ws) (handing : Handing ws hand) (callable : Callable m)
-    (new : (base ≤ 4096) × NoneAbove base ws) (e : ℕ) (ent : e ≡ entryW (m .start .0) (bit (m .transitive)) 0 (kindBit (m .kind))) where
-  abbrev first-words : List ℕ
-  first-words = set ws 8528 e
+-- ---- the walk can begin, and is the definition's
+pub record Started (m : CodeMutation) (ws : List ℕ) (hand base k : ℕ) (first-words : List ℕ) : Type 0 where
+  pub ready : Ready base first-words 8529 hand
+  pub conditional : m .transitive ≡ true → k ≡ 0 → AllConditional first-words 8529
+  pub mutated : (ws′ : List ℕ) (count hand′ : ℕ) → Walked m base first-words 8529 hand ws′ count hand′ → Mutated m ws hand ws′ count hand′
+  pub same : length first-words ≡ length ws
 
-  b : Entered ws e first-words
-  b = entered ws indexed e
+module _ (ws : List ℕ) (hand : ℕ) (m : CodeMutation) (indexed : Indexed ws) (handing : Handing ws hand) (callable : Callable m)
+    (l : List ℕ) (base : ℕ) (new : BaseTaken ws l base) (e t k : ℕ) (t-is : t ≡ bit (m .transitive)) (k-is : k ≡ kindBit (m .kind)) (e-is : e ≡ entryW (m .start .0) t 0 k) where
+  abbrev first-words : List ℕ
+  first-words = set l 8528 e
+
+  u : Remarked ws l
+  u = remarked ws l indexed (new .kept)
+
+  b : Entered l e first-words
+  b = entered l (u .indexed) e
 
   start-marked : NoneAbove base first-words
-  start-marked = above-as (b .marks) (b .aside .graph) (new .1)
+  start-marked = above-as (seen-below (b .kept) (omega arith)) (b .aside .graph) (omega arith) (new .marks)
 
   first-fits : 8529 + phi (levels base (seenOf first-words)) (rowsOf first-words) 512 ≤ 13315
   first-fits = omega (arith, phi-bound (levels base (seenOf first-words)) (rowsOf first-words) (b .good))
 
   queue-is : queueOf (slice 8528 8529 first-words) ≡ startItem (mutationSays m) ∷ []
   unfolding queueOf
-  queue-is = ap queueOf (b .entry) ∙ ap (λ (i : Item). i ∷ []) (start-item m e (callable .start) ent)
+  queue-is = ap queueOf (b .entry) ∙ ap (λ (i : Item). i ∷ []) (start-item m e t k (callable .start) t-is k-is e-is)
 
   shows-start : Shows base first-words 8529 hand (start (mutationSays m) (stateOf ws hand))
-  shows-start = record { queue = queue-is; seen = levels-none base first-words (b .good) start-marked ∙ ap (take (limit (rowsOf first-words))) (levels-long ws hand); state = b .state hand (handing .low) }
+  shows-start = record { queue = queue-is; seen = levels-none base first-words (b .good) start-marked ∙ ap (take (limit (rowsOf first-words))) (levels-long ws hand); state = b .state hand (handing .low) ∙ u .state hand (handing .low) }
 
-  pub start-ready : Ready base first-words 8529 hand
+  start-ready : Ready base first-words 8529 hand
   start-ready = record {
     size = b .size;
     low = omega arith;
     good = b .good;
     fits = first-fits;
-    few = new .0;
-    marked = above-more (omega arith) start-marked;
-    handing = record { low = handing .low; covered = covered-nodes ws first-words (b .aside .graph) (b .nodes) (handing .covered); room = omega (arith, handing .room, ap (λ (ns : List ℕ). bare (recordsOf ns)) (b .nodes)) };
+    few = new .few;
+    next = base-below (b .kept) (omega arith) ∙ new .next;
+    handing = handing-behind hand (b .kept) (omega arith) (handing-as ws l hand (u .aside .graph) (u .nodes) (above-as refl refl (omega (arith, new .next)) (new .marks)) handing);
   }
 
   -- the queue of a mutation that is transitive and Conditional
-  pub start-conditional : m .transitive ≡ true → kindBit (m .kind) ≡ 0 → AllConditional first-words 8529
+  start-conditional : m .transitive ≡ true → k ≡ 0 → AllConditional first-words 8529
   unfolding mutationSays
-  start-conditional t k = record { each = subst (Every TransitiveConditional) (sym queue-is) ((t, sym (kind-is (m .kind)) ∙ ap kindOf k), tt) }
+  start-conditional is zero = record { each = subst (Every TransitiveConditional) (sym queue-is) ((is, sym (kind-is (m .kind)) ∙ ap kindOf (sym k-is ∙ zero)), tt) }
 
-  pub walked-is : (ws′ : List ℕ) (count hand′ : ℕ) → Walked m base first-words 8529 hand ws′ count hand′ → Mutated m ws hand ws′ count hand′
+  walked-is : (ws′ : List ℕ) (count hand′ : ℕ) → Walked m base first-words 8529 hand ws′ count hand′ → Mutated m ws hand ws′ count hand′
   unfolding queueOf enough walkOf
   walked-is ws′ count hand′ w =
       let first : Walk = start (mutationSays m) (stateOf ws hand) in
@@ -121,5 +128,8 @@ module _ (ws : List ℕ) (hand : ℕ) (m : CodeMutation) (base : ℕ) (indexed :
         few = omega (arith, counted, walk-enough (modeSays m) count (stateOf ws hand) (mutationSays m));
         most = omega (arith, w .few, phi-bound (levels base (seenOf first-words)) (rowsOf first-words) (b .good));
         handing = w .ready .handing;
-        aside = aside-then (b .aside) (w .aside);
+        aside = aside-then (u .aside) (aside-then (b .aside) (w .aside));
       }
+
+  pub started : Started m ws hand base k first-words
+  started = record { ready = start-ready; conditional = start-conditional; mutated = walked-is; same = b .aside .same ∙ u .aside .same }

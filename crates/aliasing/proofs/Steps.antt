@@ -2,12 +2,14 @@
 use Prim.Native.Nat.{ℕ, suc, _+_, _-_, _/_, _%_, _≤_, _<_}
 use native.Mathlib.Omega.{arith}
 use native.Mathlib.Decide.{decLt}
-use mathlib.Core.Bool.{_&&_, not}
+use mathlib.Core.Bool.{Bool, true, false, true≢false, _&&_, not}
 use mathlib.Core.List.{List, [], _∷_, _++_, reverseAux}
 use mathlib.Core.Option.{none, some}
 use mathlib.Core.Path.{_≡_, refl, sym, ap, subst, _∙_}
 use lib.ListN.{length, getD, set, take, drop}
 use lib.Seq.{slice, length-take-le, take-suc, drop-append-le, getD-set-other, getD-take, take-set-le, take-set-lt}
+use lib.Dec.{eqb}
+use borrow.Author.Tests.{eqb-true, eqb-false, not-true, not-false}
 use Rattle.model.specs.Lists.{listIf}
 use Rattle.model.specs.Graph.{Graph, Node, nodeAt}
 use Rattle.model.specs.Mutation.{level}
@@ -29,12 +31,13 @@ use Rattle.aliasing.specs.State.{nodesOf, seenOf, levels, NoneAbove, rec
 use Rattle.aliasing.specs.Accepts.{acceptW, handW}
 use Rattle.aliasing.specs.Potential.{phi}
 use Rattle.aliasing.specs.Walks.{Shows, Ready, Callable, Stepped}
-use Rattle.aliasing.proofs.Parts.{slice-below, slice-above, nodes-below, seen-below, seen-above, rows-below, rows-above, mark-kept, mark-seen, seen-at, seen-length, accept-kept, accept-nodes, nodes-length}
+use Rattle.aliasing.proofs.Parts.{slice-below, slice-above, nodes-below, seen-below, seen-above, rows-below, rows-above, base-below, base-above, mark-kept, mark-seen, seen-at, seen-length, accept-kept, accept-nodes, nodes-length}
 use Rattle.aliasing.proofs.Levels.{levels-length, levels-at, levels-set, above-as, above-set}
 use Rattle.aliasing.proofs.Records.{level-is, accept-records, accept-kept-count, accept-ends}
-use Rattle.aliasing.proofs.Fields.{covered-as, covered-nodes}
-use Rattle.aliasing.proofs.Hands.{handed-is, hand-same, room-kept, records-length}
+use Rattle.aliasing.proofs.Fields.{covered-as}
+use Rattle.aliasing.proofs.Hands.{handed-is, hand-same, room-kept, records-length, handing-as}
 use Rattle.aliasing.proofs.Potential.{phi-falls}
+use Rattle.aliasing.proofs.Enters.{Enters, enters-beyond, enters-seen, enters-marked}
 use Rattle.aliasing.proofs.Cases.{step-skips, step-misses, step-accepts}
 
 -- ---- the entry
@@ -88,6 +91,21 @@ graph-there ws hand x h e = ap (λ (g : Graph). nodeAt g x) (graph-is ws hand) �
 shows-to : {base : ℕ} {ws : List ℕ} {top hand : ℕ} (w v : Walk) → Shows base ws top hand v → w ≡ v → Shows base ws top hand w
 shows-to {base} {ws} {top} {hand} w v s p = subst (Shows base ws top hand) (sym p) s
 
+-- ---- what an entry leads to, by the two bits that the code takes of it and the level
+-- its fields are written in ws₂, and the next function is to be handed over at h
+pub record Accepting (m : Mutation) (base : ℕ) (ws : List ℕ) (top hand transitive kind h : ℕ) (ws₂ : List ℕ) : Type 0 where
+  pub room : Room ws₂ (top - 1) (deg (rowsOf ws₂) (placeAt ws top))
+  -- its rows have bounds
+  pub below : placeAt ws top < used (rowsOf ws₂)
+  pub stepped : (ws₃ : List ℕ) (r : ℕ) → Pushed ws₂ (top - 1) (pushedW (rowsOf ws₂) (placeAt ws top) (directionAt ws top) (m .index) transitive kind) ws₃ r → Stepped m base ws top hand ws₃ r h
+
+-- whether it is entered, and the words then
+pub record Entering (m : Mutation) (base : ℕ) (ws : List ℕ) (top hand transitive kind level : ℕ) (ws₁ : List ℕ) (enters : Bool) : Type 0 where
+  pub passed : enters ≡ false → Stepped m base ws top hand ws₁ (top - 1) hand
+  pub accepted : enters ≡ true
+      → (wsH : List ℕ) (h : ℕ) → Pushed ws₁ hand (handW ws₁ (getD ws₁ (3200 + placeAt ws top) 0) (placeAt ws top) (m .«should_record_errors»)) wsH h
+      → (ws₂ : List ℕ) → ws₂ ≡ acceptW wsH (placeAt ws top) transitive level m → Accepting m base ws top hand transitive kind h ws₂
+
 module _ (m : Mutation) (base : ℕ) (ws : List ℕ) (top hand : ℕ) (ready : Ready base ws top hand) (callable : Callable m) (more : 8528 < top) where
   fit : top ≤ length ws
   fit = omega (arith, ready .fits, ready .size)
@@ -134,17 +152,17 @@ module _ (m : Mutation) (base : ℕ) (ws : List ℕ) (top hand : ℕ) (ready : R
   stays : ((w : Walk) → Shows base ws top hand w → Shows base ws (top - 1) hand (step (modeSays m) (mutationSays m) (w .queue) w)) → Stepped m base ws top hand ws (top - 1) hand
   stays follows = record {
     follows = follows;
-    ready = record { size = ready .size; low = omega arith; good = ready .good; fits = omega (arith, ready .fits); few = ready .few; marked = ready .marked; handing = ready .handing };
+    ready = record { size = ready .size; low = omega arith; good = ready .good; fits = omega (arith, ready .fits); few = ready .few; next = ready .next; handing = ready .handing };
     falls = omega arith;
     aside = record { graph = refl; behind = refl; same = refl };
   }
 
   -- ---- from the limit on
-  pub step-beyond : getD ws 8322 0 ≤ placeAt ws top → Stepped m base ws top hand ws (top - 1) hand
+  step-beyond : getD ws 8322 0 ≤ placeAt ws top → Stepped m base ws top hand ws (top - 1) hand
   step-beyond beyond = stays (λ w s. nothing w s (omega (arith, beyond, limit-at ws (ready .size))))
 
   -- ---- seen at this kind or a higher one; what stands from the limit on is no mark
-  pub step-seen : base + kindAt ws top < getD ws (2624 + placeAt ws top) 0 → Stepped m base ws top hand ws (top - 1) hand
+  step-seen : base + kindAt ws top < getD ws (2624 + placeAt ws top) 0 → Stepped m base ws top hand ws (top - 1) hand
   step-seen seen = stays (λ w s. go w s (decLt (placeAt ws top) (limit (rowsOf ws))))
     where
       go : (w : Walk) → Shows base ws top hand w → Dec (placeAt ws top < limit (rowsOf ws)) → Shows base ws (top - 1) hand (step (modeSays m) (mutationSays m) (w .queue) w)
@@ -170,8 +188,11 @@ module _ (m : Mutation) (base : ℕ) (ws : List ℕ) (top hand : ℕ) (ready : R
         ap (levels base) (mark-seen ws (placeAt ws top) (base + kindAt ws top + 1) x-below)
         ∙ levels-set base (seenOf ws) (placeAt ws top) (base + kindAt ws top + 1) (kindAt ws top + 1) (omega (arith, seen-length ws (ready .size))) (omega arith)
 
-    mark-most : NoneAbove (base + 2) marked
-    mark-most = above-set ws (placeAt ws top) (base + kindAt ws top + 1) (ready .size) x-below (omega arith) (ready .marked)
+    mark-base : getD marked 3136 0 ≡ getD ws 3136 0
+    mark-base = base-above mark (omega arith)
+
+    mark-most : NoneAbove (getD marked 3136 0) marked
+    mark-most = above-set ws (placeAt ws top) (base + kindAt ws top + 1) (ready .size) x-below (omega (arith, mark-base, ready .next)) (omega (arith, mark-base)) (ready .handing .marks)
 
     falls-by : phi (set (levels base (seenOf ws)) (placeAt ws top) (kindAt ws top + 1)) (rowsOf ws) 512 + deg (rowsOf ws) (placeAt ws top) ≤ phi (levels base (seenOf ws)) (rowsOf ws) 512
     falls-by =
@@ -215,7 +236,7 @@ module _ (m : Mutation) (base : ℕ) (ws : List ℕ) (top hand : ℕ) (ready : R
           gone : nodeAt (stateOf ws hand .graph) (placeAt ws top) ≡ none
           gone = graph-missing ws hand (placeAt ws top) x-below (sym value-kept ∙ none-there)
 
-      pub step-missing : Stepped m base ws top hand marked (top - 1) hand
+      step-missing : Stepped m base ws top hand marked (top - 1) hand
       step-missing = record {
         follows = misses;
         ready = record {
@@ -224,8 +245,8 @@ module _ (m : Mutation) (base : ℕ) (ws : List ℕ) (top hand : ℕ) (ready : R
           good = subst Good (sym (rows-above mark (omega arith))) (ready .good);
           fits = omega (arith, ready .fits, falls-by, phi-marked);
           few = ready .few;
-          marked = mark-most;
-          handing = record { low = ready .handing .low; covered = covered-nodes ws marked (rows-above mark (omega arith)) (nodes-below mark (omega arith)) (ready .handing .covered); room = omega (arith, ready .handing .room, ap (λ (l : List ℕ). bare (recordsOf l)) (nodes-below mark (omega arith))) };
+          next = mark-base ∙ ready .next;
+          handing = handing-as ws marked hand (rows-above mark (omega arith)) (nodes-below mark (omega arith)) mark-most (ready .handing);
         };
         falls = omega (arith, falls-by, phi-marked);
         aside = record { graph = rows-above mark (omega arith); behind = drop-more 3136 13827 marked ws (omega arith) (mark .high); same = mark .same };
@@ -281,7 +302,7 @@ module _ (m : Mutation) (base : ℕ) (ws : List ℕ) (top hand : ℕ) (ready : R
         length₂ : length ws₂ ≡ length ws
         length₂ = kept-fields .same ∙ kept-hand .same ∙ mark .same
 
-        pub step-room : Room ws₂ (top - 1) (deg (rowsOf ws₂) (placeAt ws top))
+        step-room : Room ws₂ (top - 1) (deg (rowsOf ws₂) (placeAt ws top))
         step-room = record {
           size = omega (arith, ready .size, length₂);
           low = omega arith;
@@ -289,8 +310,7 @@ module _ (m : Mutation) (base : ℕ) (ws : List ℕ) (top hand : ℕ) (ready : R
           room = omega (arith, falls-by, ready .fits, ap (λ (g : List ℕ). deg g (placeAt ws top)) rows₂);
         }
 
-        -- its rows have bounds
-        pub step-used : (getD marked (3200 + placeAt ws top) 0 ≡ 0 → ⊥) → placeAt ws top < used (rowsOf ws₂)
+        step-used : (getD marked (3200 + placeAt ws top) 0 ≡ 0 → ⊥) → placeAt ws top < used (rowsOf ws₂)
         step-used there = subst (λ (g : List ℕ). placeAt ws top < used g) (sym rows₂) (used-below (rowsOf ws) (placeAt ws top) x-below (λ z. there (value-kept ∙ z)))
 
         module _ (there : getD marked (3200 + placeAt ws top) 0 ≡ 0 → ⊥) (ws₃ : List ℕ) (r : ℕ)
@@ -317,6 +337,9 @@ module _ (m : Mutation) (base : ℕ) (ws : List ℕ) (top hand : ℕ) (ready : R
 
           marks₃ : seenOf ws₃ ≡ seenOf marked
           marks₃ = seen-below kept-queue (omega arith) ∙ seen-above kept-fields (omega arith) ∙ seen-below kept-hand (omega arith)
+
+          base₃ : getD ws₃ 3136 0 ≡ getD marked 3136 0
+          base₃ = base-below kept-queue (omega arith) ∙ base-above kept-fields (omega arith) ∙ base-below kept-hand (omega arith)
 
           seen₃ : levels base (seenOf ws₃) ≡ set (levels base (seenOf ws)) (placeAt ws top) (kindAt ws top + 1)
           seen₃ = ap (levels base) marks₃ ∙ mark-levels
@@ -378,7 +401,7 @@ module _ (m : Mutation) (base : ℕ) (ws : List ℕ) (top hand : ℕ) (ready : R
           phi₃ : phi (levels base (seenOf ws₃)) (rowsOf ws₃) 512 ≡ phi (set (levels base (seenOf ws)) (placeAt ws top) (kindAt ws top + 1)) (rowsOf ws) 512
           phi₃ = ap (λ (l : List ℕ). phi l (rowsOf ws₃) 512) seen₃ ∙ ap (λ (g : List ℕ). phi (set (levels base (seenOf ws)) (placeAt ws top) (kindAt ws top + 1)) g 512) rows₃
 
-          pub step-accepted : Stepped m base ws top hand ws₃ r h
+          step-accepted : Stepped m base ws top hand ws₃ r h
           step-accepted = record {
             follows = accepts-it;
             ready = record {
@@ -387,8 +410,13 @@ module _ (m : Mutation) (base : ℕ) (ws : List ℕ) (top hand : ℕ) (ready : R
               good = subst Good (sym rows₃) (ready .good);
               fits = omega (arith, p′ .next, few, falls-by, phi₃, ready .fits);
               few = ready .few;
-              marked = above-as marks₃ (rows₃ ∙ sym (rows-above mark (omega arith))) mark-most;
-              handing = record { low = omega (arith, ph′ .next, ready .handing .low); covered = covered-as ws ws₃ rows₃ (ap (λ (l : List ℕ). getD l 2048 0) nodes₃ ∙ accept-kept-count (nodesOf ws) (nodes-length ws (ready .size)) (placeAt ws top) (transitiveAt ws top) (kindAt ws top + 1) m x-below kept-there) (ready .handing .covered); room = omega (arith, hand-room, ap bare records₃) };
+              next = base₃ ∙ mark-base ∙ ready .next;
+              handing = record {
+                low = omega (arith, ph′ .next, ready .handing .low);
+                covered = covered-as ws ws₃ rows₃ (ap (λ (l : List ℕ). getD l 2048 0) nodes₃ ∙ accept-kept-count (nodesOf ws) (nodes-length ws (ready .size)) (placeAt ws top) (transitiveAt ws top) (kindAt ws top + 1) m x-below kept-there) (ready .handing .covered);
+                marks = above-as marks₃ (rows₃ ∙ sym (rows-above mark (omega arith))) (omega (arith, base₃)) mark-most;
+                room = omega (arith, hand-room, ap bare records₃);
+              };
             };
             falls = omega (arith, p′ .next, few, falls-by, phi₃);
             aside = record {
@@ -397,3 +425,30 @@ module _ (m : Mutation) (base : ℕ) (ws : List ℕ) (top hand : ℕ) (ready : R
               same = kept-queue .same ∙ length₂;
             };
           }
+
+    entering : Entering m base ws top hand (transitiveAt ws top) (kindAt ws top) (kindAt ws top + 1) marked (not (eqb (getD ws (3200 + placeAt ws top) 0) 0))
+    entering = record {
+      passed = λ e. step-missing (value-same ∙ eqb-true (getD ws (3200 + placeAt ws top) 0) 0 (not-false _ e));
+      accepted = λ e wsH h ph ws₂ is₂.
+          let there : getD marked (3200 + placeAt ws top) 0 ≡ 0 → ⊥ = λ z. eqb-false (getD ws (3200 + placeAt ws top) 0) 0 (not-true _ e) (sym value-same ∙ z) in
+          record { room = step-room wsH h ph ws₂ is₂; below = step-used wsH h ph ws₂ is₂ there; stepped = step-accepted wsH h ph ws₂ is₂ there };
+    }
+      where
+        value-same : getD marked (3200 + placeAt ws top) 0 ≡ getD ws (3200 + placeAt ws top) 0
+        value-same = getD-set-other ws (2624 + placeAt ws top) (3200 + placeAt ws top) (base + kindAt ws top + 1) 0 (omega arith)
+
+  -- no word is written
+  entering-not : Stepped m base ws top hand ws (top - 1) hand → Entering m base ws top hand (transitiveAt ws top) (kindAt ws top) (kindAt ws top + 1) ws false
+  entering-not s = record { passed = λ e. s; accepted = λ e. absurd (true≢false (sym e)) }
+
+  pub step-enters : {ws₁ : List ℕ} {r : Bool} → Enters ws (placeAt ws top) (base + kindAt ws top) ws₁ r → Entering m base ws top hand (transitiveAt ws top) (kindAt ws top) (kindAt ws top + 1) ws₁ r
+  step-enters {ws₁} {r} is = go (decLt (placeAt ws top) (getD ws 8322 0)) (decLt (base + kindAt ws top) (getD ws (2624 + placeAt ws top) 0))
+    where
+      to : {ws′ : List ℕ} {r′ : Bool} → Enters ws (placeAt ws top) (base + kindAt ws top) ws′ r′ → Entering m base ws top hand (transitiveAt ws top) (kindAt ws top) (kindAt ws top + 1) ws′ r′
+          → Entering m base ws top hand (transitiveAt ws top) (kindAt ws top) (kindAt ws top + 1) ws₁ r
+      to {ws′} {r′} e p = subst (λ (A : Type 0). A) (λ j. Entering m base ws top hand (transitiveAt ws top) (kindAt ws top) (kindAt ws top + 1) ((e .0 ∙ sym (is .0)) j) ((e .1 ∙ sym (is .1)) j)) p
+
+      go : Dec (placeAt ws top < getD ws 8322 0) → Dec (base + kindAt ws top < getD ws (2624 + placeAt ws top) 0) → Entering m base ws top hand (transitiveAt ws top) (kindAt ws top) (kindAt ws top + 1) ws₁ r
+      go (no h) d = to (enters-beyond ws (placeAt ws top) (base + kindAt ws top) (omega (arith, h))) (entering-not (step-beyond (omega (arith, h))))
+      go (yes h) (yes k) = to (enters-seen ws (placeAt ws top) (base + kindAt ws top) h k) (entering-not (step-seen k))
+      go (yes h) (no k) = to (enters-marked ws (placeAt ws top) (base + kindAt ws top) h (omega (arith, k))) (entering (omega (arith, k)) h)

@@ -1,12 +1,24 @@
 -- What accepting a node writes, in words.
 use Prim.Native.Nat.{ℕ, _+_, _-_, _*_, _/_, _%_, max}
-use mathlib.Core.Bool.{Bool}
+use mathlib.Core.Bool.{Bool, _&&_, not}
 use mathlib.Core.List.{List, [], _∷_}
 use lib.ListN.{getD, set}
 use lib.Dec.{ltb, eqb}
 use Rattle.model.specs.Lists.{pick}
-use Rattle.rows.specs.Layout.{RECORD, LSPAN, TSPAN, END}
+use Rattle.rows.specs.Layout.{RECORD, LSPAN, TSPAN, END, SEEN, VALUE, NODES}
 use Rattle.aliasing.specs.declared.Mutation.{Mutation}
+
+-- can x have a node, and is its mark no higher than the level? From the limit on no mark is written
+unfoldable pub freshW : List ℕ → ℕ → ℕ → Bool
+freshW ws x level = ltb x (getD ws NODES 0) && not (ltb level (getD ws (SEEN + x) 0))
+
+-- it is marked then
+unfoldable pub enterW : List ℕ → ℕ → ℕ → List ℕ
+enterW ws x level = pick (freshW ws x level) (set ws (SEEN + x) (level + 1)) ws
+
+-- and accepted if it has a node
+unfoldable pub entersW : List ℕ → ℕ → ℕ → Bool
+entersW ws x level = freshW ws x level && not (eqb (getD ws (VALUE + x) 0) 0)
 
 -- the word at `at` becomes the larger of itself and v
 unfoldable pub raiseW : List ℕ → ℕ → ℕ → List ℕ

@@ -9,7 +9,7 @@ use lib.Dec.{ltb}
 use Rattle.model.specs.Lists.{pick, tally, oneIf}
 use Rattle.model.specs.Mutation.{reasonOf}
 use Rattle.model.specs.State.{Info, Record, hasRecord, State}
-use Rattle.rows.specs.Layout.{RECORD, LSPAN, TSPAN, KEPT, END, SEEN, HANDED, MUTATIONS}
+use Rattle.rows.specs.Layout.{RECORD, LSPAN, TSPAN, KEPT, END, SEEN, BASE, HANDED, MUTATIONS}
 use Rattle.rows.specs.Rows.{rowsOf, limit}
 use Rattle.rows.specs.Graph.{tab, graphOfRows}
 use Rattle.rows.specs.Pending.{kindOf}
@@ -77,8 +77,10 @@ stateOf ws hand = record {
 unfoldable pub bare : List Record → ℕ
 bare rs = tally (λ (r : Record). oneIf (not (hasRecord r))) rs
 
--- every identifier that can have a node has its words; the functions handed over leave room for one of each identifier without a record: none is handed over by an identifier that has one
+-- what one mutation after another keeps true: every identifier that can have a node has its words; no mark is above where the next walk's levels count from;
+-- the functions handed over leave room for one of each identifier without a record: none is handed over by an identifier that has one
 pub record Handing (ws : List ℕ) (hand : ℕ) : Type 0 where
   pub low : HANDED ≤ hand
   pub covered : Covered ws
+  pub marks : NoneAbove (getD ws BASE 0) ws
   pub room : hand + bare (recordsOf (nodesOf ws)) ≤ MUTATIONS

@@ -3,14 +3,14 @@ use Prim.Native.Nat.{ℕ, _+_, _*_, _≤_, _<_}
 use mathlib.Core.Bool.{true, false}
 use mathlib.Core.List.{List}
 use mathlib.Core.Path.{_≡_}
-use lib.ListN.{length, take, drop}
+use lib.ListN.{length, getD, take, drop}
 use lib.Seq.{slice}
 use Rattle.model.specs.Lists.{Every}
 use Rattle.model.specs.Mutation.{conditional}
 use Rattle.model.specs.Size.{edges, entries}
 use Rattle.model.specs.Walks.{Item, Walk, step, run, mutate}
-use Rattle.rows.specs.Layout.{LEAST, QUEUE, HANDED, MUTATIONS}
-use Rattle.rows.specs.Rows.{rowsOf, limit, Good}
+use Rattle.rows.specs.Layout.{LEAST, SEEN, BASE, VALUE, QUEUE, HANDED, MUTATIONS}
+use Rattle.rows.specs.Rows.{rowsOf, limit, Good, Kept}
 use Rattle.pushes.specs.Items.{queueOf}
 use Rattle.aliasing.specs.Says.{modeSays, mutationSays}
 use Rattle.aliasing.specs.State.{seenOf, levels, NoneAbove, stateOf, Handing}
@@ -30,7 +30,7 @@ pub record Ready (base : ℕ) (ws : List ℕ) (top hand : ℕ) : Type 0 where
   pub good : Good (rowsOf ws)
   pub fits : top + phi (levels base (seenOf ws)) (rowsOf ws) 512 ≤ HANDED
   pub few : base ≤ 4096
-  pub marked : NoneAbove (base + 2) ws
+  pub next : getD ws BASE 0 ≡ base + 2
   pub handing : Handing ws hand
 
 -- an entry that is transitive and Conditional
@@ -68,6 +68,19 @@ pub record Walked (m : Mutation) (base : ℕ) (ws : List ℕ) (top hand : ℕ) (
   pub few : QUEUE + count ≤ top + phi (levels base (seenOf ws)) (rowsOf ws) 512
   pub ready : Ready base ws′ QUEUE hand′
   pub aside : Aside ws ws′
+
+-- no identifier is marked, and levels count from 0
+pub record Unmarked (ws ws′ : List ℕ) : Type 0 where
+  pub base : getD ws′ BASE 0 ≡ 0
+  pub marks : NoneAbove 0 ws′
+  pub kept : Kept SEEN VALUE ws ws′
+
+-- a walk's levels count from `base`, where no mark is above, and the next walk's from 2 higher
+pub record BaseTaken (ws ws′ : List ℕ) (base : ℕ) : Type 0 where
+  pub few : base ≤ 4096
+  pub next : getD ws′ BASE 0 ≡ base + 2
+  pub marks : NoneAbove base ws′
+  pub kept : Kept SEEN VALUE ws ws′
 
 -- the walk of one mutation, the definition's in state and count
 pub record Mutated (m : Mutation) (ws : List ℕ) (hand : ℕ) (ws′ : List ℕ) (count hand′ : ℕ) : Type 0 where

@@ -3,20 +3,21 @@ ghost use mathlib.Core.Path.{_≡_};
 ghost use Prim.Native.Nat.{_+_, _-_, _*_, _≤_, _<_, max};
 ghost use lib.ListN.{length, getD};
 ghost use Rattle.model.specs.Limits.{mostOrder};
-ghost use Rattle.rows.specs.Layout.{LEAST, SEEN, MUTATIONS, QUEUE, VALUE};
+ghost use Rattle.rows.specs.Layout.{LEAST, SEEN, BASE, MUTATIONS, QUEUE, VALUE};
 ghost use Rattle.rows.specs.Rows.{Indexed};
 ghost use Rattle.pushes.specs.Pushes.{Pushed};
 ghost use Rattle.rows.specs.Pending.{kindOf};
 ghost use Rattle.aliasing.specs.Says.{bit, kindBit, kindSays};
 ghost use Rattle.aliasing.specs.State.{nodesOf, fieldAt, Handing, NoneAbove};
-ghost use Rattle.aliasing.specs.Accepts.{raiseW, recordW, acceptW, functionW, handW};
-ghost use Rattle.aliasing.specs.Walks.{Ready, AllConditional, Callable, Stepped, Walked, Mutated};
+ghost use Rattle.aliasing.specs.Accepts.{enterW, entersW, raiseW, recordW, acceptW, functionW, handW};
+ghost use Rattle.aliasing.specs.Walks.{Ready, AllConditional, Callable, Stepped, Walked, Unmarked, BaseTaken, Mutated};
 ghost use Rattle.aliasing.specs.Pending.{Pending, Made, Processed};
 use hir::EvaluationOrder;
 use hir::IdentifierId;
 use pushes::entry;
 use pushes::push_all;
 use pushes::push_whole;
+use rows::BASE;
 use rows::END;
 use rows::HANDED;
 use rows::KEPT;
@@ -163,6 +164,21 @@ fn record_errors(ws: &mut [u32], x: usize, errors: bool, hand: usize) -> usize
     hand
 }
 
+// Is x to be accepted at this level? It has a node, and was not marked at a higher one; it is marked now. From the limit on there is no node, and neither value nor mark is written.
+fn enter(ws: &mut [u32], x: usize, level: u32) -> bool
+    requires { ⌜ (x < 512) × ((LEAST ≤ length (now ws)) × (level ≤ 4097)) ⌝ }
+    ensures { λ r. ⌜ (now (ws .exit) ≡ enterW (now (ws .entry)) x level) × (r ≡ entersW (now (ws .entry)) x level) ⌝ }
+{
+    if ws[NODES] <= x as u32 {
+        return false;
+    }
+    if level < ws[SEEN + x] {
+        return false;
+    }
+    ws[SEEN + x] = level + 1;
+    ws[VALUE + x] != 0
+}
+
 // Takes the last entry pushed. The walk's levels count from `base` on.
 fn step(ws: &mut [u32], top: usize, hand: usize, m: Mutation, base: u32) -> Next
     requires { ⌜ Ready base (now ws) top hand ⌝ }
@@ -174,15 +190,7 @@ fn step(ws: &mut [u32], top: usize, hand: usize, m: Mutation, base: u32) -> Next
     let e = ws[t];
     let x = (e % 512) as usize;
     let kind = e / 2048 % 2;
-    // From the limit on there is no node, and neither value nor mark is written.
-    if ws[NODES] <= e % 512 {
-        return Next { top: t, hand: hand };
-    }
-    if base + kind < ws[SEEN + x] {
-        return Next { top: t, hand: hand };
-    }
-    ws[SEEN + x] = base + kind + 1;
-    if ws[VALUE + x] == 0 {
+    if !enter(ws, x, base + kind) {
         return Next { top: t, hand: hand };
     }
     let transitive = e / 512 % 2;
@@ -224,15 +232,7 @@ fn step_conditional(ws: &mut [u32], top: usize, hand: usize, m: Mutation, base: 
     let t = top - 1;
     let e = ws[t];
     let x = (e % 512) as usize;
-    // As in `step`: from the limit on there is no node.
-    if ws[NODES] <= e % 512 {
-        return Next { top: t, hand: hand };
-    }
-    if base < ws[SEEN + x] {
-        return Next { top: t, hand: hand };
-    }
-    ws[SEEN + x] = base + 1;
-    if ws[VALUE + x] == 0 {
+    if !enter(ws, x, base) {
         return Next { top: t, hand: hand };
     }
     let index = m.index;
@@ -279,18 +279,43 @@ fn kind_bit(k: MutationKind) -> u32
     }
 }
 
-// The walk of one mutation: the entries taken, and the functions handed over from `hand` on. Its levels count from `base` on, where no earlier walk has left a mark; its own are at most 2 higher.
-pub fn mutate(ws: &mut [u32], hand: usize, m: Mutation, base: u32) -> Taken
+// No identifier is marked, and levels count from 0.
+pub fn clear_marks(ws: &mut [u32])
+    requires { ⌜ Indexed (now ws) ⌝ }
+    ensures { λ _. ⌜ Unmarked (now (ws .entry)) (now (ws .exit)) ⌝ }
+{
+    let nodes = ws[NODES] as usize;
+    clear(ws, SEEN, nodes);
+    ws[BASE] = 0;
+}
+
+// Where the levels of a walk count from, above the marks of earlier walks; the next walk's count from 2 higher. Marks that have come high are cleared.
+fn take_base(ws: &mut [u32]) -> u32
+    requires { ⌜ Indexed (now ws) ⌝ }
+    requires { ⌜ NoneAbove (getD (now ws) BASE 0) (now ws) ⌝ }
+    ensures { λ r. ⌜ BaseTaken (now (ws .entry)) (now (ws .exit)) r ⌝ }
+{
+    if 4096 < ws[BASE] {
+        clear_marks(ws);
+    }
+    let base = ws[BASE];
+    ws[BASE] = base + 2;
+    base
+}
+
+// The walk of one mutation: the entries taken, and the functions handed over from `hand` on.
+pub fn mutate(ws: &mut [u32], hand: usize, m: Mutation) -> Taken
     requires { ⌜ Indexed (now ws) ⌝ }
     requires { ⌜ Handing (now ws) hand ⌝ }
     requires { ⌜ Callable m ⌝ }
-    requires { ⌜ (base ≤ 4096) × NoneAbove base (now ws) ⌝ }
-    ensures { λ r. ⌜ Mutated m (now (ws .entry)) hand (now (ws .exit)) (r .count) (r .hand) × NoneAbove (base + 2) (now (ws .exit)) ⌝ }
+    ensures { λ r. ⌜ Mutated m (now (ws .entry)) hand (now (ws .exit)) (r .count) (r .hand) ⌝ }
 {
-    let kind = m.kind;
-    ws[QUEUE] = entry(m.start.0, bit_of(m.transitive), 0, kind_bit(kind));
+    let base = take_base(ws);
+    let k = m.kind;
+    let kind = kind_bit(k);
+    ws[QUEUE] = entry(m.start.0, bit_of(m.transitive), 0, kind);
     if m.transitive {
-        if kind_bit(kind) == 0 {
+        if kind == 0 {
             return walk_conditional(ws, QUEUE + 1, hand, m, base);
         }
     }
@@ -331,14 +356,13 @@ pub fn process_mutations(ws: &mut [u32], count: usize, should_record_errors: boo
     requires { ⌜ Pending (now ws) count ⌝ }
     ensures { λ r. ⌜ Processed «should_record_errors» (now (ws .entry)) count (now (ws .exit)) r ⌝ }
 {
-    let nodes = ws[NODES] as usize;
-    clear(ws, SEEN, nodes);
+    clear_marks(ws);
     let mut i = 0;
     let mut hand = HANDED;
     while i < count {
         let at = MUTATIONS + 3 * i;
         let m = pending_mutation(ws[at], ws[at + 1], ws[at + 2], should_record_errors);
-        let r = mutate(ws, hand, m, (2 * i) as u32);
+        let r = mutate(ws, hand, m);
         ws[at + 2] = r.count;
         hand = r.hand;
         i += 1;

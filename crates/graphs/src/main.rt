@@ -17,6 +17,7 @@ use rows::LSPAN;
 use rows::MUTATIONS;
 use rows::RECORD;
 use rows::RENDERS;
+use rows::SEEN;
 use rows::TSPAN;
 
 // How many graphs, walks, renders and differences there were.
@@ -286,7 +287,7 @@ fn graph(graph: &[u32], ws: &mut [u32]) -> Tally
         return one_graph(0, 0, 1);
     }
     let identifiers = count_at(graph, ends);
-    rows::clear(ws, RECORD, 2624);
+    rows::clear(ws, RECORD, SEEN);
     ws[KEPT] = 512;
     put_ends(graph, ends + 1, identifiers, ws);
     let p = steps::lay_out_steps(&graph[1..ends], ws);

@@ -12,24 +12,23 @@ use Rattle.model.specs.Mutation.{Mutation}
 use Rattle.model.specs.Building.{build}
 use Rattle.model.specs.State.{State, Mode, simulated}
 use Rattle.model.specs.Walks.{Walk, mutate}
-use Rattle.model.specs.Simulated.{tracked, simulation, flowEffects, Simulated, simulate}
+use Rattle.model.specs.Simulated.{tracked, simulation, flowEffects, simulate}
 use Rattle.model.specs.Answer.{effectWords}
 use Rattle.model.proofs.Handed.{withHanded}
 use Rattle.model.proofs.Simulating.{takenBy, After, after-start, after-turn, after-done}
 use Rattle.rows.specs.Layout.{HANDED, MUTATIONS, SIMULATED}
 use Rattle.rows.specs.Rows.{rowsOf, Good, Indexed, Kept}
-use Rattle.rows.specs.Sort.{clearW}
 use Rattle.rows.specs.Graph.{tab}
 use Rattle.rows.proofs.Parts.{kept-none, kept-set, drop-more, drop-word, slice-drop}
 use Rattle.rows.proofs.Tables.{tab-length, tab-at, tab-same}
 use Rattle.aliasing.specs.declared.Mutation.{Mutation as CodeMutation}
 use Rattle.aliasing.specs.Says.{modeSays, mutationSays}
-use Rattle.aliasing.specs.State.{NoneAbove, Covered, stateOf}
+use Rattle.aliasing.specs.State.{Covered, stateOf, Handing}
 use Rattle.aliasing.proofs.Fields.{covered-nodes}
-use Rattle.aliasing.specs.Walks.{Callable, Mutated}
-use Rattle.aliasing.proofs.Parts.{slice-below, nodes-below, seen-below, rows-below}
-use Rattle.aliasing.proofs.Levels.{above-as, above-more}
-use Rattle.aliasing.proofs.Begin.{Unmarked, unmarked-nodes, unmarked-none}
+use Rattle.aliasing.specs.Walks.{Callable, Unmarked, Mutated}
+use Rattle.aliasing.proofs.Parts.{slice-below, nodes-below, rows-below}
+use Rattle.aliasing.proofs.Hands.{handing-behind, handing-anew}
+use Rattle.aliasing.proofs.Begin.{Remarked, remarked, unmarked-handing}
 use Rattle.aliasing.proofs.Steps.{state-same}
 use Rattle.writing.specs.Wrote.{Wrote}
 use Rattle.writing.proofs.Writing.{wrote-none, wrote-then, wrote-as}
@@ -80,8 +79,7 @@ pub record SoFar (s : Sheet) (answer₀ : List ℕ) (at : ℕ) (ws answer : List
 pub record Turned (ws₀ : List ℕ) (count index returns : ℕ) (answer₀ : List ℕ) (at : ℕ) (ws answer : List ℕ) (to i next : ℕ) : Type 0 where
   pub sofar : (s : Sheet) → Marked s ws₀ count index returns → SoFar s answer₀ at ws answer to i
   pub indexed : Indexed ws
-  pub covered : Covered ws
-  pub marks : NoneAbove (2 * i) ws
+  pub handing : Handing ws HANDED
   pub mid : i ≤ count
   pub number : next ≡ index + i
   pub places : drop TRACKED ws ≡ drop TRACKED ws₀
@@ -90,16 +88,15 @@ pub record Turned (ws₀ : List ℕ) (count index returns : ℕ) (answer₀ : Li
   pub same : length ws ≡ length ws₀
   pub buffer : length answer ≡ length answer₀
 
-pub turned-start : (ws : List ℕ) (count index returns : ℕ) (answer : List ℕ) (at : ℕ) → Indexed ws → Covered ws → NoneAbove 0 ws → Turned ws count index returns answer at ws answer at 0 index
-turned-start ws count index returns answer at indexed covered marks = record {
+pub turned-start : (ws : List ℕ) (count index returns : ℕ) (answer : List ℕ) (at : ℕ) → Indexed ws → Handing ws HANDED → Turned ws count index returns answer at ws answer at 0 index
+turned-start ws count index returns answer at indexed handing = record {
   sofar = λ s m. record {
     effects = [];
     after = after-as s (after-start s) (sym (m .state)) (sym (counts-none ws));
     wrote = wrote-none answer at;
   };
   indexed = indexed;
-  covered = covered;
-  marks = above-more (omega arith) marks;
+  handing = handing;
   mid = omega arith;
   number = omega arith;
   places = refl;
@@ -111,10 +108,7 @@ turned-start ws count index returns answer at indexed covered marks = record {
 
 module _ {ws₀ : List ℕ} {count index returns : ℕ} {answer₀ : List ℕ} {at : ℕ} {ws answer : List ℕ} {to i next : ℕ} (p : Turned ws₀ count index returns answer₀ at ws answer to i next)
     (least : count ≤ 129) (more : i < count) {into : Place} (is : into ≡ trackedAt ws i)
-    {m : CodeMutation} (said : (mutationSays m ≡ simulation next into) × ((modeSays m ≡ simulated) × Callable m)) {ws₁ : List ℕ} {c h : ℕ} (mutated : Mutated m ws HANDED ws₁ c h × NoneAbove (2 * i + 2) ws₁) where
-  w : Mutated m ws HANDED ws₁ c h
-  w = mutated .0
-
+    {m : CodeMutation} (said : (mutationSays m ≡ simulation next into) × ((modeSays m ≡ simulated) × Callable m)) {ws₁ : List ℕ} {c h : ℕ} (w : Mutated m ws HANDED ws₁ c h) where
   -- the count has room
   pub long : SIMULATED + i < length ws₁
   long = omega (arith, w .aside .same, p .indexed .size)
@@ -199,8 +193,7 @@ module _ {ws₀ : List ℕ} {count index returns : ℕ} {answer₀ : List ℕ} {
   turned-turn sd f e = record {
     sofar = λ s d. sofar-next s d f (p .sofar s d);
     indexed = record { size = stored-size; good = subst Good (sym stored-rows) (p .indexed .good) };
-    covered = covered-nodes ws₁ stored (rows-below stored-kept (omega arith)) (nodes-below stored-kept (omega arith)) (w .handing .covered);
-    marks = above-more (omega arith) (above-as (seen-below stored-kept (omega arith)) (rows-below stored-kept (omega arith)) (mutated .1));
+    handing = handing-anew (handing-behind h stored-kept (omega arith) (w .handing));
     mid = omega arith;
     number = omega (arith, p .number);
     places = stored-places;
@@ -226,13 +219,13 @@ turned-end {ws₀} {count} {index} {returns} {answer₀} {at} {ws} {answer} {to}
     over s d = after-done s (omega (arith, ap (λ (l : List Place). length l) (d .places), tracked-length ws₀ count)) (p .sofar s d .after)
 
 -- ---- the same from the words before the marks were cleared
-module _ (ws : List ℕ) (indexed : Indexed ws) (l : List ℕ) (is : l ≡ clearW ws 2624 (getD ws 8322 0)) where
-  u : Unmarked ws l
-  u = unmarked-nodes ws indexed l is
+module _ (ws : List ℕ) (indexed : Indexed ws) (l : List ℕ) (clear : Unmarked ws l) where
+  u : Remarked ws l
+  u = remarked ws l indexed (clear .kept)
 
   pub cleared-start : (count index returns : ℕ) (answer : List ℕ) (at : ℕ) → Covered ws → Turned l count index returns answer at l answer at 0 index
   cleared-start count index returns answer at covered =
-      turned-start l count index returns answer at (u .indexed) (covered-nodes ws l (u .aside .graph) (u .nodes) covered) (unmarked-none ws indexed l is)
+      turned-start l count index returns answer at (u .indexed) (unmarked-handing ws l clear covered)
 
   pub cleared-marked : (s : Sheet) {count index returns : ℕ} → Marked s ws count index returns → Marked s l count index returns
   cleared-marked s {count} d = record {

@@ -13,6 +13,7 @@ ghost use Rattle.function.specs.Function.{Limited};
 ghost use Rattle.simulation.specs.Simulates.{Marked, Simulates, CopiedPut, Before, EffectsPut};
 use aliasing::Mutation;
 use aliasing::MutationKind;
+use aliasing::clear_marks;
 use aliasing::mutate;
 use copies::effect_lists::Section;
 use copies::effect_lists::copy_effects;
@@ -22,10 +23,7 @@ use hir::EvaluationOrder;
 use hir::IdentifierId;
 use hir::Place;
 use rows::HANDED;
-use rows::NODES;
-use rows::SEEN;
 use rows::SIMULATED;
-use rows::clear;
 use summary::flows::put_flows;
 use summary::records::collect_effects;
 use summary::tracked::mark_tracked;
@@ -65,14 +63,13 @@ fn simulate(
     requires { ⌜ (count ≤ 129) × ((index ≤ 4096) × (at + 133128 ≤ farthest)) ⌝ }
     ensures { λ r. ⌜ Simulates (now (ws .entry)) count index (returns .0) (now (answer .entry)) at (now (ws .exit)) (now (answer .exit)) r ⌝ }
 {
-    let nodes = ws[NODES] as usize;
-    clear(ws, SEEN, nodes);
+    clear_marks(ws);
     let mut to = at;
     let mut i = 0;
     let mut next = index;
     while i < count {
         let into = tracked(ws, i);
-        let r = mutate(ws, HANDED, simulated(next, into), (2 * i) as u32);
+        let r = mutate(ws, HANDED, simulated(next, into));
         ws[SIMULATED + i] = r.count;
         to = put_flows(ws, count, into, next, returns, answer, to);
         next += 1;

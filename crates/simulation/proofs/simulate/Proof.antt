@@ -2,44 +2,30 @@ use native.Mathlib.Omega.{arith}
 use mathlib.Core.Path.{_∙_}
 use Prim.Native.Nat.{_-_}
 use Rattle.summary.proofs.Places.{is-below}
-use Rattle.aliasing.proofs.Begin.{nodes-few}
-use Rattle.aliasing.proofs.Pending.{handing-start}
 use Rattle.simulation.proofs.Turns.{Turned, cleared-start, cleared-marked, cleared-end, long, stored-size, turned-turn, turned-end}
 use Rattle.simulation.proofs.simulate.Statement.{statement}
 use Rattle.simulation.proofs.simulate.Tie as tie
 use Rattle.simulation.proofs.simulate.Reads as reads
 use Rattle.simulation.proofs.simulate.Lts as lts
+use Rattle.aliasing.proofs.clear_marks.Reads as clear-marks-reads
 use Rattle.aliasing.proofs.mutate.Reads as mutate-reads
-use Rattle.rows.proofs.clear.Reads as clear-reads
 use Rattle.simulation.proofs.simulated.Reads as simulated-reads
 use Rattle.summary.proofs.flows.put_flows.Reads as put-flows-reads
 use Rattle.summary.proofs.tracked.tracked.Reads as tracked-reads
 
 abbrev Inv-loop : tie.InvT-loop
-Inv-loop ws₀ count index returns answer₀ at nodes to₀ i₀ next₀ ws answer to i next = Turned ws₀ count index (returns .0) answer₀ at ws answer to i next
+Inv-loop ws₀ count index returns answer₀ at to₀ i₀ next₀ ws answer to i next = Turned ws₀ count index (returns .0) answer₀ at ws answer to i next
 
 abbrev μ-loop : tie.MeasureT-loop
-μ-loop ws₀ count index returns answer₀ at nodes to₀ i₀ next₀ ws answer to i next = count - i
+μ-loop ws₀ count index returns answer₀ at to₀ i₀ next₀ ws answer to i next = count - i
 
-slice-read-nodes : tie.Need-slice-read-nodes Inv-loop μ-loop
-slice-read-nodes c =
-    let b3 = c .before .before .before in
-    omega (arith, b3 .pre .0 .size)
-
-cast-nodes : tie.Need-cast-nodes Inv-loop μ-loop
-cast-nodes c =
-    let b3 = c .before .before .before in
-    omega (arith, nodes-few (b3 .args .ws .now) (b3 .pre .0))
-
-clear-requires : tie.Need-clear-requires Inv-loop μ-loop
-clear-requires c κs =
-    let b4 = c .before .before .before .before in
-    omega (arith, nodes-few (b4 .args .ws .now) (b4 .pre .0), b4 .pre .0 .size)
+clear-marks-requires : tie.Need-clear-marks-requires Inv-loop μ-loop
+clear-marks-requires c κs = c .before .before .before .pre .0
 
 loop-holds : tie.Need-loop-holds Inv-loop μ-loop
 loop-holds c =
     let b5 = c .before .before .before .before .before in
-    let b7 = b5 .before .before in cleared-start (b7 .args .ws .now) (b7 .pre .0) (c .before .before .clear .last .0) (c .before .before .clear .ensures) (b7 .args .count) (b7 .args .index) (b7 .args .returns .0) (b7 .args .answer .now) (b7 .args .at) (b7 .pre .1 .0 .1 .covered)
+    let b6 = b5 .before in cleared-start (b6 .args .ws .now) (b6 .pre .0) (c .before .before .clear-marks .last .0) (c .before .before .clear-marks .ensures) (b6 .args .count) (b6 .args .index) (b6 .args .returns .0) (b6 .args .answer .now) (b6 .args .at) (b6 .pre .1 .0 .1 .covered)
 
 tracked-requires : tie.Need-tracked-requires Inv-loop μ-loop
 tracked-requires c κs = (omega arith, c .before .before .loop .inv .indexed .size)
@@ -48,40 +34,25 @@ simulated-requires : tie.Need-simulated-requires Inv-loop μ-loop
 simulated-requires c κs =
     let b3 = c .before .before .before in
     let b4 = b3 .before in
-    let b12 = b4 .before .before .before .before .before .before .before .before in
-    (is-below _ _ (c .before .tracked .ensures), omega (arith, b4 .loop .inv .number, b3 .loop-test .taken, b12 .pre .1 .1 .0, b12 .pre .1 .1 .1 .0))
-
-mul-mutate : tie.Need-mul-mutate Inv-loop μ-loop
-mul-mutate c =
-    let b3 = c .before .before .before in
-    let b4 = b3 .before in
-    let b13 = b4 .before .before .before .before .before .before .before .before .before in omega (arith, b13 .pre .1 .1 .0, b4 .loop-test .taken)
-
-cast-mutate : tie.Need-cast-mutate Inv-loop μ-loop
-cast-mutate c =
-    let b3 = c .before .before .before in
-    let b4 = b3 .before in
-    let b13 = b4 .before .before .before .before .before .before .before .before .before in omega (arith, b13 .pre .1 .1 .0, b4 .loop-test .taken)
+    let b11 = b4 .before .before .before .before .before .before .before in
+    (is-below _ _ (c .before .tracked .ensures), omega (arith, b4 .loop .inv .number, b3 .loop-test .taken, b11 .pre .1 .1 .0, b11 .pre .1 .1 .1 .0))
 
 mutate-requires : tie.Need-mutate-requires Inv-loop μ-loop
 mutate-requires c κs =
-    let b3 = c .before .before .before in
-    let b4 = b3 .before in
-    let b5 = b4 .before in
-    let b13 = b5 .before .before .before .before .before .before .before .before in
-    (b5 .loop .inv .indexed, (handing-start _ (b5 .loop .inv .covered), (c .simulated .ensures .1 .1, (omega (arith, b13 .pre .1 .1 .0, b4 .loop-test .taken), b5 .loop .inv .marks))))
+    let b5 = c .before .before .before .before .before in
+    (b5 .loop .inv .indexed, (b5 .loop .inv .handing, c .simulated .ensures .1 .1))
 
 add-ws : tie.Need-add-ws Inv-loop μ-loop
 add-ws c =
     let b6 = c .before .before .before .before .before .before in
     let b7 = b6 .before in
-    let b16 = b7 .before .before .before .before .before .before .before .before .before in omega (arith, b16 .pre .1 .1 .0, b7 .loop-test .taken)
+    let b15 = b7 .before .before .before .before .before .before .before .before in omega (arith, b15 .pre .1 .1 .0, b7 .loop-test .taken)
 
 mul-ws : tie.Need-mul-ws Inv-loop μ-loop
 mul-ws c =
     let b6 = c .before .before .before .before .before .before in
     let b7 = b6 .before in
-    let b16 = b7 .before .before .before .before .before .before .before .before .before in omega (arith, b16 .pre .1 .1 .0, b7 .loop-test .taken)
+    let b15 = b7 .before .before .before .before .before .before .before .before in omega (arith, b15 .pre .1 .1 .0, b7 .loop-test .taken)
 
 slice-write-ws : tie.Need-slice-write-ws Inv-loop μ-loop
 slice-write-ws c =
@@ -89,8 +60,8 @@ slice-write-ws c =
     let b5 = b3 .before .before in
     let b7 = b5 .before .before in
     let b8 = b7 .before in
-    let b16 = b8 .before .before .before .before .before .before .before .before in
-    long (b8 .loop .inv) (b16 .pre .1 .1 .0) (b7 .loop-test .taken) (b5 .tracked .ensures) (b3 .simulated .ensures) (c .before .before .mutate .ensures)
+    let b15 = b8 .before .before .before .before .before .before .before in
+    long (b8 .loop .inv) (b15 .pre .1 .1 .0) (b7 .loop-test .taken) (b5 .tracked .ensures) (b3 .simulated .ensures) (c .before .before .mutate .ensures)
 
 put-flows-requires : tie.Need-put-flows-requires Inv-loop μ-loop
 put-flows-requires c κs =
@@ -100,21 +71,21 @@ put-flows-requires c κs =
     let b7 = b5 .before .before in
     let b9 = b7 .before .before in
     let b10 = b9 .before in
-    let b18 = b10 .before .before .before .before .before .before .before .before in
-    ((b18 .pre .1 .1 .0, stored-size (b10 .loop .inv) (b18 .pre .1 .1 .0) (b9 .loop-test .taken) (b7 .tracked .ensures) (b5 .simulated .ensures) (b4 .mutate .ensures)), omega (arith, b10 .loop .inv .few, b18 .pre .1 .1, b9 .loop-test .taken))
+    let b17 = b10 .before .before .before .before .before .before .before in
+    ((b17 .pre .1 .1 .0, stored-size (b10 .loop .inv) (b17 .pre .1 .1 .0) (b9 .loop-test .taken) (b7 .tracked .ensures) (b5 .simulated .ensures) (b4 .mutate .ensures)), omega (arith, b10 .loop .inv .few, b17 .pre .1 .1, b9 .loop-test .taken))
 
 add-next : tie.Need-add-next Inv-loop μ-loop
 add-next c =
     let b11 = c .before .before .before .before .before .before .before .before .before .before .before in
     let b12 = b11 .before in
     let b13 = b12 .before in
-    let b21 = b13 .before .before .before .before .before .before .before .before in omega (arith, b13 .loop .inv .number, b21 .pre .1 .1, b12 .loop-test .taken)
+    let b20 = b13 .before .before .before .before .before .before .before in omega (arith, b13 .loop .inv .number, b20 .pre .1 .1, b12 .loop-test .taken)
 
 add-i : tie.Need-add-i Inv-loop μ-loop
 add-i c =
     let b11 = c .before .before .before .before .before .before .before .before .before .before .before in
     let b12 = b11 .before in
-    let b21 = b12 .before .before .before .before .before .before .before .before .before in omega (arith, b21 .pre .1 .1, b12 .loop-test .taken)
+    let b20 = b12 .before .before .before .before .before .before .before .before in omega (arith, b20 .pre .1 .1, b12 .loop-test .taken)
 
 loop-less : tie.Need-loop-less Inv-loop μ-loop
 loop-less c = omega arith
@@ -128,12 +99,12 @@ loop-again c =
     let b12 = b10 .before .before in
     let b13 = b12 .before in
     let b16 = b13 .before .before .before in
-    let b21 = b16 .before .before .before .before .before in turned-turn (b13 .loop .inv) (b21 .pre .1 .1 .0) (b12 .loop-test .taken) (b10 .tracked .ensures) (b8 .simulated .ensures) (b7 .mutate .ensures) (b21 .pre .1 .0 .0, cleared-marked (b21 .args .ws .now) (b21 .pre .0) (b16 .clear .last .0) (b16 .clear .ensures) (b21 .pre .1 .0 .0) (b21 .pre .1 .0 .1)) (c .before .before .put-flows .ensures) (c .before .before .put-flows .kept .1 .1 .1 .1 .1 .0)
+    let b20 = b16 .before .before .before .before in turned-turn (b13 .loop .inv) (b20 .pre .1 .1 .0) (b12 .loop-test .taken) (b10 .tracked .ensures) (b8 .simulated .ensures) (b7 .mutate .ensures) (b20 .pre .1 .0 .0, cleared-marked (b20 .args .ws .now) (b20 .pre .0) (b16 .clear-marks .last .0) (b16 .clear-marks .ensures) (b20 .pre .1 .0 .0) (b20 .pre .1 .0 .1)) (c .before .before .put-flows .ensures) (c .before .before .put-flows .kept .1 .1 .1 .1 .1 .0)
 
 same-length : tie.Need-same-length Inv-loop μ-loop
 same-length c =
     let b3 = c .before .before .before in
-    let b4 = b3 .before in c .before .loop .inv .same ∙ b4 .clear .kept .0
+    let b4 = b3 .before in c .before .loop .inv .same ∙ b4 .clear-marks .kept .0
 
 same-length-2 : tie.Need-same-length-2 Inv-loop μ-loop
 same-length-2 c = c .before .loop .inv .buffer
@@ -142,7 +113,7 @@ returns : tie.Need-returns Inv-loop μ-loop
 returns c =
     let b3 = c .before .before .before in
     let b4 = b3 .before in
-    let b9 = b4 .before .before .before .before .before in cleared-end (b9 .args .ws .now) (b9 .pre .0) (b4 .clear .last .0) (b4 .clear .ensures) (turned-end (c .before .loop .inv) (c .loop-test .left))
+    let b8 = b4 .before .before .before .before in cleared-end (b8 .args .ws .now) (b8 .pre .0) (b4 .clear-marks .last .0) (b4 .clear-marks .ensures) (turned-end (c .before .loop .inv) (c .loop-test .left))
 
 pub simulate-spec : {M : Type 1} → statement M
 simulate-spec =
@@ -150,14 +121,10 @@ simulate-spec =
     (tie.spec
     Inv-loop
     μ-loop
-    slice-read-nodes
-    cast-nodes
-    clear-requires
+    clear-marks-requires
     loop-holds
     tracked-requires
     simulated-requires
-    mul-mutate
-    cast-mutate
     mutate-requires
     add-ws
     mul-ws

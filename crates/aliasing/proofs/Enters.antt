@@ -1,0 +1,27 @@
+-- The ways that entering an identifier ends.
+use Prim.Native.Nat.{ℕ, _+_, _≤_, _<_}
+use mathlib.Core.Bool.{Bool, false, not}
+use mathlib.Core.List.{List}
+use mathlib.Core.Path.{_≡_}
+use lib.ListN.{getD, set}
+use lib.Dec.{eqb}
+use borrow.Author.Tests.{lt-ltb, le-ltb}
+use Rattle.rows.specs.Layout.{SEEN, VALUE, NODES}
+use Rattle.aliasing.specs.Accepts.{freshW, enterW, entersW}
+
+module _ (ws : List ℕ) (x level : ℕ) where
+  -- the words and the answer
+  abbrev pub Enters : List ℕ → Bool → Type 0
+  Enters ws₁ r = (ws₁ ≡ enterW ws x level) × (r ≡ entersW ws x level)
+
+  pub enters-beyond : getD ws NODES 0 ≤ x → Enters ws false
+  unfolding enterW entersW freshW
+  enters-beyond h = (rw (le-ltb x (getD ws NODES 0) h), rw (le-ltb x (getD ws NODES 0) h))
+
+  pub enters-seen : x < getD ws NODES 0 → level < getD ws (SEEN + x) 0 → Enters ws false
+  unfolding enterW entersW freshW
+  enters-seen h k = (rw (lt-ltb x (getD ws NODES 0) h, lt-ltb level (getD ws (SEEN + x) 0) k), rw (lt-ltb x (getD ws NODES 0) h, lt-ltb level (getD ws (SEEN + x) 0) k))
+
+  pub enters-marked : x < getD ws NODES 0 → getD ws (SEEN + x) 0 ≤ level → Enters (set ws (SEEN + x) (level + 1)) (not (eqb (getD ws (VALUE + x) 0) 0))
+  unfolding enterW entersW freshW
+  enters-marked h k = (rw (lt-ltb x (getD ws NODES 0) h, le-ltb level (getD ws (SEEN + x) 0) k), rw (lt-ltb x (getD ws NODES 0) h, le-ltb level (getD ws (SEEN + x) 0) k))
