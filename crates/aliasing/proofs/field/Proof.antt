@@ -7,32 +7,25 @@ use Rattle.aliasing.proofs.field.Tie as tie
 use Rattle.aliasing.proofs.field.Reads as reads
 use Rattle.aliasing.proofs.field.Lts as lts
 
--- src/lib.rt:123:9
 cast-if1 : tie.Need-cast-if1
 cast-if1 c = search needs
 
--- src/lib.rt:123:21
 shared-slice-read-if1 : tie.Need-shared-slice-read-if1
 shared-slice-read-if1 c = search needs
 
--- src/lib.rt:124:19
 add-result : tie.Need-add-result
 add-result c = search needs
 
--- src/lib.rt:124:16
 mul-result : tie.Need-mul-result
 mul-result c = search needs
 
--- src/lib.rt:124:16
 shared-slice-read-result : tie.Need-shared-slice-read-result
 shared-slice-read-result c = search needs
 
--- src/lib.rt:124:9
 returns : tie.Need-returns
 returns c =
     let s = c .before .before .before in sym (field-word (s .args .ws .now) (s .args .f) (s .args .x) (s .pre .0) ∙ field-there (s .args .ws .now) (s .args .f) (s .args .x) (c .before .if1 .taken))
 
--- src/lib.rt:119:1
 returns-2 : tie.Need-returns-2
 returns-2 c =
     let s = c .before .before in sym (field-word (s .args .ws .now) (s .args .f) (s .args .x) (s .pre .0) ∙ field-beyond (s .args .ws .now) (s .args .f) (s .args .x) (c .if1 .left))

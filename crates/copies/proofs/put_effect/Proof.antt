@@ -9,31 +9,24 @@ use Rattle.copies.proofs.put_place.Reads as put-place-reads
 use Rattle.hir.proofs.EffectKind.number.Reads as number-reads
 use Rattle.writing.proofs.put.Reads as put-reads
 
--- src/lib.rt:44:29
 number-requires : tie.Need-number-requires
 number-requires c κs = search needs
 
--- src/lib.rt:44:9
 put-requires : tie.Need-put-requires
 put-requires c κs = search needs
 
--- src/lib.rt:45:9
 put-place-requires : tie.Need-put-place-requires
 put-place-requires c κs = search needs
 
--- src/lib.rt:46:9
 put-place-requires-2 : tie.Need-put-place-requires-2
 put-place-requires-2 c κs = search needs
 
--- src/lib.rt:47:5
 put-requires-2 : tie.Need-put-requires-2
 put-requires-2 c κs = search needs
 
--- src/lib.rt:37:1
 same-length : tie.Need-same-length
 same-length c = search needs
 
--- src/lib.rt:37:1
 returns : tie.Need-returns
 returns c =
     let b6 = c .before .before .before .before .before .before in

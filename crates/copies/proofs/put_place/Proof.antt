@@ -7,27 +7,21 @@ use Rattle.copies.proofs.put_place.Lts as lts
 use Rattle.hir.proofs.places.traits_word.Reads as traits-word-reads
 use Rattle.writing.proofs.put.Reads as put-reads
 
--- src/lib.rt:31:9
 put-requires : tie.Need-put-requires
 put-requires c κs = search needs
 
--- src/lib.rt:32:28
 traits-word-requires : tie.Need-traits-word-requires
 traits-word-requires c κs = search needs
 
--- src/lib.rt:32:9
 put-requires-2 : tie.Need-put-requires-2
 put-requires-2 c κs = search needs
 
--- src/lib.rt:33:5
 put-requires-3 : tie.Need-put-requires-3
 put-requires-3 c κs = search needs
 
--- src/lib.rt:25:1
 same-length : tie.Need-same-length
 same-length c = search needs
 
--- src/lib.rt:25:1
 returns : tie.Need-returns
 returns c =
     let b6 = c .before .before .before .before .before .before in

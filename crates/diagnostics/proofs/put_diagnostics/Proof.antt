@@ -12,20 +12,17 @@ use Rattle.diagnostics.proofs.put_recorded.Reads as put-recorded-reads
 use Rattle.writing.proofs.patch.Reads as patch-reads
 use Rattle.writing.proofs.put.Reads as put-reads
 
--- src/lib.rt:82:9
 put-requires : tie.Need-put-requires
 put-requires c κs =
     let b4 = c .before .before .before .before in
     omega (arith, b4 .pre .1 .1 .1 .1 .1)
 
--- src/lib.rt:83:9
 put-recorded-requires : tie.Need-put-recorded-requires
 put-recorded-requires c κs =
     let b3 = c .before .before .before in
     let b8 = b3 .before .before .before .before .before in
     (b8 .pre .0, omega (arith, b3 .put .ensures .next, b8 .pre .1 .1 .1 .1 .1))
 
--- src/lib.rt:84:9
 put-handed-requires : tie.Need-put-handed-requires
 put-handed-requires c κs =
     let b4 = c .before .before .before .before in
@@ -33,7 +30,6 @@ put-handed-requires c κs =
     let b13 = b8 .before .before .before .before .before in
     ((b13 .pre .0 .m, (b13 .pre .1 .1 .1 .1 .0, b13 .pre .1 .0 .size)), omega (arith, b8 .put .ensures .next, b4 .put-recorded .ensures .few, b13 .pre .1 .1 .1 .1 .1))
 
--- src/lib.rt:86:9
 process-renders-requires : tie.Need-process-renders-requires
 process-renders-requires c κs =
     let b5 = c .before .before .before .before .before in
@@ -55,7 +51,6 @@ joined c =
     (λ w. handed-as (handed-put _ _ _ _ _ (b3 .put-handed .ensures) same (w .0 .taken) (b17 .pre .1 .1 .1 .0) (w .3 .ensures) (w .3 .kept .1 .1 .1 .1 .0)) (w .8) (w .9) (w .10))
     (λ w. handed-as (handed-not _ _ _ _ _ (b3 .put-handed .ensures) same (w .0 .left)) (w .1) (w .2) (w .3)) (c .if1 .came)
 
--- src/lib.rt:88:24
 sub-patch : tie.Need-sub-patch
 sub-patch c =
     let b10 = c .before .before .before .before .before .before .before .before .before .before in
@@ -64,24 +59,20 @@ sub-patch c =
     let k = b19 .pre .1 .1 .0 in
     count-least (b14 .put .ensures) (b10 .put-recorded .ensures) (joined (c .before .before)) (k .0) (k .1 .0) (k .1 .1)
 
--- src/lib.rt:88:23
 cast-patch : tie.Need-cast-patch
 cast-patch c =
     let b10 = c .before .before .before .before .before .before .before .before .before .before in
     let b14 = b10 .before .before .before .before in
     omega (arith, count-few (b14 .put .ensures) (b10 .put-recorded .ensures) (joined (c .before .before)))
 
--- src/lib.rt:88:5
 patch-requires : tie.Need-patch-requires
 patch-requires c κs = omega arith
 
--- src/lib.rt:67:1
 same-length : tie.Need-same-length
 same-length c =
     let b4 = c .before .before .before .before in
     joined (b4 .before) .unmoved .aside .same
 
--- src/lib.rt:67:1
 same-length-2 : tie.Need-same-length-2
 same-length-2 c =
     let b4 = c .before .before .before .before in
@@ -92,7 +83,6 @@ same-length-2 c =
     ∙ b13 .put-recorded .kept .1 .1 .0
     ∙ b17 .put .kept .0
 
--- src/lib.rt:67:1
 returns : tie.Need-returns
 returns c =
     let b4 = c .before .before .before .before in

@@ -6,23 +6,19 @@ use Rattle.diagnostics.proofs.put_recorded.Reads as reads
 use Rattle.diagnostics.proofs.put_recorded.Lts as lts
 use Rattle.copies.proofs.effect_lists.copy_effects.Reads as copy-effects-reads
 
--- src/lib.rt:51:13
 copy-effects-requires : tie.Need-copy-effects-requires
 copy-effects-requires c κs =
     let b5 = c .before .before .before .before .before in
     (b5 .pre .0 .count, omega (arith, b5 .pre .1))
 
--- src/lib.rt:61:9
 same-length : tie.Need-same-length
 same-length c = c .before .before .copy-effects .kept .1 .1 .1 .1 .1 .1 .0
 
--- src/lib.rt:61:9
 returns : tie.Need-returns
 returns c =
     let b4 = c .before .before .before .before in
     recorded-put _ _ _ _ (b4 .if1 .taken) (c .before .before .copy-effects .ensures)
 
--- src/lib.rt:45:1
 returns-2 : tie.Need-returns-2
 returns-2 c = recorded-not _ _ _ _ (c .if1 .left)
 

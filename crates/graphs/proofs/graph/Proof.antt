@@ -13,79 +13,60 @@ use Rattle.graphs.proofs.walks.Reads as walks-reads
 use Rattle.rows.proofs.clear.Reads as clear-reads
 use Rattle.steps.proofs.lay_out_steps.Reads as lay-out-steps-reads
 
--- src/main.rt:283:9
 count-at-requires : tie.Need-count-at-requires
 count-at-requires c κs = tt
 
--- src/main.rt:284:20
 mul-ends : tie.Need-mul-ends
 mul-ends c = omega (arith, c .count-at .ensures)
 
--- src/main.rt:284:16
 add-ends : tie.Need-add-ends
 add-ends c = omega (arith, c .count-at .ensures)
 
--- src/main.rt:286:9
 one-graph-requires : tie.Need-one-graph-requires
 one-graph-requires c κs = (omega arith, omega arith)
 
--- src/main.rt:286:9
 returns : tie.Need-returns
 returns c = refl
 
--- src/main.rt:288:9
 count-at-requires-2 : tie.Need-count-at-requires-2
 count-at-requires-2 c κs = tt
 
--- src/main.rt:289:5
 clear-requires : tie.Need-clear-requires
 clear-requires c κs = omega (arith, c .before .before .before .before .before .before .pre)
 
--- src/main.rt:290:5
 slice-write-ws : tie.Need-slice-write-ws
 slice-write-ws c = search needs
 
--- src/main.rt:291:21
 add-put-ends : tie.Need-add-put-ends
 add-put-ends c = omega (arith, c .before .before .before .before .before .before .count-at .ensures)
 
--- src/main.rt:291:5
 put-ends-requires : tie.Need-put-ends-requires
 put-ends-requires c κs = (simp length-set (omega (arith, c .before .before .before .before .before .before .before .before .before .before .pre, c .before .before .before .clear .kept .0)), omega (arith, c .before .before .before .before .before .before .before .count-at .ensures))
 
--- src/main.rt:292:34
 sub-lay-out-steps : tie.Need-sub-lay-out-steps
 sub-lay-out-steps c = omega arith
 
--- src/main.rt:292:34
 part-lay-out-steps-start : tie.Need-part-lay-out-steps-start
 part-lay-out-steps-start c = omega arith
 
--- src/main.rt:292:34
 part-lay-out-steps-end : tie.Need-part-lay-out-steps-end
 part-lay-out-steps-end c = omega (arith, c .before .before .before .before .before .before .before .before .before .if1 .left)
 
--- src/main.rt:292:9
 lay-out-steps-requires : tie.Need-lay-out-steps-requires
 lay-out-steps-requires c κs = omega (arith, c .before .before .before .before .before .before .before .before .before .before .before .before .before .before .before .pre, c .before .before .before .before .before .before .before .before .clear .kept .0, simp length-set at (c .before .before .before .before .put-ends .ensures))
 
--- src/main.rt:295:9
 add-walks : tie.Need-add-walks
 add-walks c = omega (arith, c .before .before .before .before .before .before .before .before .before .before .before .before .before .before .before .count-at .ensures)
 
--- src/main.rt:295:9
 add-walks-2 : tie.Need-add-walks-2
 add-walks-2 c = omega (arith, c .before .before .before .before .before .before .before .before .before .before .before .before .before .before .before .count-at .ensures, c .before .before .before .before .before .before .before .before .before .before .before .before .before .count-at2 .ensures)
 
--- src/main.rt:293:5
 walks-requires : tie.Need-walks-requires
 walks-requires c κs = (c .before .before .before .lay-out-steps .ensures .indexed, (c .before .before .before .lay-out-steps .ensures .mutations, c .before .before .before .lay-out-steps .ensures .renders))
 
--- src/main.rt:279:1
 same-length : tie.Need-same-length
 same-length c = c .before .before .walks .ensures .same ∙ c .before .before .before .before .before .before .lay-out-steps .ensures .same ∙ c .before .before .before .before .before .before .before .before .before .before .before .put-ends .ensures ∙ simp length-set (c .before .before .before .before .before .before .before .before .before .before .before .before .before .before .before .clear .kept .0)
 
--- src/main.rt:279:1
 returns-2 : tie.Need-returns-2
 returns-2 c = c .before .before .walks .ensures .same ∙ c .before .before .before .before .before .before .lay-out-steps .ensures .same ∙ c .before .before .before .before .before .before .before .before .before .before .before .put-ends .ensures ∙ simp length-set (c .before .before .before .before .before .before .before .before .before .before .before .before .before .before .before .clear .kept .0)
 

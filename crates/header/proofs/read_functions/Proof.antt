@@ -16,63 +16,48 @@ Inv-loop sheet ws₀ m at₀ i₀ ws at i = FunctionsInv m sheet ws₀ (at₀ .a
 abbrev μ-loop : tie.MeasureT-loop
 μ-loop sheet ws₀ m at₀ i₀ ws at i = m - i
 
--- src/lib.rt:80:5
 loop-holds : tie.Need-loop-holds Inv-loop μ-loop
 loop-holds c = functions-start _ _ _ _ (c .before .before .pre .1 .1 .1)
 
--- src/lib.rt:81:15
 skip-function-requires : tie.Need-skip-function-requires Inv-loop μ-loop
 skip-function-requires c κs = search needs
 
--- src/lib.rt:82:22
 enum-known-next : tie.Need-enum-known-next Inv-loop μ-loop
 enum-known-next c = search needs
 
--- src/lib.rt:83:37
 cast-ws : tie.Need-cast-ws Inv-loop μ-loop
 cast-ws c = omega arith
 
--- src/lib.rt:83:20
 add-ws : tie.Need-add-ws Inv-loop μ-loop
 add-ws c = omega (arith, c .before .before .before .before .before .before .loop .inv .within)
 
--- src/lib.rt:83:17
 mul-ws : tie.Need-mul-ws Inv-loop μ-loop
 mul-ws c = omega (arith, c .before .before .before .before .before .before .loop .inv .same, (c .before .before .before .before .before .before .before .before .before .pre))
 
--- src/lib.rt:83:17
 slice-write-ws : tie.Need-slice-write-ws Inv-loop μ-loop
 slice-write-ws c = omega (arith, c .before .before .before .before .before .before .loop .inv .same, (c .before .before .before .before .before .before .before .before .before .pre))
 
--- src/lib.rt:87:17
 enum-told : tie.Need-enum-told Inv-loop μ-loop
 enum-told c = search needs
 
--- src/lib.rt:87:17
 same-length : tie.Need-same-length Inv-loop μ-loop
 same-length c = c .before .before .before .before .loop .inv .same
 
--- src/lib.rt:87:17
 returns : tie.Need-returns Inv-loop μ-loop
 returns c = record { read = λ fs d e. absurd (functions-refused (c .before .before .before .before .loop .inv) (c .before .before .before .before .before .before .before .pre .1 .1 .0) (c .before .before .before .before .before .before .before .pre .0) (c .before .before .before .before .before .before .before .pre .1 .0) (c .before .before .before .loop-test .taken) (λ f j g. subst (λ r. nextIs r j) (c .enum-told .given .1) (c .before .before .skip-function .ensures .read f j g)) fs d e); low = c .before .before .before .before .loop .inv .low; high = c .before .before .before .before .loop .inv .high; same = c .before .before .before .before .loop .inv .same }
 
--- src/lib.rt:90:9
 add-i : tie.Need-add-i Inv-loop μ-loop
 add-i c = omega (arith, c .before .before .before .before .before .before .loop .inv .within)
 
--- src/lib.rt:80:5
 loop-less : tie.Need-loop-less Inv-loop μ-loop
 loop-less c = omega arith
 
--- src/lib.rt:80:5
 loop-again : tie.Need-loop-again Inv-loop μ-loop
 loop-again c = functions-turn (c .before .before .before .before .before .before .loop .inv) (c .before .before .before .before .before .before .before .before .before .pre .1 .1 .0) (c .before .before .before .before .before .before .before .before .before .pre .0) (c .before .before .before .before .before .before .before .before .before .pre .1 .0) _ (c .before .before .before .before .before .loop-test .taken) (λ f j g. subst (λ r. nextIs r j) (c .before .before .next .given .1) (c .before .before .before .before .skip-function .ensures .read f j g))
 
--- src/lib.rt:74:1
 same-length-2 : tie.Need-same-length-2 Inv-loop μ-loop
 same-length-2 c = c .before .loop .inv .same
 
--- src/lib.rt:74:1
 returns-2 : tie.Need-returns-2 Inv-loop μ-loop
 returns-2 c = record { read = λ fs d e. functions-done (c .before .loop .inv) (c .before .before .before .before .pre .1 .1 .0) (c .before .before .before .before .pre .0) (c .before .before .before .before .pre .1 .0) (c .loop-test .left) fs d e; low = c .before .loop .inv .low; high = c .before .loop .inv .high; same = c .before .loop .inv .same }
 

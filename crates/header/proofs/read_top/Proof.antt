@@ -18,65 +18,51 @@ use Rattle.header.proofs.records_errors.Reads as records-errors-reads
 use Rattle.hir.proofs.Cursor.count.Reads as count-reads
 use Rattle.hir.proofs.Cursor.flags.Reads as flags-reads
 
--- src/lib.rt:129:37
 flags-requires : tie.Need-flags-requires
 flags-requires c κs = search needs
 
--- src/lib.rt:129:24
 enum-known-flags : tie.Need-enum-known-flags
 enum-known-flags c = search needs
 
--- src/lib.rt:130:9
 enum-told : tie.Need-enum-told
 enum-told c = search needs
 
--- src/lib.rt:130:9
 returns : tie.Need-returns
 returns c = record { read = λ s d h. no-flags _ s d h _ (says flagsSays (c .enum-told .given .1) (c .before .before .flags .ensures)); few = tt }
 
--- src/lib.rt:132:32
 count-requires : tie.Need-count-requires
 count-requires c κs = search needs
 
--- src/lib.rt:132:23
 enum-known-n : tie.Need-enum-known-n
 enum-known-n c = search needs
 
--- src/lib.rt:133:9
 enum-told-2 : tie.Need-enum-told-2
 enum-told-2 c = search needs
 
--- src/lib.rt:133:9
 returns-2 : tie.Need-returns-2
 returns-2 c =
     let b4 = c .before .before .before .before in
     let b6 = b4 .before .before in
     record { read = λ s d h. no-identifiers _ s d h _ _ (says flagsSays (b4 .flags2 .given .1) (b6 .flags .ensures)) _ (says wordSays (c .enum-told2 .given .1) (c .before .before .count .ensures)); few = tt }
 
--- src/lib.rt:135:49
 cast-read-ends : tie.Need-cast-read-ends
 cast-read-ends c = search needs
 
--- src/lib.rt:135:24
 read-ends-requires : tie.Need-read-ends-requires
 read-ends-requires c κs =
     let b4 = c .before .before .before .before in
     let b11 = b4 .before .before .before .before .before .before .before in
     (count-reads 512 _ _ _ _ (says wordSays (c .before .before .n .given .1) (b4 .count .ensures)), b11 .pre .0)
 
--- src/lib.rt:135:18
 enum-known-c3 : tie.Need-enum-known-c3
 enum-known-c3 c = search needs
 
--- src/lib.rt:136:9
 enum-told-3 : tie.Need-enum-told-3
 enum-told-3 c = search needs
 
--- src/lib.rt:136:9
 same-length : tie.Need-same-length
 same-length c = search needs
 
--- src/lib.rt:136:9
 returns-3 : tie.Need-returns-3
 returns-3 c =
     let b4 = c .before .before .before .before in
@@ -86,23 +72,18 @@ returns-3 c =
     let b13 = b11 .before .before in
     record { read = λ s d h. no-ends _ s d h _ _ (says flagsSays (b11 .flags2 .given .1) (b13 .flags .ensures)) _ _ (says wordSays (b7 .n .given .1) (b9 .count .ensures)) _ _ (ends-as (b4 .read-ends .ensures) (c .enum-told3 .given .1)); few = tt }
 
--- src/lib.rt:138:32
 count-requires-2 : tie.Need-count-requires-2
 count-requires-2 c κs = search needs
 
--- src/lib.rt:138:23
 enum-known-m : tie.Need-enum-known-m
 enum-known-m c = search needs
 
--- src/lib.rt:139:9
 enum-told-4 : tie.Need-enum-told-4
 enum-told-4 c = search needs
 
--- src/lib.rt:139:9
 same-length-2 : tie.Need-same-length-2
 same-length-2 c = search needs
 
--- src/lib.rt:139:9
 returns-4 : tie.Need-returns-4
 returns-4 c =
     let b4 = c .before .before .before .before in
@@ -113,11 +94,9 @@ returns-4 c =
     let b17 = b15 .before .before in
     record { read = λ s d h. no-functions _ s d h _ _ (says flagsSays (b15 .flags2 .given .1) (b17 .flags .ensures)) _ _ (says wordSays (b11 .n .given .1) (b13 .count .ensures)) _ _ _ (ends-as (b8 .read-ends .ensures) (b4 .c3 .given .1)) _ (says wordSays (c .enum-told4 .given .1) (c .before .before .count2 .ensures)); few = tt }
 
--- src/lib.rt:141:54
 cast-read-functions : tie.Need-cast-read-functions
 cast-read-functions c = search needs
 
--- src/lib.rt:141:24
 read-functions-requires : tie.Need-read-functions-requires
 read-functions-requires c κs =
     let b4 = c .before .before .before .before in
@@ -125,19 +104,15 @@ read-functions-requires c κs =
     let b22 = b10 .before .before .before .before .before .before .before .before .before .before .before .before in
     (count-reads 64 _ _ _ _ (says wordSays (c .before .before .m .given .1) (b4 .count2 .ensures)), (omega (arith, b22 .pre .0, b10 .read-ends .ensures .same), (b22 .pre .1, count-within 64 _ _ _ _ (says wordSays (c .before .before .m .given .1) (b4 .count2 .ensures)))))
 
--- src/lib.rt:141:18
 enum-known-c5 : tie.Need-enum-known-c5
 enum-known-c5 c = search needs
 
--- src/lib.rt:142:9
 enum-told-5 : tie.Need-enum-told-5
 enum-told-5 c = search needs
 
--- src/lib.rt:142:9
 same-length-3 : tie.Need-same-length-3
 same-length-3 c = search needs
 
--- src/lib.rt:142:9
 returns-5 : tie.Need-returns-5
 returns-5 c =
     let b4 = c .before .before .before .before in
@@ -151,15 +126,12 @@ returns-5 c =
     let b24 = b22 .before .before in
     record { read = λ s d h. no-list _ s d h _ _ (says flagsSays (b22 .flags2 .given .1) (b24 .flags .ensures)) _ _ (says wordSays (b18 .n .given .1) (b20 .count .ensures)) _ _ _ (ends-as (b15 .read-ends .ensures) (b11 .c3 .given .1)) _ _ (says wordSays (b7 .m .given .1) (b9 .count2 .ensures)) _ (functions-as (b4 .read-functions .ensures) (c .enum-told5 .given .1)); few = tt }
 
--- src/lib.rt:144:9
 records-errors-requires : tie.Need-records-errors-requires
 records-errors-requires c κs = search needs
 
--- src/lib.rt:124:1
 same-length-4 : tie.Need-same-length-4
 same-length-4 c = search needs
 
--- src/lib.rt:124:1
 returns-6 : tie.Need-returns-6
 returns-6 c =
     let b6 = c .before .before .before .before .before .before in

@@ -11,30 +11,24 @@ use Rattle.inference.proofs.build.Reads as build-reads
 use Rattle.inference.proofs.put_answer.Reads as put-answer-reads
 use Rattle.rows.proofs.clear.Reads as clear-reads
 
--- src/lib.rt:106:35
 build-requires : tie.Need-build-requires
 build-requires c κs = c .before .before .before .before .pre
 
--- src/lib.rt:106:27
 enum-known-f : tie.Need-enum-known-f
 enum-known-f c = search needs
 
--- src/lib.rt:107:9
 enum-told : tie.Need-enum-told
 enum-told c = search needs
 
--- src/lib.rt:107:9
 same-length : tie.Need-same-length
 same-length c = search needs
 
--- src/lib.rt:107:9
 returns : tie.Need-returns
 returns c =
     let b4 = c .before .before .before .before in
     let b9 = b4 .before .before .before .before .before in
     no-answer (b4 .build .ensures) (c .enum-told .given .1) (b9 .pre .1 .0)
 
--- src/lib.rt:109:9
 put-answer-requires : tie.Need-put-answer-requires
 put-answer-requires c κs =
     let b3 = c .before .before .before in
@@ -42,23 +36,18 @@ put-answer-requires c κs =
     let b12 = b7 .before .before .before .before .before in
     (b12 .pre .1 .0 .0, prepared-got (b7 .build .ensures) (b3 .f .given .1) (b12 .pre .1 .0 .0) (b12 .pre .1 .0 .1))
 
--- src/lib.rt:111:5
 clear-requires : tie.Need-clear-requires
 clear-requires c κs = search needs
 
--- src/lib.rt:114:9
 clear-requires-2 : tie.Need-clear-requires-2
 clear-requires-2 c κs = search needs
 
--- src/lib.rt:115:9
 same-length-2 : tie.Need-same-length-2
 same-length-2 c = search needs
 
--- src/lib.rt:115:9
 same-length-3 : tie.Need-same-length-3
 same-length-3 c = search needs
 
--- src/lib.rt:115:9
 returns-2 : tie.Need-returns-2
 returns-2 c =
     let b4 = c .before .before .before .before in
@@ -69,19 +58,15 @@ returns-2 c =
     λ s is. too-long (b13 .put-answer .ensures .wrote s (prepared-got (b21 .build .ensures) (b17 .f .given .1) s is)) _ _ _ (b13 .put-answer .ensures .same
     ∙ b21 .build .ensures .same) (b7 .clear .ensures) (b4 .if1 .taken) (c .before .before .clear2 .ensures)
 
--- src/lib.rt:117:5
 clear-requires-3 : tie.Need-clear-requires-3
 clear-requires-3 c κs = search needs
 
--- src/lib.rt:101:1
 same-length-4 : tie.Need-same-length-4
 same-length-4 c = search needs
 
--- src/lib.rt:101:1
 same-length-5 : tie.Need-same-length-5
 same-length-5 c = search needs
 
--- src/lib.rt:101:1
 returns-3 : tie.Need-returns-3
 returns-3 c =
     let b4 = c .before .before .before .before in

@@ -10,42 +10,33 @@ use Rattle.inference.proofs.answer_sheet.Reads as answer-sheet-reads
 use Rattle.inference.proofs.refuse.Reads as refuse-reads
 use Rattle.reading.proofs.read.Reads as read-reads
 
--- src/lib.rt:141:9
 refuse-requires : tie.Need-refuse-requires
 refuse-requires c κs = search needs
 
--- src/lib.rt:141:9
 same-length : tie.Need-same-length
 same-length c = search needs
 
--- src/lib.rt:141:9
 same-length-2 : tie.Need-same-length-2
 same-length-2 c = search needs
 
--- src/lib.rt:141:9
 returns : tie.Need-returns
 returns c =
     let b4 = c .before .before .before .before in
     let b7 = b4 .before .before .before in
     inferred-one _ _ _ (b7 .if1 .taken) (b4 .refuse .ensures)
 
--- src/lib.rt:143:11
 read-requires : tie.Need-read-requires
 read-requires c κs = search needs
 
--- src/lib.rt:144:26
 enum-known-k : tie.Need-enum-known-k
 enum-known-k c = search needs
 
--- src/lib.rt:144:32
 refuse-requires-2 : tie.Need-refuse-requires-2
 refuse-requires-2 c κs = search needs
 
--- src/lib.rt:145:27
 enum-known-t : tie.Need-enum-known-t
 enum-known-t c = search needs
 
--- src/lib.rt:147:13
 answer-sheet-requires : tie.Need-answer-sheet-requires
 answer-sheet-requires c κs =
     let b5 = c .before .before .before .before .before in
@@ -55,15 +46,12 @@ answer-sheet-requires c κs =
     let said = says verdictSays (b5 .t .given .1) (b7 .read .ensures) in
     (b8 .if1 .left, (accepted-is (b12 .args .sheet .now) said, accepted-none (b12 .args .sheet .now) said))
 
--- src/lib.rt:133:1
 same-length-3 : tie.Need-same-length-3
 same-length-3 c = search needs
 
--- src/lib.rt:133:1
 same-length-4 : tie.Need-same-length-4
 same-length-4 c = search needs
 
--- src/lib.rt:133:1
 returns-2 : tie.Need-returns-2
 returns-2 c =
     let b4 = c .before .before .before .before in
@@ -73,15 +61,12 @@ returns-2 c =
     let b15 = b11 .before .before .before .before in
     inferred-refused _ _ _ (b11 .if1 .left) (refused-is (b15 .args .sheet .now) (says verdictSays (b8 .k .given .1) (b10 .read .ensures))) (b4 .refuse2 .ensures)
 
--- src/lib.rt:133:1
 same-length-5 : tie.Need-same-length-5
 same-length-5 c = search needs
 
--- src/lib.rt:133:1
 same-length-6 : tie.Need-same-length-6
 same-length-6 c = search needs
 
--- src/lib.rt:133:1
 returns-3 : tie.Need-returns-3
 returns-3 c =
     let b4 = c .before .before .before .before in

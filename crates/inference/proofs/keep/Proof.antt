@@ -12,47 +12,36 @@ use Rattle.inference.proofs.keep.Lts as lts
 use Rattle.inference.proofs.larger.Reads as larger-reads
 use Rattle.rows.proofs.clear.Reads as clear-reads
 
--- src/lib.rt:52:17
 slice-read-nodes : tie.Need-slice-read-nodes
 slice-read-nodes c = omega (arith, c .before .before .pre .0 .size)
 
--- src/lib.rt:52:17
 cast-nodes : tie.Need-cast-nodes
 cast-nodes c = omega (arith, nodes-few (c .before .before .args .ws .now) (c .before .before .pre .0))
 
--- src/lib.rt:53:9
 larger-requires : tie.Need-larger-requires
 larger-requires c κs = omega arith
 
--- src/lib.rt:54:5
 clear-requires : tie.Need-clear-requires
 clear-requires c κs = omega (arith, kept-most (c .before .before .before .before .args .ws .now) (c .before .before .before .before .args .n) (c .before .larger .result) (c .before .before .before .before .pre .0) (c .before .before .before .before .pre .1) (c .before .larger .ensures), c .before .before .before .before .pre .0 .size)
 
--- src/lib.rt:55:15
 add-clear : tie.Need-add-clear
 add-clear c = omega (arith, c .before .before .before .before .before .before .before .before .pre .1)
 
--- src/lib.rt:55:24
 sub-clear : tie.Need-sub-clear
 sub-clear c = omega (arith, c .before .before .before .before .before .larger .ensures)
 
--- src/lib.rt:55:5
 clear-requires-2 : tie.Need-clear-requires-2
 clear-requires-2 c κs = omega (arith, kept-most (c .before .before .before .before .before .before .before .before .args .ws .now) (c .before .before .before .before .before .before .before .before .args .n) (c .before .before .before .before .before .larger .result) (c .before .before .before .before .before .before .before .before .pre .0) (c .before .before .before .before .before .before .before .before .pre .1) (c .before .before .before .before .before .larger .ensures), c .before .before .before .before .before .larger .ensures, c .before .before .before .clear .kept .0, c .before .before .before .before .before .before .before .before .pre .0 .size)
 
--- src/lib.rt:56:16
 cast-ws : tie.Need-cast-ws
 cast-ws c = omega (arith, kept-most (c .before .before .before .before .before .before .before .before .before .before .before .args .ws .now) (c .before .before .before .before .before .before .before .before .before .before .before .args .n) (c .before .before .before .before .before .before .before .before .larger .result) (c .before .before .before .before .before .before .before .before .before .before .before .pre .0) (c .before .before .before .before .before .before .before .before .before .before .before .pre .1) (c .before .before .before .before .before .before .before .before .larger .ensures))
 
--- src/lib.rt:56:5
 slice-write-ws : tie.Need-slice-write-ws
 slice-write-ws c = omega (arith, c .before .before .clear2 .kept .0, c .before .before .before .before .before .before .clear .kept .0, c .before .before .before .before .before .before .before .before .before .before .before .pre .0 .size)
 
--- src/lib.rt:47:1
 same-length : tie.Need-same-length
 same-length c = simp length-set (c .before .before .clear2 .kept .0 ∙ c .before .before .before .before .before .before .clear .kept .0)
 
--- src/lib.rt:47:1
 returns : tie.Need-returns
 returns c = keeps (c .before .before .before .before .before .before .before .before .before .before .before .args .ws .now) (c .before .before .before .before .before .before .before .before .before .before .before .args .n) (c .before .before .before .before .before .before .before .before .larger .result) (c .before .before .before .before .before .before .before .before .before .before .before .pre .0) (c .before .before .before .before .before .before .before .before .before .before .before .pre .1) (c .before .before .before .before .before .before .before .before .larger .ensures) (c .before .before .before .before .before .before .clear .last .0) (c .before .before .before .before .before .before .clear .ensures) (c .before .before .clear2 .last .0) (c .before .before .clear2 .ensures)
 

@@ -14,20 +14,17 @@ use Rattle.inference.proofs.put_places.Reads as put-places-reads
 use Rattle.simulation.proofs.put_effects.Reads as put-effects-reads
 use Rattle.summary.proofs.walks.put_walks.Reads as put-walks-reads
 
--- src/lib.rt:50:9
 process-mutations-requires : tie.Need-process-mutations-requires
 process-mutations-requires c κs =
     let b4 = c .before .before .before .before in
     (b4 .pre .1 .indexed, b4 .pre .1 .pending)
 
--- src/lib.rt:51:9
 put-places-requires : tie.Need-put-places-requires
 put-places-requires c κs =
     let b4 = c .before .before .before .before in
     let b9 = b4 .before .before .before .before .before in
     (b9 .pre .1 .limited, (b9 .pre .0, (b9 .pre .1 .describes, real-stands (b9 .pre .1) (b4 .process-mutations .ensures))))
 
--- src/lib.rt:52:9
 put-diagnostics-requires : tie.Need-put-diagnostics-requires
 put-diagnostics-requires c κs =
     let b4 = c .before .before .before .before in
@@ -35,13 +32,11 @@ put-diagnostics-requires c κs =
     let b14 = b9 .before .before .before .before .before in
     (b14 .pre .1 .limited, (real-indexed (b14 .pre .1) (b9 .process-mutations .ensures), ((b14 .pre .0, (b14 .pre .1 .describes, real-stands (b14 .pre .1) (b9 .process-mutations .ensures))), (b14 .pre .1 .fewRenders, (hand-low (b9 .process-mutations .ensures), omega (arith, b4 .put-places .ensures .few))))))
 
--- src/lib.rt:53:40
 index-requires : tie.Need-index-requires
 index-requires c κs =
     let b20 = c .before .before .before .before .before .before .before .before .before .before .before .before .before .before .before .before .before .before .before .before in
     (b20 .pre .1 .fewRelations, (b20 .pre .1 .pending .few, b20 .pre .1 .fewRenders))
 
--- src/lib.rt:53:9
 put-effects-requires : tie.Need-put-effects-requires
 put-effects-requires c κs =
     let b7 = c .before .before .before .before .before .before .before in
@@ -50,25 +45,21 @@ put-effects-requires c κs =
     let b22 = b17 .before .before .before .before .before in
     (b22 .pre .1 .limited, (next-indexed (b22 .pre .1) (b17 .process-mutations .ensures) (b7 .put-diagnostics .ensures .unmoved), ((b22 .pre .0, before-effects (b22 .pre .1) (b17 .process-mutations .ensures) (b7 .put-diagnostics .ensures .unmoved) (c .before .index .ensures)), (omega (arith, c .before .index .ensures, b22 .pre .1 .fewRelations, b22 .pre .1 .pending .few, b22 .pre .1 .fewRenders), omega (arith, b12 .put-places .ensures .few, b7 .put-diagnostics .ensures .few)))))
 
--- src/lib.rt:54:33
 add-put-walks : tie.Need-add-put-walks
 add-put-walks c =
     let b29 = c .before .before .before .before .before .before .before .before .before .before .before .before .before .before .before .before .before .before .before .before .before .before .before .before .before .before .before .before .before in
     omega (arith, b29 .pre .1 .limited .params, b29 .pre .1 .limited .context)
 
--- src/lib.rt:54:33
 add-put-walks-2 : tie.Need-add-put-walks-2
 add-put-walks-2 c =
     let b29 = c .before .before .before .before .before .before .before .before .before .before .before .before .before .before .before .before .before .before .before .before .before .before .before .before .before .before .before .before .before in
     omega (arith, b29 .pre .1 .limited .params, b29 .pre .1 .limited .context)
 
--- src/lib.rt:54:32
 cast-put-walks : tie.Need-cast-put-walks
 cast-put-walks c =
     let b29 = c .before .before .before .before .before .before .before .before .before .before .before .before .before .before .before .before .before .before .before .before .before .before .before .before .before .before .before .before .before in
     omega (arith, b29 .pre .1 .limited .params, b29 .pre .1 .limited .context)
 
--- src/lib.rt:54:5
 put-walks-requires : tie.Need-put-walks-requires
 put-walks-requires c κs =
     let b7 = c .before .before .before .before .before .before .before in
@@ -78,7 +69,6 @@ put-walks-requires c κs =
     let b30 = b25 .before .before .before .before .before in
     ((b30 .pre .1 .pending .few, (omega (arith, b30 .pre .1 .limited .params, b30 .pre .1 .limited .context), omega (arith, b7 .put-effects .ensures .same, b15 .put-diagnostics .ensures .unmoved .aside .same, b25 .process-mutations .ensures .same, b30 .pre .1 .indexed .size))), omega (arith, b20 .put-places .ensures .few, b15 .put-diagnostics .ensures .few, b7 .put-effects .ensures .few))
 
--- src/lib.rt:40:1
 same-length : tie.Need-same-length
 same-length c =
     let b10 = c .before .before .before .before .before .before .before .before .before .before in
@@ -88,11 +78,9 @@ same-length c =
     ∙ b18 .put-diagnostics .ensures .unmoved .aside .same
     ∙ b28 .process-mutations .ensures .same
 
--- src/lib.rt:40:1
 same-length-2 : tie.Need-same-length-2
 same-length-2 c = search needs
 
--- src/lib.rt:40:1
 returns : tie.Need-returns
 returns c =
     let b10 = c .before .before .before .before .before .before .before .before .before .before in

@@ -9,31 +9,24 @@ use Rattle.inference.proofs.put_places.Lts as lts
 use Rattle.summary.proofs.ranges.put_ranges.Reads as put-ranges-reads
 use Rattle.summary.proofs.tracked.put_marked.Reads as put-marked-reads
 
--- src/lib.rt:27:18
 cast-params : tie.Need-cast-params
 cast-params c = omega (arith, c .before .before .before .before .pre .0 .params)
 
--- src/lib.rt:28:19
 cast-context : tie.Need-cast-context
 cast-context c = omega (arith, c .before .before .before .before .before .pre .0 .context)
 
--- src/lib.rt:29:9
 put-ranges-requires : tie.Need-put-ranges-requires
 put-ranges-requires c κs = ((c .before .before .before .before .before .before .pre .0 .n, c .before .before .before .before .before .before .pre .1 .1 .1 .size), omega arith)
 
--- src/lib.rt:30:9
 put-marked-requires : tie.Need-put-marked-requires
 put-marked-requires c κs = ((omega (arith, c .before .before .before .before .before .before .before .before .before .before .pre .0 .params), c .before .before .before .before .before .before .before .before .before .before .pre .1 .1 .1 .size), omega (arith, c .before .before .before .before .before .before .before .before .before .before .pre .0 .params, ranges-room (c .before .before .before .before .before .before .before .before .before .before .pre .0) (c .before .before .before .before .before .before .before .before .before .before .pre .1) (c .before .before .before .put-ranges .ensures)))
 
--- src/lib.rt:31:5
 put-marked-requires-2 : tie.Need-put-marked-requires-2
 put-marked-requires-2 c κs = ((omega (arith, c .before .before .before .before .before .before .before .before .before .before .before .before .before .before .pre .0 .params, c .before .before .before .before .before .before .before .before .before .before .before .before .before .before .pre .0 .context), c .before .before .before .before .before .before .before .before .before .before .before .before .before .before .pre .1 .1 .1 .size), omega (arith, c .before .before .before .before .before .before .before .before .before .before .before .before .before .before .pre .0 .params, c .before .before .before .before .before .before .before .before .before .before .before .before .before .before .pre .0 .context, ranges-room (c .before .before .before .before .before .before .before .before .before .before .before .before .before .before .pre .0) (c .before .before .before .before .before .before .before .before .before .before .before .before .before .before .pre .1) (c .before .before .before .before .before .before .before .put-ranges .ensures), marked-next _ _ _ (c .before .before .before .put-marked .ensures)))
 
--- src/lib.rt:22:1
 same-length : tie.Need-same-length
 same-length c = search needs
 
--- src/lib.rt:22:1
 returns : tie.Need-returns
 returns c = places-put (c .before .before .before .before .before .before .before .before .before .before .before .before .before .before .before .before .before .pre .0) (c .before .before .before .before .before .before .before .before .before .before .before .before .before .before .before .before .before .pre .1) (c .before .before .before .before .before .before .before .before .before .before .put-ranges .ensures) (c .before .before .before .before .before .before .put-marked .ensures) (c .before .before .put-marked2 .ensures)
 

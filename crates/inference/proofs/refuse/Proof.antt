@@ -7,23 +7,18 @@ use Rattle.inference.proofs.refuse.Reads as reads
 use Rattle.inference.proofs.refuse.Lts as lts
 use Rattle.rows.proofs.clear.Reads as clear-reads
 
--- src/lib.rt:39:5
 clear-requires : tie.Need-clear-requires
 clear-requires c κs = search needs
 
--- src/lib.rt:41:5
 clear-requires-2 : tie.Need-clear-requires-2
 clear-requires-2 c κs = search needs
 
--- src/lib.rt:35:1
 same-length : tie.Need-same-length
 same-length c = search needs
 
--- src/lib.rt:35:1
 same-length-2 : tie.Need-same-length-2
 same-length-2 c = search needs
 
--- src/lib.rt:35:1
 returns : tie.Need-returns
 returns c = refused-all (c .before .before .before .before .before .before .clear .ensures) (c .before .before .clear2 .ensures)
 

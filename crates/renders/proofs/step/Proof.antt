@@ -13,84 +13,64 @@ use Rattle.renders.proofs.passes_by.Reads as passes-by-reads
 use Rattle.renders.proofs.push_origins.Reads as push-origins-reads
 use Rattle.renders.proofs.value_of.Reads as value-of-reads
 
--- src/lib.rt:66:13
 sub-t : tie.Need-sub-t
 sub-t c = search needs
 
--- src/lib.rt:67:14
 mul-x : tie.Need-mul-x
 mul-x c = search needs
 
--- src/lib.rt:67:14
 slice-read-x : tie.Need-slice-read-x
 slice-read-x c = search needs
 
--- src/lib.rt:67:13
 cast-x : tie.Need-cast-x
 cast-x c = search needs
 
--- src/lib.rt:68:15
 add-if1 : tie.Need-add-if1
 add-if1 c = search needs
 
--- src/lib.rt:68:12
 mul-if1 : tie.Need-mul-if1
 mul-if1 c = search needs
 
--- src/lib.rt:68:12
 slice-read-if1 : tie.Need-slice-read-if1
 slice-read-if1 c = search needs
 
--- src/lib.rt:69:9
 returns : tie.Need-returns
 returns c = let b4 = c .before .before .before .before in
     step-seen (b4 .args .index) (b4 .args .ws .now) (b4 .args .top) (b4 .args .hand) (b4 .pre .0) (b4 .pre .1) (c .if1 .taken)
 
--- src/lib.rt:71:8
 add-ws : tie.Need-add-ws
 add-ws c = search needs
 
--- src/lib.rt:71:5
 mul-ws : tie.Need-mul-ws
 mul-ws c = search needs
 
--- src/lib.rt:71:5
 slice-write-ws : tie.Need-slice-write-ws
 slice-write-ws c = search needs
 
--- src/lib.rt:72:18
 value-of-requires : tie.Need-value-of-requires
 value-of-requires c κs = (omega arith, simp length-set (omega arith))
 
--- src/lib.rt:72:35
 field-requires : tie.Need-field-requires
 field-requires c κs = (omega arith, simp length-set (omega arith))
 
--- src/lib.rt:72:8
 passes-by-requires : tie.Need-passes-by-requires
 passes-by-requires c κs = search needs
 
--- src/lib.rt:73:9
 same-length : tie.Need-same-length
 same-length c = search needs
 
--- src/lib.rt:73:9
 returns-2 : tie.Need-returns-2
 returns-2 c = step-passed (c .before .before .before .before .before .before .before .before .before .before .args .index) (c .before .before .before .before .before .before .before .before .before .before .args .ws .now) (c .before .before .before .before .before .before .before .before .before .before .args .top) (c .before .before .before .before .before .before .before .before .before .before .args .hand) (c .before .before .before .before .before .before .before .before .before .before .pre .0) (c .before .before .before .before .before .before .before .before .before .before .pre .1) (c .before .before .before .before .before .before .if1 .left) (c .before .before .before .before .value-of .result) (c .before .before .before .before .value-of .ensures) (c .before .before .field .result) (c .before .before .field .ensures) (sym (c .before .passes-by .ensures) ∙ c .if2 .taken)
 
--- src/lib.rt:75:9
 append-function-errors-requires : tie.Need-append-function-errors-requires
 append-function-errors-requires c κs = (omega arith, (simp length-set (omega arith), omega (arith, c .before .before .before .before .before .before .before .before .before .before .before .pre .0 .room)))
 
--- src/lib.rt:76:9
 push-origins-requires : tie.Need-push-origins-requires
 push-origins-requires c κs = (step-room (c .before .before .before .before .before .before .before .before .before .before .before .before .before .before .before .args .index) (c .before .before .before .before .before .before .before .before .before .before .before .before .before .before .before .args .ws .now) (c .before .before .before .before .before .before .before .before .before .before .before .before .before .before .before .args .top) (c .before .before .before .before .before .before .before .before .before .before .before .before .before .before .before .args .hand) (c .before .before .before .before .before .before .before .before .before .before .before .before .before .before .before .pre .0) (c .before .before .before .before .before .before .before .before .before .before .before .before .before .before .before .pre .1) (c .before .before .before .before .before .before .before .before .before .before .before .if1 .left) (c .before .before .before .before .before .before .before .before .before .value-of .result) (c .before .before .before .before .before .before .before .before .before .value-of .ensures) (c .before .before .before .before .before .before .before .field .result) (c .before .before .before .before .before .before .before .field .ensures) (c .before .before .before .append-function-errors .last .0) (c .before .before .before .append-function-errors .result) (c .before .before .before .append-function-errors .ensures), (omega arith, step-used (c .before .before .before .before .before .before .before .before .before .before .before .before .before .before .before .args .index) (c .before .before .before .before .before .before .before .before .before .before .before .before .before .before .before .args .ws .now) (c .before .before .before .before .before .before .before .before .before .before .before .before .before .before .before .args .top) (c .before .before .before .before .before .before .before .before .before .before .before .before .before .before .before .args .hand) (c .before .before .before .before .before .before .before .before .before .before .before .before .before .before .before .pre .0) (c .before .before .before .before .before .before .before .before .before .before .before .before .before .before .before .pre .1) (c .before .before .before .before .before .before .before .before .before .before .before .if1 .left) (c .before .before .before .before .before .before .before .before .before .value-of .result) (c .before .before .before .before .before .before .before .before .before .value-of .ensures) (c .before .before .before .before .before .before .before .field .result) (c .before .before .before .before .before .before .before .field .ensures) (c .before .before .before .append-function-errors .last .0) (c .before .before .before .append-function-errors .result) (c .before .before .before .append-function-errors .ensures) (sym (c .before .before .before .before .before .before .passes-by .ensures) ∙ c .before .before .before .before .before .if2 .left)))
 
--- src/lib.rt:61:1
 same-length-2 : tie.Need-same-length-2
 same-length-2 c = c .before .before .push-origins .kept .0 ∙ c .before .before .before .before .before .before .append-function-errors .kept .0 ∙ simp length-set
 
--- src/lib.rt:61:1
 returns-3 : tie.Need-returns-3
 returns-3 c = step-rendered (c .before .before .before .before .before .before .before .before .before .before .before .before .before .before .before .before .before .before .args .index) (c .before .before .before .before .before .before .before .before .before .before .before .before .before .before .before .before .before .before .args .ws .now) (c .before .before .before .before .before .before .before .before .before .before .before .before .before .before .before .before .before .before .args .top) (c .before .before .before .before .before .before .before .before .before .before .before .before .before .before .before .before .before .before .args .hand) (c .before .before .before .before .before .before .before .before .before .before .before .before .before .before .before .before .before .before .pre .0) (c .before .before .before .before .before .before .before .before .before .before .before .before .before .before .before .before .before .before .pre .1) (c .before .before .before .before .before .before .before .before .before .before .before .before .before .before .if1 .left) (c .before .before .before .before .before .before .before .before .before .before .before .before .value-of .result) (c .before .before .before .before .before .before .before .before .before .before .before .before .value-of .ensures) (c .before .before .before .before .before .before .before .before .before .before .field .result) (c .before .before .before .before .before .before .before .before .before .before .field .ensures) (c .before .before .before .before .before .before .append-function-errors .last .0) (c .before .before .before .before .before .before .append-function-errors .result) (c .before .before .before .before .before .before .append-function-errors .ensures) (sym (c .before .before .before .before .before .before .before .before .before .passes-by .ensures) ∙ c .before .before .before .before .before .before .before .before .if2 .left) (c .before .before .push-origins .last .0) (c .before .before .push-origins .result) (c .before .before .push-origins .ensures)
 

@@ -14,32 +14,27 @@ use Rattle.summary.proofs.tracked.mark_tracked.Reads as mark-tracked-reads
 use Rattle.writing.proofs.patch.Reads as patch-reads
 use Rattle.writing.proofs.put.Reads as put-reads
 
--- src/lib.rt:94:18
 cast-params : tie.Need-cast-params
 cast-params c =
     let b4 = c .before .before .before .before in
     omega (arith, b4 .pre .0 .params)
 
--- src/lib.rt:95:19
 cast-context : tie.Need-cast-context
 cast-context c =
     let b5 = c .before .before .before .before .before in
     omega (arith, b5 .pre .0 .context)
 
--- src/lib.rt:97:9
 put-requires : tie.Need-put-requires
 put-requires c κs =
     let b7 = c .before .before .before .before .before .before .before in
     omega (arith, b7 .pre .1 .1 .1)
 
--- src/lib.rt:98:9
 put-copied-requires : tie.Need-put-copied-requires
 put-copied-requires c κs =
     let b3 = c .before .before .before in
     let b11 = b3 .before .before .before .before .before .before .before .before in
     (b11 .pre .0, omega (arith, b11 .pre .1 .1 .1, b3 .put .ensures .next))
 
--- src/lib.rt:108:9
 collect-effects-requires : tie.Need-collect-effects-requires
 collect-effects-requires c κs =
     let b4 = c .before .before .before .before in
@@ -47,7 +42,6 @@ collect-effects-requires c κs =
     let b16 = b8 .before .before .before .before .before .before .before .before in
     ((omega (arith, b16 .pre .0 .params, b16 .pre .0 .context), b16 .pre .1 .0 .size), omega (arith, b16 .pre .1 .1 .1, b16 .pre .0 .context, b8 .put .ensures .next, b4 .put-copied .ensures .few))
 
--- src/lib.rt:109:9
 collect-effects-requires-2 : tie.Need-collect-effects-requires-2
 collect-effects-requires-2 c κs =
     let b4 = c .before .before .before .before in
@@ -56,7 +50,6 @@ collect-effects-requires-2 c κs =
     let b21 = b13 .before .before .before .before .before .before .before .before in
     ((omega (arith, b21 .pre .0 .params), b21 .pre .1 .0 .size), omega (arith, b21 .pre .1 .1 .1, b21 .pre .0 .params, after-context _ _ _ (b21 .args .index) (b21 .pre .0) (b13 .put .ensures) (b9 .put-copied .ensures) (b4 .collect-effects .ensures)))
 
--- src/lib.rt:110:9
 put-create-returns-requires : tie.Need-put-create-returns-requires
 put-create-returns-requires c κs =
     let b3 = c .before .before .before in
@@ -66,31 +59,26 @@ put-create-returns-requires c κs =
     let b25 = b17 .before .before .before .before .before .before .before .before in
     omega (arith, b25 .pre .1 .1 .1, after-params _ _ _ (b25 .args .index) (b25 .pre .0) (b17 .put .ensures) (b13 .put-copied .ensures) (b8 .collect-effects .ensures) (b3 .collect-effects2 .ensures))
 
--- src/lib.rt:111:22
 add-mark-tracked : tie.Need-add-mark-tracked
 add-mark-tracked c =
     let b29 = c .before .before .before .before .before .before .before .before .before .before .before .before .before .before .before .before .before .before .before .before .before .before .before .before .before .before .before .before .before in
     omega (arith, b29 .pre .0 .params, b29 .pre .0 .context)
 
--- src/lib.rt:111:5
 mark-tracked-requires : tie.Need-mark-tracked-requires
 mark-tracked-requires c κs =
     let b29 = c .before .before .before .before .before .before .before .before .before .before .before .before .before .before .before .before .before .before .before .before .before .before .before .before .before .before .before .before .before in
     (omega (arith, b29 .pre .0 .params, b29 .pre .0 .context), b29 .pre .1 .0 .size)
 
--- src/lib.rt:114:9
 add-simulate : tie.Need-add-simulate
 add-simulate c =
     let b33 = c .before .before .before .before .before .before .before .before .before .before .before .before .before .before .before .before .before .before .before .before .before .before .before .before .before .before .before .before .before .before .before .before .before in
     omega (arith, b33 .pre .0 .params, b33 .pre .0 .context)
 
--- src/lib.rt:114:9
 add-simulate-2 : tie.Need-add-simulate-2
 add-simulate-2 c =
     let b33 = c .before .before .before .before .before .before .before .before .before .before .before .before .before .before .before .before .before .before .before .before .before .before .before .before .before .before .before .before .before .before .before .before .before in
     omega (arith, b33 .pre .0 .params, b33 .pre .0 .context)
 
--- src/lib.rt:112:9
 simulate-requires : tie.Need-simulate-requires
 simulate-requires c κs =
     let b4 = c .before .before .before .before in
@@ -102,7 +90,6 @@ simulate-requires c κs =
     let b34 = b26 .before .before .before .before .before .before .before .before in
     (indexed-after (b34 .pre .1 .0) (b4 .mark-tracked .ensures), (some-marked _ _ _ _ (b34 .pre .0) (b26 .put .ensures) (b22 .put-copied .ensures) (b17 .collect-effects .ensures) (b12 .collect-effects2 .ensures) (b34 .pre .1 .1 .0) (b8 .put-create-returns .ensures) (b4 .mark-tracked .ensures), (omega (arith, b34 .pre .0 .params, b34 .pre .0 .context), (b34 .pre .1 .1 .1 .0, omega (arith, b34 .pre .1 .1 .1, after-returns _ _ _ _ (b34 .pre .0) (b26 .put .ensures) (b22 .put-copied .ensures) (b17 .collect-effects .ensures) (b12 .collect-effects2 .ensures) (b34 .pre .1 .1 .0) (b8 .put-create-returns .ensures))))))
 
--- src/lib.rt:120:25
 sub-patch : tie.Need-sub-patch
 sub-patch c =
     let b5 = c .before .before .before .before .before in
@@ -115,7 +102,6 @@ sub-patch c =
     let b40 = b32 .before .before .before .before .before .before .before .before in
     rises _ _ _ _ (b40 .pre .0) (b32 .put .ensures) (b28 .put-copied .ensures) (b23 .collect-effects .ensures) (b18 .collect-effects2 .ensures) (b40 .pre .1 .1 .0) (b14 .put-create-returns .ensures) (b10 .mark-tracked .ensures) (b5 .simulate .ensures)
 
--- src/lib.rt:120:23
 cast-patch : tie.Need-cast-patch
 cast-patch c =
     let b5 = c .before .before .before .before .before in
@@ -128,18 +114,15 @@ cast-patch c =
     let b40 = b32 .before .before .before .before .before .before .before .before in
     omega (arith, count-fits _ _ _ _ (b40 .pre .0) (b32 .put .ensures) (b28 .put-copied .ensures) (b23 .collect-effects .ensures) (b18 .collect-effects2 .ensures) (b40 .pre .1 .1 .0) (b14 .put-create-returns .ensures) (b10 .mark-tracked .ensures) (b5 .simulate .ensures))
 
--- src/lib.rt:120:5
 patch-requires : tie.Need-patch-requires
 patch-requires c κs = search needs
 
--- src/lib.rt:80:1
 same-length : tie.Need-same-length
 same-length c =
     let b8 = c .before .before .before .before .before .before .before .before in
     let b13 = b8 .before .before .before .before .before in
     b8 .simulate .kept .0 ∙ b13 .mark-tracked .kept .0
 
--- src/lib.rt:80:1
 same-length-2 : tie.Need-same-length-2
 same-length-2 c =
     let b8 = c .before .before .before .before .before .before .before .before in
@@ -156,7 +139,6 @@ same-length-2 c =
     ∙ b31 .put-copied .kept .1 .1 .0
     ∙ b35 .put .kept .0
 
--- src/lib.rt:80:1
 returns : tie.Need-returns
 returns c =
     let b8 = c .before .before .before .before .before .before .before .before in

@@ -8,39 +8,30 @@ use Rattle.steps.proofs.walk_mutations.Lts as lts
 use Rattle.aliasing.proofs.process_mutations.Reads as process-mutations-reads
 use Rattle.steps.proofs.have_orders.Reads as have-orders-reads
 
--- src/lib.rt:196:8
 slice-read-if1 : tie.Need-slice-read-if1
 slice-read-if1 c = search needs
 
--- src/lib.rt:196:19
 slice-read-if1-2 : tie.Need-slice-read-if1-2
 slice-read-if1-2 c = search needs
 
--- src/lib.rt:197:9
 returns : tie.Need-returns
 returns c = not-walked (c .before .before .before .before .pre .0)
 
--- src/lib.rt:199:8
 have-orders-requires : tie.Need-have-orders-requires
 have-orders-requires c κs = search needs
 
--- src/lib.rt:200:9
 process-mutations-requires : tie.Need-process-mutations-requires
 process-mutations-requires c κs = (c .before .before .before .before .before .before .before .before .pre .0, record { few = c .before .before .before .before .before .before .before .before .pre .1; covered = kept-covered _ (c .before .before .before .before .before .before .before .before .pre .0) (c .before .before .before .before .if1 .left); orders = orders-every _ _ (c .before .before .have-orders .ensures (c .before .if2 .taken)) })
 
--- src/lib.rt:200:9
 same-length : tie.Need-same-length
 same-length c = search needs
 
--- src/lib.rt:200:9
 returns-2 : tie.Need-returns-2
 returns-2 c = walked (c .before .before .before .before .before .before .before .before .before .before .before .pre .0) (c .before .before .process-mutations .ensures)
 
--- src/lib.rt:191:1
 same-length-2 : tie.Need-same-length-2
 same-length-2 c = search needs
 
--- src/lib.rt:191:1
 returns-3 : tie.Need-returns-3
 returns-3 c = not-walked (c .before .before .before .before .before .before .before .pre .0)
 

@@ -6,23 +6,18 @@ use Rattle.writing.proofs.patch.Tie as tie
 use Rattle.writing.proofs.patch.Reads as reads
 use Rattle.writing.proofs.patch.Lts as lts
 
--- src/lib.rt:24:9
 mul-answer : tie.Need-mul-answer
 mul-answer c = search needs
 
--- src/lib.rt:24:9
 slice-write-answer : tie.Need-slice-write-answer
 slice-write-answer c = search needs
 
--- src/lib.rt:20:1
 same-length : tie.Need-same-length
 same-length c = search needs
 
--- src/lib.rt:20:1
 returns : tie.Need-returns
 returns c = search needs
 
--- src/lib.rt:20:1
 returns-2 : tie.Need-returns-2
 returns-2 c = sym (set-out _ _ _ (c .if1 .left))
 

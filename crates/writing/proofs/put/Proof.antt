@@ -10,25 +10,20 @@ use Rattle.writing.proofs.put.Tie as tie
 use Rattle.writing.proofs.put.Reads as reads
 use Rattle.writing.proofs.put.Lts as lts
 
--- src/lib.rt:14:9
 mul-answer : tie.Need-mul-answer
 mul-answer c = search needs
 
--- src/lib.rt:14:9
 slice-write-answer : tie.Need-slice-write-answer
 slice-write-answer c = search needs
 
--- src/lib.rt:16:5
 add-result : tie.Need-add-result
 add-result c = search needs
 
--- src/lib.rt:9:1
 same-length : tie.Need-same-length
 same-length c =
     let a : List ℕ = c .before .args .answer .now in
     ⊎-elim (λ w. ap (λ (l : List ℕ). length l) (w .1) ∙ length-set a (c .before .args .at) (c .before .args .word)) (λ w. ap (λ (l : List ℕ). length l) (w .1)) (c .if1 .came)
 
--- src/lib.rt:9:1
 returns : tie.Need-returns
 returns c = record {
   words = ⊎-elim (λ w. w .1) (λ w. w .1 ∙ sym (set-out _ _ _ (w .0 .left))) (c .if1 .came);

@@ -8,23 +8,18 @@ use Rattle.copies.proofs.effect_lists.copy_instructions.Reads as copy-i
 use Rattle.copies.proofs.past.past_phis.Reads as past-phis-reads
 use Rattle.copies.proofs.past.past_terminal.Reads as past-terminal-reads
 
--- src/effect_lists.rt:177:9
 past-phis-requires : tie.Need-past-phis-requires
 past-phis-requires c κs = search needs
 
--- src/effect_lists.rt:178:9
 copy-instructions-requires : tie.Need-copy-instructions-requires
 copy-instructions-requires c κs = search needs
 
--- src/effect_lists.rt:179:9
 past-terminal-requires : tie.Need-past-terminal-requires
 past-terminal-requires c κs = search needs
 
--- src/effect_lists.rt:165:1
 same-length : tie.Need-same-length
 same-length c = search needs
 
--- src/effect_lists.rt:165:1
 returns : tie.Need-returns
 returns c =
     let b3 = c .before .before .before in

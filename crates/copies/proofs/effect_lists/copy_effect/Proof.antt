@@ -7,51 +7,39 @@ use Rattle.copies.proofs.effect_lists.copy_effect.Lts as lts
 use Rattle.copies.proofs.effect_lists.copy_words.Reads as copy-words-reads
 use Rattle.writing.proofs.put.Reads as put-reads
 
--- src/effect_lists.rt:49:16
 enum-told : tie.Need-enum-told
 enum-told c = search needs
 
--- src/effect_lists.rt:49:16
 mul-if1 : tie.Need-mul-if1
 mul-if1 c = search needs
 
--- src/effect_lists.rt:49:16
 shared-slice-read-if1 : tie.Need-shared-slice-read-if1
 shared-slice-read-if1 c = search needs
 
--- src/effect_lists.rt:50:17
 returns : tie.Need-returns
 returns c = rw (c .before .before .enum-told .given .1) (λ n m. render-copies n m _ _ _ _ (c .if1 .taken))
 
--- src/effect_lists.rt:52:35
 add-put : tie.Need-add-put
 add-put c = search needs
 
--- src/effect_lists.rt:52:29
 mul-put : tie.Need-mul-put
 mul-put c = search needs
 
--- src/effect_lists.rt:52:29
 shared-slice-read-put : tie.Need-shared-slice-read-put
 shared-slice-read-put c = search needs
 
--- src/effect_lists.rt:52:13
 put-requires : tie.Need-put-requires
 put-requires c κs = search needs
 
--- src/effect_lists.rt:54:53
 enum-told-2 : tie.Need-enum-told-2
 enum-told-2 c = search needs
 
--- src/effect_lists.rt:54:29
 copy-words-requires : tie.Need-copy-words-requires
 copy-words-requires c κs = search needs
 
--- src/effect_lists.rt:43:1
 same-length : tie.Need-same-length
 same-length c = search needs
 
--- src/effect_lists.rt:43:1
 returns-2 : tie.Need-returns-2
 returns-2 c =
     let b5 = c .before .before .before .before .before in
@@ -59,11 +47,9 @@ returns-2 c =
     let b11 = b7 .before .before .before .before in
     rw (b7 .enum-told .given .1) (λ n m. diagnostic-copies n m _ _ (b11 .pre .1 .0) (b5 .if1 .left) (c .before .before .put .ensures))
 
--- src/effect_lists.rt:43:1
 same-length-2 : tie.Need-same-length-2
 same-length-2 c = search needs
 
--- src/effect_lists.rt:43:1
 returns-3 : tie.Need-returns-3
 returns-3 c =
     let b4 = c .before .before .before .before in

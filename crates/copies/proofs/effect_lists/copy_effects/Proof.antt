@@ -18,48 +18,38 @@ Inv-loop sheet count n m section answer₀ at left₀ next₀ to₀ answer left 
 abbrev μ-loop : tie.MeasureT-loop
 μ-loop sheet count n m section answer₀ at left₀ next₀ to₀ answer left next to = left
 
--- src/effect_lists.rt:200:5
 loop-holds : tie.Need-loop-holds Inv-loop μ-loop
 loop-holds c = (numbers-start _ _ _ _ _ _, omega arith)
 
--- src/effect_lists.rt:201:15
 block-number-requires : tie.Need-block-number-requires Inv-loop μ-loop
 block-number-requires c κs = omega arith
 
--- src/effect_lists.rt:202:31
 enum-known-d : tie.Need-enum-known-d Inv-loop μ-loop
 enum-known-d c = omega arith
 
--- src/effect_lists.rt:203:21
 copy-block-requires : tie.Need-copy-block-requires Inv-loop μ-loop
 copy-block-requires c κs = omega arith
 
--- src/effect_lists.rt:208:17
 enum-told : tie.Need-enum-told Inv-loop μ-loop
 enum-told c = omega arith
 
--- src/effect_lists.rt:208:17
 same-length : tie.Need-same-length Inv-loop μ-loop
 same-length c =
     let b4 = c .before .before .before .before in
     b4 .loop .inv .0 .same
 
--- src/effect_lists.rt:208:17
 returns : tie.Need-returns Inv-loop μ-loop
 returns c =
     let b3 = c .before .before .before in
     let b4 = b3 .before in
     numbers-refused _ _ (b4 .loop .inv .0) _ 2147483648 (b3 .loop-test .taken) (says blockSays (c .enum-told .given .1) (c .before .before .block-number .ensures)) (omega arith)
 
--- src/effect_lists.rt:211:9
 sub-left : tie.Need-sub-left Inv-loop μ-loop
 sub-left c = omega arith
 
--- src/effect_lists.rt:200:5
 loop-less : tie.Need-loop-less Inv-loop μ-loop
 loop-less c = omega arith
 
--- src/effect_lists.rt:200:5
 loop-again : tie.Need-loop-again Inv-loop μ-loop
 loop-again c =
     let b3 = c .before .before .before in
@@ -69,11 +59,9 @@ loop-again c =
     let b10 = b9 .before in
     (numbers-turn _ _ (b10 .loop .inv .0) (b9 .loop-test .taken) (says blockSays (b6 .d .given .1) (b8 .block-number .ensures)) (b3 .copy-block .ensures) (b3 .copy-block .kept .1 .1 .1 .1 .1 .0), omega (arith, b3 .copy-block .ensures 0 .few))
 
--- src/effect_lists.rt:184:1
 same-length-2 : tie.Need-same-length-2 Inv-loop μ-loop
 same-length-2 c = c .before .loop .inv .0 .same
 
--- src/effect_lists.rt:184:1
 returns-2 : tie.Need-returns-2 Inv-loop μ-loop
 returns-2 c = numbers-end _ _ (c .before .loop .inv .0) 2147483648 (c .loop-test .left) (omega arith)
 

@@ -10,34 +10,27 @@ use Rattle.copies.proofs.effect_lists.copy_instruction.Lts as lts
 use Rattle.copies.proofs.effect_lists.copy_list.Reads as copy-list-reads
 use Rattle.hir.proofs.Cursor.order.Reads as order-reads
 
--- src/effect_lists.rt:90:11
 order-requires : tie.Need-order-requires
 order-requires c κs = search needs
 
--- src/effect_lists.rt:91:27
 enum-known-d : tie.Need-enum-known-d
 enum-known-d c = search needs
 
--- src/effect_lists.rt:91:33
 copy-list-requires : tie.Need-copy-list-requires
 copy-list-requires c κs = search needs
 
--- src/effect_lists.rt:92:34
 enum-told : tie.Need-enum-told
 enum-told c = search needs
 
--- src/effect_lists.rt:78:1
 same-length : tie.Need-same-length
 same-length c = search needs
 
--- src/effect_lists.rt:78:1
 returns : tie.Need-returns
 returns c =
     let b5 = c .before .before .before .before .before in
     let b7 = b5 .before .before in
     copies-instruction _ _ _ _ _ 8192 (says orderSays (b5 .d .given .1) (b7 .order .ensures)) (c .before .before .copy-list .ensures)
 
--- src/effect_lists.rt:78:1
 returns-2 : tie.Need-returns-2
 returns-2 c = copies-refused _ _ 8192 _ _ _ (instruction-refused _ _ _ _ (says orderSays (c .enum-told .given .1) (c .before .before .order .ensures)))
 

@@ -21,91 +21,73 @@ Inv-loop sheet n m section answer₀ at left₀ next₀ to₀ answer left next t
 abbrev μ-loop : tie.MeasureT-loop
 μ-loop sheet n m section answer₀ at left₀ next₀ to₀ answer left next to = left
 
--- src/effect_lists.rt:92:11
 count-requires : tie.Need-count-requires Inv-loop μ-loop
 count-requires c κs = omega arith
 
--- src/effect_lists.rt:93:23
 enum-known-k : tie.Need-enum-known-k Inv-loop μ-loop
 enum-known-k c = omega arith
 
--- src/effect_lists.rt:98:13
 enum-told : tie.Need-enum-told Inv-loop μ-loop
 enum-told c = omega arith
 
--- src/effect_lists.rt:98:13
 returns : tie.Need-returns Inv-loop μ-loop
 unfolding effects
 returns c = copies-refused _ _ 8192 _ _ _ (counted-none mostCount (effect _ _) _ _ (says wordSays (c .enum-told .given .1) (c .before .before .count .ensures)))
 
--- src/effect_lists.rt:101:8
 sub-if1 : tie.Need-sub-if1 Inv-loop μ-loop
 sub-if1 c =
     let b3 = c .before .before .before in
     omega (arith, count-takes mostCount _ _ _ _ (says wordSays (c .before .k .given .1) (b3 .count .ensures)) .1)
 
--- src/effect_lists.rt:101:30
 mul-if1 : tie.Need-mul-if1 Inv-loop μ-loop
 mul-if1 c =
     let b3 = c .before .before .before in
     omega (arith, count-at-most 1024 _ _ _ _ (says wordSays (c .before .k .given .1) (b3 .count .ensures)))
 
--- src/effect_lists.rt:101:29
 cast-if1 : tie.Need-cast-if1 Inv-loop μ-loop
 cast-if1 c = omega arith
 
--- src/effect_lists.rt:102:9
 returns-2 : tie.Need-returns-2 Inv-loop μ-loop
 returns-2 c =
     let b4 = c .before .before .before .before in
     listing-short _ _ _ _ _ (says wordSays (c .before .before .k .given .1) (b4 .count .ensures)) _ _ _ (c .if1 .taken)
 
--- src/effect_lists.rt:105:5
 loop-holds : tie.Need-loop-holds Inv-loop μ-loop
 loop-holds c =
     let b4 = c .before .before .before .before in
     let e = says wordSays (c .before .before .k .given .1) (b4 .count .ensures) in listing-start _ _ _ _ _ _ _ _ (count-at-most 1024 _ _ _ _ e) (omega (arith, c .if1 .left, count-takes mostCount _ _ _ _ e .1))
 
--- src/effect_lists.rt:106:18
 mul-if2 : tie.Need-mul-if2 Inv-loop μ-loop
 mul-if2 c = omega (arith, c .before .loop .inv .inside, c .loop-test .taken)
 
--- src/effect_lists.rt:106:18
 shared-slice-read-if2 : tie.Need-shared-slice-read-if2 Inv-loop μ-loop
 shared-slice-read-if2 c = omega (arith, c .before .before .loop .inv .inside, c .before .loop-test .taken)
 
--- src/effect_lists.rt:107:17
 copy-effect-requires : tie.Need-copy-effect-requires Inv-loop μ-loop
 copy-effect-requires c κs =
     let b3 = c .before .before .before in
     let b4 = b3 .before in
     omega (arith, b4 .loop .inv .few, b3 .loop-test .taken)
 
--- src/effect_lists.rt:109:9
 add-next : tie.Need-add-next Inv-loop μ-loop
 add-next c =
     let b3 = c .before .before .before in
     omega (arith, b3 .loop .inv .inside, c .before .before .loop-test .taken)
 
--- src/effect_lists.rt:110:9
 sub-left : tie.Need-sub-left Inv-loop μ-loop
 sub-left c = omega arith
 
--- src/effect_lists.rt:105:5
 loop-less : tie.Need-loop-less Inv-loop μ-loop
 loop-less c = omega arith
 
--- src/effect_lists.rt:105:5
 loop-again : tie.Need-loop-again Inv-loop μ-loop
 loop-again c =
     let b3 = c .before .before .before in
     ⊎-elim (λ w. listing-as (listing-turn (b3 .loop .inv) (c .before .before .loop-test .taken) (w .2 .ensures _ _) (w .2 .kept .1 .1 .1 .0)) (w .5) (w .6)) (λ w. listing-as (listing-low (b3 .loop .inv) (c .before .before .loop-test .taken) (w .0 .left)) (w .1) (w .2)) (c .if2 .came)
 
--- src/effect_lists.rt:78:1
 same-length : tie.Need-same-length Inv-loop μ-loop
 same-length c = c .before .loop .inv .loop .same
 
--- src/effect_lists.rt:78:1
 returns-3 : tie.Need-returns-3 Inv-loop μ-loop
 returns-3 c =
     let b4 = c .before .before .before .before in

@@ -13,35 +13,27 @@ Inv-loop sheet next answer₀ at to₀ i₀ answer to i = Verbatim sheet next 8 
 abbrev μ-loop : tie.MeasureT-loop
 μ-loop sheet next answer₀ at to₀ i₀ answer to i = 8 - i
 
--- src/effect_lists.rt:35:5
 loop-holds : tie.Need-loop-holds Inv-loop μ-loop
 loop-holds c = verbatim-start _ _ 8 _ _
 
--- src/effect_lists.rt:36:36
 add-put : tie.Need-add-put Inv-loop μ-loop
 add-put c = omega arith
 
--- src/effect_lists.rt:36:30
 mul-put : tie.Need-mul-put Inv-loop μ-loop
 mul-put c = omega arith
 
--- src/effect_lists.rt:36:30
 shared-slice-read-put : tie.Need-shared-slice-read-put Inv-loop μ-loop
 shared-slice-read-put c = omega arith
 
--- src/effect_lists.rt:36:9
 put-requires : tie.Need-put-requires Inv-loop μ-loop
 put-requires c κs = omega arith
 
--- src/effect_lists.rt:37:9
 add-i : tie.Need-add-i Inv-loop μ-loop
 add-i c = omega arith
 
--- src/effect_lists.rt:35:5
 loop-less : tie.Need-loop-less Inv-loop μ-loop
 loop-less c = omega arith
 
--- src/effect_lists.rt:35:5
 loop-again : tie.Need-loop-again Inv-loop μ-loop
 loop-again c =
     let b5 = c .before .before .before .before .before in
@@ -49,11 +41,9 @@ loop-again c =
     let b9 = b6 .before .before .before in
     verbatim-turn (b6 .loop .inv) (b5 .loop-test .taken) (b9 .pre .0) (c .before .before .put .ensures) (c .before .before .put .kept .0)
 
--- src/effect_lists.rt:29:1
 same-length : tie.Need-same-length Inv-loop μ-loop
 same-length c = c .before .loop .inv .same
 
--- src/effect_lists.rt:29:1
 returns : tie.Need-returns Inv-loop μ-loop
 returns c = verbatim-end (c .before .loop .inv) (c .loop-test .left)
 

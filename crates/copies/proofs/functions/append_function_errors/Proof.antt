@@ -12,62 +12,49 @@ use Rattle.copies.proofs.functions.append_function_errors.Lts as lts
 use Rattle.copies.proofs.functions.copy_diagnostics.Reads as copy-diagnostics-reads
 use Rattle.hir.proofs.Cursor.count.Reads as count-reads
 
--- src/functions.rt:56:9
 returns : tie.Need-returns
 returns c = appended-none _ _ _ _ (c .if1 .taken) _ _
 
--- src/functions.rt:58:13
 cast-k : tie.Need-cast-k
 cast-k c = search needs
 
--- src/functions.rt:59:20
 add-start : tie.Need-add-start
 add-start c = search needs
 
--- src/functions.rt:59:17
 mul-start : tie.Need-mul-start
 mul-start c = search needs
 
--- src/functions.rt:59:17
 shared-slice-read-start : tie.Need-shared-slice-read-start
 shared-slice-read-start c = search needs
 
--- src/functions.rt:59:17
 cast-start : tie.Need-cast-start
 cast-start c =
     let b7 = c .before .before .before .before .before .before .before in
     omega (arith, c .shared-slice-known3 .given (15619 + b7 .args .function .0))
 
--- src/functions.rt:61:11
 count-requires : tie.Need-count-requires
 count-requires c κs = search needs
 
--- src/functions.rt:62:23
 enum-known-diagnostics : tie.Need-enum-known-diagnostics
 enum-known-diagnostics c = search needs
 
--- src/functions.rt:63:17
 copy-diagnostics-requires : tie.Need-copy-diagnostics-requires
 copy-diagnostics-requires c κs =
     let b4 = c .before .before .before .before in
     (omega (arith, count-at-most 64 _ _ _ _ (says wordSays (c .before .before .diagnostics .given .1) (b4 .count .ensures))), omega arith)
 
--- src/functions.rt:66:33
 enum-told : tie.Need-enum-told
 enum-told c = search needs
 
--- src/functions.rt:43:1
 same-length : tie.Need-same-length
 same-length c = search needs
 
--- src/functions.rt:43:1
 returns-2 : tie.Need-returns-2
 returns-2 c =
     let b5 = c .before .before .before .before .before in
     let b7 = b5 .before .before in
     appended _ _ _ _ (omega arith) (says wordSays (b5 .diagnostics .given .1) (b7 .count .ensures)) (c .before .before .copy-diagnostics .ensures)
 
--- src/functions.rt:43:1
 returns-3 : tie.Need-returns-3
 returns-3 c = appended-refused _ _ _ _ (omega arith) _ _ (says wordSays (c .enum-told .given .1) (c .before .before .count .ensures))
 

@@ -18,33 +18,26 @@ Inv-loop sheet count answer₀ at left₀ next₀ to₀ answer left next to = Lo
 abbrev μ-loop : tie.MeasureT-loop
 μ-loop sheet count answer₀ at left₀ next₀ to₀ answer left next to = left
 
--- src/functions.rt:27:5
 loop-holds : tie.Need-loop-holds Inv-loop μ-loop
 loop-holds c = (loop-start diagnostic diagnosticWords _ _ _ _, omega arith)
 
--- src/functions.rt:28:15
 at-most-requires : tie.Need-at-most-requires Inv-loop μ-loop
 at-most-requires c κs = omega arith
 
--- src/functions.rt:29:27
 enum-known-w : tie.Need-enum-known-w Inv-loop μ-loop
 enum-known-w c = omega arith
 
--- src/functions.rt:30:17
 put-requires : tie.Need-put-requires Inv-loop μ-loop
 put-requires c κs = omega arith
 
--- src/functions.rt:34:17
 enum-told : tie.Need-enum-told Inv-loop μ-loop
 enum-told c = omega arith
 
--- src/functions.rt:34:17
 same-length : tie.Need-same-length Inv-loop μ-loop
 same-length c =
     let b4 = c .before .before .before .before in
     b4 .loop .inv .0 .same
 
--- src/functions.rt:34:17
 returns : tie.Need-returns Inv-loop μ-loop
 unfolding diagnostic
 returns c =
@@ -52,15 +45,12 @@ returns c =
     let b4 = b3 .before in
     loop-refused diagnostic diagnosticWords (b4 .loop .inv .0) _ 64 (b3 .loop-test .taken) (says wordSays (c .enum-told .given .1) (c .before .before .at-most .ensures)) (omega arith)
 
--- src/functions.rt:37:9
 sub-left : tie.Need-sub-left Inv-loop μ-loop
 sub-left c = omega arith
 
--- src/functions.rt:27:5
 loop-less : tie.Need-loop-less Inv-loop μ-loop
 loop-less c = omega arith
 
--- src/functions.rt:27:5
 loop-again : tie.Need-loop-again Inv-loop μ-loop
 unfolding diagnostic
 loop-again c =
@@ -70,11 +60,9 @@ loop-again c =
     let b9 = b8 .before in
     (loop-turn diagnostic diagnosticWords (b9 .loop .inv .0) (b8 .loop-test .taken) (copies-one _ diagnosticWords 1 (says wordSays (b5 .w .given .1) (b7 .at-most .ensures)) (c .before .before .put .ensures) (omega arith)) (c .before .before .put .kept .0), omega (arith, c .before .before .put .ensures .next))
 
--- src/functions.rt:20:1
 same-length-2 : tie.Need-same-length-2 Inv-loop μ-loop
 same-length-2 c = c .before .loop .inv .0 .same
 
--- src/functions.rt:20:1
 returns-2 : tie.Need-returns-2 Inv-loop μ-loop
 returns-2 c = loop-end diagnostic diagnosticWords (c .before .loop .inv .0) 64 (c .loop-test .left) (omega arith)
 

@@ -13,42 +13,33 @@ Inv-loop sheet ws count hand answer₀ at to₀ i₀ answer to i = Handing sheet
 abbrev μ-loop : tie.MeasureT-loop
 μ-loop sheet ws count hand answer₀ at to₀ i₀ answer to i = hand - i
 
--- src/functions.rt:85:5
 loop-holds : tie.Need-loop-holds Inv-loop μ-loop
 loop-holds c = handing-start _ _ _ _ _ _ (omega arith)
 
--- src/functions.rt:86:35
 mul-t11 : tie.Need-mul-t11 Inv-loop μ-loop
 mul-t11 c = omega arith
 
--- src/functions.rt:86:35
 shared-slice-read-t13 : tie.Need-shared-slice-read-t13 Inv-loop μ-loop
 shared-slice-read-t13 c = omega arith
 
--- src/functions.rt:87:9
 append-function-errors-requires : tie.Need-append-function-errors-requires Inv-loop μ-loop
 append-function-errors-requires c κs = (omega arith, omega arith)
 
--- src/functions.rt:88:9
 add-i : tie.Need-add-i Inv-loop μ-loop
 add-i c = omega arith
 
--- src/functions.rt:85:5
 loop-less : tie.Need-loop-less Inv-loop μ-loop
 loop-less c = omega arith
 
--- src/functions.rt:85:5
 loop-again : tie.Need-loop-again Inv-loop μ-loop
 loop-again c =
     let b5 = c .before .before .before .before .before in
     let b6 = b5 .before in
     handing-turn (b6 .loop .inv) (b5 .loop-test .taken) (omega arith) (c .before .before .append-function-errors .ensures) (c .before .before .append-function-errors .kept .1 .1 .1 .1 .0)
 
--- src/functions.rt:71:1
 same-length : tie.Need-same-length Inv-loop μ-loop
 same-length c = c .before .loop .inv .same
 
--- src/functions.rt:71:1
 returns : tie.Need-returns Inv-loop μ-loop
 returns c = handing-end (c .before .loop .inv) (c .loop-test .left)
 

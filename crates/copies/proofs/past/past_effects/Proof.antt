@@ -11,39 +11,31 @@ use Rattle.copies.proofs.past.past_effects.Lts as lts
 use Rattle.copies.proofs.past.past.Reads as past-reads
 use Rattle.hir.proofs.Cursor.count.Reads as count-reads
 
--- src/past.rt:31:11
 count-requires : tie.Need-count-requires
 count-requires c κs = search needs
 
--- src/past.rt:32:23
 enum-known-k : tie.Need-enum-known-k
 enum-known-k c = search needs
 
--- src/past.rt:32:48
 mul-past : tie.Need-mul-past
 mul-past c =
     let b3 = c .before .before .before in
     omega (arith, count-at-most 1024 _ _ _ _ (says wordSays (c .before .k .given .1) (b3 .count .ensures)))
 
--- src/past.rt:32:47
 cast-past : tie.Need-cast-past
 cast-past c = search needs
 
--- src/past.rt:32:32
 past-requires : tie.Need-past-requires
 past-requires c κs = search needs
 
--- src/past.rt:33:33
 enum-told : tie.Need-enum-told
 enum-told c = search needs
 
--- src/past.rt:28:1
 returns : tie.Need-returns
 returns c =
     let b4 = c .before .before .before .before in
     λ n m. effects-past n m _ _ (says wordSays (c .before .before .k .given .1) (b4 .count .ensures)) (c .past .ensures)
 
--- src/past.rt:28:1
 returns-2 : tie.Need-returns-2
 returns-2 c = λ n m. effects-none n m _ _ (says wordSays (c .enum-told .given .1) (c .before .before .count .ensures))
 

@@ -11,44 +11,35 @@ use Rattle.copies.proofs.past.past_phi.Lts as lts
 use Rattle.copies.proofs.past.past.Reads as past-reads
 use Rattle.hir.proofs.Cursor.count.Reads as count-reads
 
--- src/past.rt:41:9
 past-requires : tie.Need-past-requires
 past-requires c κs = search needs
 
--- src/past.rt:42:11
 count-requires : tie.Need-count-requires
 count-requires c κs = search needs
 
--- src/past.rt:43:23
 enum-known-k : tie.Need-enum-known-k
 enum-known-k c = search needs
 
--- src/past.rt:43:48
 mul-past : tie.Need-mul-past
 mul-past c =
     let b3 = c .before .before .before in
     omega (arith, count-at-most 1024 _ _ _ _ (says wordSays (c .before .k .given .1) (b3 .count .ensures)))
 
--- src/past.rt:43:47
 cast-past : tie.Need-cast-past
 cast-past c = search needs
 
--- src/past.rt:43:32
 past-requires-2 : tie.Need-past-requires-2
 past-requires-2 c κs = search needs
 
--- src/past.rt:44:33
 enum-told : tie.Need-enum-told
 enum-told c = search needs
 
--- src/past.rt:38:1
 returns : tie.Need-returns
 returns c =
     let b4 = c .before .before .before .before in
     let b5 = b4 .before in
     λ n. phi-past n _ _ (b5 .past .ensures) (says wordSays (c .before .before .k .given .1) (b4 .count .ensures)) (c .past2 .ensures)
 
--- src/past.rt:38:1
 returns-2 : tie.Need-returns-2
 returns-2 c =
     let b3 = c .before .before .before in

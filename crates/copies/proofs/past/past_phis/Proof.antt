@@ -18,43 +18,33 @@ Inv-loop sheet left₀ next₀ left next = (n : ℕ) → PastLoop (phi n) sheet 
 abbrev μ-loop : tie.MeasureT-loop
 μ-loop sheet left₀ next₀ left next = left
 
--- src/past.rt:54:11
 count-requires : tie.Need-count-requires Inv-loop μ-loop
 count-requires c κs = omega arith
 
--- src/past.rt:55:23
 enum-known-k : tie.Need-enum-known-k Inv-loop μ-loop
 enum-known-k c = omega arith
 
--- src/past.rt:60:13
 enum-told : tie.Need-enum-told Inv-loop μ-loop
 enum-told c = omega arith
 
--- src/past.rt:60:13
 returns : tie.Need-returns Inv-loop μ-loop
 returns c = λ n. counted-none mostCount (phi n) _ _ (says wordSays (c .enum-told .given .1) (c .before .before .count .ensures))
 
--- src/past.rt:63:5
 loop-holds : tie.Need-loop-holds Inv-loop μ-loop
 loop-holds c = λ n. past-start (phi n) _ _ _
 
--- src/past.rt:64:9
 past-phi-requires : tie.Need-past-phi-requires Inv-loop μ-loop
 past-phi-requires c κs = omega arith
 
--- src/past.rt:65:9
 sub-left : tie.Need-sub-left Inv-loop μ-loop
 sub-left c = omega arith
 
--- src/past.rt:63:5
 loop-less : tie.Need-loop-less Inv-loop μ-loop
 loop-less c = omega arith
 
--- src/past.rt:63:5
 loop-again : tie.Need-loop-again Inv-loop μ-loop
 loop-again c = λ n. past-turn (phi n) _ _ _ _ _ _ (c .before .before .loop .inv n) (c .before .loop-test .taken) (c .past-phi .ensures n)
 
--- src/past.rt:49:1
 returns-2 : tie.Need-returns-2 Inv-loop μ-loop
 returns-2 c =
     let b3 = c .before .before .before in

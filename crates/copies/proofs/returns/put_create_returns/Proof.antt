@@ -10,39 +10,30 @@ use Rattle.copies.proofs.returns.value_kind.Reads as value-kind-reads
 use Rattle.hir.proofs.ValueKind.number.Reads as ValueKind-number-reads
 use Rattle.hir.proofs.ValueReason.number.Reads as ValueReason-number-reads
 
--- src/returns.rt:67:28
 type-at-requires : tie.Need-type-at-requires
 type-at-requires c κs = search needs
 
--- src/returns.rt:67:9
 value-kind-requires : tie.Need-value-kind-requires
 value-kind-requires c κs = search needs
 
--- src/returns.rt:78:20
 number-requires : tie.Need-number-requires
 number-requires c κs = search needs
 
--- src/returns.rt:78:16
 mul-t15 : tie.Need-mul-t15
 mul-t15 c = search needs
 
--- src/returns.rt:78:38
 number-requires-2 : tie.Need-number-requires-2
 number-requires-2 c κs = search needs
 
--- src/returns.rt:78:16
 add-t17 : tie.Need-add-t17
 add-t17 c = search needs
 
--- src/returns.rt:80:5
 put-effect-requires : tie.Need-put-effect-requires
 put-effect-requires c κs = search needs
 
--- src/returns.rt:57:1
 same-length : tie.Need-same-length
 same-length c = search needs
 
--- src/returns.rt:57:1
 returns : tie.Need-returns
 returns c =
     let b4 = c .before .before .before .before in

@@ -7,47 +7,36 @@ use Rattle.copies.proofs.returns.type_at.Reads as reads
 use Rattle.copies.proofs.returns.type_at.Lts as lts
 use Rattle.hir.proofs.parts.type_of.Reads as type-of-reads
 
--- src/returns.rt:26:21
 cast-word : tie.Need-cast-word
 cast-word c = search needs
 
--- src/returns.rt:26:16
 mul-word : tie.Need-mul-word
 mul-word c = search needs
 
--- src/returns.rt:26:16
 add-word : tie.Need-add-word
 add-word c = search needs
 
--- src/returns.rt:29:9
 returns : tie.Need-returns
 returns c = let a = c .before .before .before .args in no-type (a .sheet .now) (a .c .at) (a .identifier .0) _ (omega arith)
 
--- src/returns.rt:31:8
 sub-if2 : tie.Need-sub-if2
 sub-if2 c = search needs
 
--- src/returns.rt:32:9
 returns-2 : tie.Need-returns-2
 returns-2 c = let a = c .before .before .before .before .args in no-type (a .sheet .now) (a .c .at) (a .identifier .0) _ (omega arith)
 
--- src/returns.rt:34:19
 add-type-of : tie.Need-add-type-of
 add-type-of c = search needs
 
--- src/returns.rt:34:13
 mul-type-of : tie.Need-mul-type-of
 mul-type-of c = search needs
 
--- src/returns.rt:34:13
 shared-slice-read-type-of : tie.Need-shared-slice-read-type-of
 shared-slice-read-type-of c = search needs
 
--- src/returns.rt:34:5
 type-of-requires : tie.Need-type-of-requires
 type-of-requires c κs = search needs
 
--- src/returns.rt:22:1
 returns-3 : tie.Need-returns-3
 returns-3 c = let a = c .before .before .before .before .before .before .args in type-stands (a .sheet .now) (a .c .at) (a .identifier .0) _ (c .type-of .ensures)
 

@@ -4,11 +4,9 @@ use Rattle.summary.proofs.flows.flow_kind.Tie as tie
 use Rattle.summary.proofs.flows.flow_kind.Reads as reads
 use Rattle.summary.proofs.flows.flow_kind.Lts as lts
 
--- src/flows.rt:21:1
 returns : tie.Need-returns
 returns c = rw (eq-eqb _ _ (c .if1 .taken))
 
--- src/flows.rt:21:1
 returns-2 : tie.Need-returns-2
 returns-2 c = rw (ne-eqb _ _ (c .if1 .left))
 

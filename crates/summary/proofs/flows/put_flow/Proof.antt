@@ -10,39 +10,30 @@ use Rattle.aliasing.proofs.field.Reads as field-reads
 use Rattle.copies.proofs.put_effect.Reads as put-effect-reads
 use Rattle.summary.proofs.flows.flow_kind.Reads as flow-kind-reads
 
--- src/flows.rt:49:9
 returns : tie.Need-returns
 returns c = flow-own _ _ _ _ _ (c .before .before .before .before .before .before .before .pre .0 .0) (c .if1 .taken) _ _
 
--- src/flows.rt:52:9
 returns-2 : tie.Need-returns-2
 returns-2 c = flow-returns _ _ _ _ _ (c .before .before .before .before .before .before .before .before .before .before .pre .0 .0) (c .before .before .before .if1 .left) (c .if2 .taken) _ _
 
--- src/flows.rt:54:13
 cast-k : tie.Need-cast-k
 cast-k c = search needs
 
--- src/flows.rt:55:8
 field-requires : tie.Need-field-requires
 field-requires c κs = search needs
 
--- src/flows.rt:57:19
 flow-kind-requires : tie.Need-flow-kind-requires
 flow-kind-requires c κs = search needs
 
--- src/flows.rt:62:9
 put-effect-requires : tie.Need-put-effect-requires
 put-effect-requires c κs = search needs
 
--- src/flows.rt:62:9
 same-length : tie.Need-same-length
 same-length c = search needs
 
--- src/flows.rt:62:9
 returns-3 : tie.Need-returns-3
 returns-3 c = flow-some _ _ _ _ _ (c .before .before .before .before .before .before .before .before .before .before .before .before .before .before .before .before .before .before .pre .0 .0) (c .before .before .before .before .flow-kind .ensures) (c .before .before .before .before .before .before .before .before .before .before .before .if1 .left) (c .before .before .before .before .before .before .before .before .if2 .left) (ap (λ (w : ℕ). w / 32) (sym (c .before .before .before .before .before .before .field .ensures)) ∙ c .before .before .before .before .before .if3 .taken) (c .before .before .put-effect .ensures)
 
--- src/flows.rt:33:1
 returns-4 : tie.Need-returns-4
 returns-4 c = flow-none _ _ _ _ _ (c .before .before .before .before .before .before .before .before .before .before .before .before .before .pre .0 .0) (c .before .before .before .before .before .before .if1 .left) (c .before .before .before .if2 .left) (λ e. c .if3 .left (ap (λ (w : ℕ). w / 32) (c .before .field .ensures) ∙ e)) _ _
 

@@ -18,27 +18,21 @@ Inv-loop ws count into index returns answer₀ at to₀ i₀ answer to i = Flowi
 abbrev μ-loop : tie.MeasureT-loop
 μ-loop ws count into index returns answer₀ at to₀ i₀ answer to i = count - i
 
--- src/flows.rt:82:5
 loop-holds : tie.Need-loop-holds Inv-loop μ-loop
 loop-holds c = (flowing-start _ _ _ _ _ _ _, omega arith, refl)
 
--- src/flows.rt:83:13
 tracked-requires : tie.Need-tracked-requires Inv-loop μ-loop
 tracked-requires c κs = omega arith
 
--- src/flows.rt:84:9
 put-flow-requires : tie.Need-put-flow-requires Inv-loop μ-loop
 put-flow-requires c κs = ((is-below _ _ (c .before .tracked .ensures), omega arith), omega arith)
 
--- src/flows.rt:85:9
 add-i : tie.Need-add-i Inv-loop μ-loop
 add-i c = omega arith
 
--- src/flows.rt:82:5
 loop-less : tie.Need-loop-less Inv-loop μ-loop
 loop-less c = omega arith
 
--- src/flows.rt:82:5
 loop-again : tie.Need-loop-again Inv-loop μ-loop
 loop-again c =
     let b4 = c .before .before .before .before in
@@ -50,11 +44,9 @@ loop-again c =
           ∙ b6 .loop .inv .2,
     )
 
--- src/flows.rt:67:1
 same-length : tie.Need-same-length Inv-loop μ-loop
 same-length c = c .before .loop .inv .2
 
--- src/flows.rt:67:1
 returns : tie.Need-returns Inv-loop μ-loop
 returns c = flowing-end _ _ _ _ _ _ (c .before .loop .inv .0) (c .loop-test .left)
 

@@ -17,83 +17,63 @@ Inv-loop sheet n ws answer₀ at first from words count to₀ i₀ answer to i =
 abbrev μ-loop : tie.MeasureT-loop
 μ-loop sheet n ws answer₀ at first from words count to₀ i₀ answer to i = n - i
 
--- src/ranges.rt:25:9
 put-requires : tie.Need-put-requires Inv-loop μ-loop
 put-requires c κs = omega arith
 
--- src/ranges.rt:29:9
 same-length : tie.Need-same-length Inv-loop μ-loop
 same-length c = c .before .before .before .put .kept .0
 
--- src/ranges.rt:29:9
 returns : tie.Need-returns Inv-loop μ-loop
 returns c = let a = c .before .before .before .before .before .before .before .before .args in no-ranges (a .sheet .now) (a .c .at) (a .n) (a .ws .now) (omega arith) (c .before .before .before .put .ensures)
 
--- src/ranges.rt:31:24
 mul-if2 : tie.Need-mul-if2 Inv-loop μ-loop
 mul-if2 c = omega arith
 
--- src/ranges.rt:31:23
 cast-if2 : tie.Need-cast-if2 Inv-loop μ-loop
 cast-if2 c = omega arith
 
--- src/ranges.rt:32:9
 same-length-2 : tie.Need-same-length-2 Inv-loop μ-loop
 same-length-2 c = c .before .before .before .before .put .kept .0
 
--- src/ranges.rt:32:9
 returns-2 : tie.Need-returns-2 Inv-loop μ-loop
 returns-2 c = let a = c .before .before .before .before .before .before .before .before .before .args in no-ranges (a .sheet .now) (a .c .at) (a .n) (a .ws .now) (omega arith) (c .before .before .before .before .put .ensures)
 
--- src/ranges.rt:37:5
 loop-holds : tie.Need-loop-holds Inv-loop μ-loop
 loop-holds c = starting-start _ _ _ _ _ _
 
--- src/ranges.rt:38:49
 mul-put : tie.Need-mul-put Inv-loop μ-loop
 mul-put c = omega arith
 
--- src/ranges.rt:38:42
 add-put : tie.Need-add-put Inv-loop μ-loop
 add-put c = omega arith
 
--- src/ranges.rt:38:36
 mul-put-2 : tie.Need-mul-put-2 Inv-loop μ-loop
 mul-put-2 c = omega arith
 
--- src/ranges.rt:38:36
 shared-slice-read-put : tie.Need-shared-slice-read-put Inv-loop μ-loop
 shared-slice-read-put c = omega arith
 
--- src/ranges.rt:38:13
 put-requires-2 : tie.Need-put-requires-2 Inv-loop μ-loop
 put-requires-2 c κs = omega arith
 
--- src/ranges.rt:39:32
 field-requires : tie.Need-field-requires Inv-loop μ-loop
 field-requires c κs = (omega arith, omega arith)
 
--- src/ranges.rt:39:9
 put-requires-3 : tie.Need-put-requires-3 Inv-loop μ-loop
 put-requires-3 c κs = omega arith
 
--- src/ranges.rt:40:9
 add-i : tie.Need-add-i Inv-loop μ-loop
 add-i c = omega arith
 
--- src/ranges.rt:37:5
 loop-less : tie.Need-loop-less Inv-loop μ-loop
 loop-less c = omega arith
 
--- src/ranges.rt:37:5
 loop-again : tie.Need-loop-again Inv-loop μ-loop
 loop-again c = starting-turn _ _ _ _ (c .before .before .before .before .before .before .before .before .before .before .before .loop .inv) (c .before .before .before .before .before .before .before .before .before .before .loop-test .taken) (c .before .before .before .before .before .before .before .put2 .ensures) (wrote-as (c .before .before .put3 .ensures) (ap (λ (v : ℕ). v ∷ []) (c .before .before .before .field .ensures))) (c .before .before .before .before .before .before .before .put2 .kept .0) (c .before .before .put3 .kept .0)
 
--- src/ranges.rt:13:1
 same-length-3 : tie.Need-same-length-3 Inv-loop μ-loop
 same-length-3 c = c .before .loop .inv .same ∙ c .before .before .before .before .before .before .put .kept .0
 
--- src/ranges.rt:13:1
 returns-3 : tie.Need-returns-3 Inv-loop μ-loop
 returns-3 c = starting-end _ _ _ _ (c .before .loop .inv) (c .before .before .before .before .before .before .before .before .before .before .before .pre .0 .0) (c .before .before .before .before .before .before .before .before .before .before .before .pre .0 .1) (c .loop-test .left) (c .before .before .before .before .before .before .put .ensures)
 

@@ -17,31 +17,24 @@ Inv-loop ws first count answer₀ at to₀ i₀ answer to i = Collecting ws firs
 abbrev μ-loop : tie.MeasureT-loop
 μ-loop ws first count answer₀ at to₀ i₀ answer to i = count - i
 
--- src/records.rt:130:5
 loop-holds : tie.Need-loop-holds Inv-loop μ-loop
 loop-holds c = (collecting-start _ _ _ _ _, omega arith, refl)
 
--- src/records.rt:131:29
 add-tracked : tie.Need-add-tracked Inv-loop μ-loop
 add-tracked c = omega arith
 
--- src/records.rt:131:13
 tracked-requires : tie.Need-tracked-requires Inv-loop μ-loop
 tracked-requires c κs = omega arith
 
--- src/records.rt:132:9
 collect-param-effects-requires : tie.Need-collect-param-effects-requires Inv-loop μ-loop
 collect-param-effects-requires c κs = ((is-below _ _ (c .before .tracked .ensures), omega arith), omega arith)
 
--- src/records.rt:133:9
 add-i : tie.Need-add-i Inv-loop μ-loop
 add-i c = omega arith
 
--- src/records.rt:130:5
 loop-less : tie.Need-loop-less Inv-loop μ-loop
 loop-less c = omega arith
 
--- src/records.rt:130:5
 loop-again : tie.Need-loop-again Inv-loop μ-loop
 loop-again c =
     let b4 = c .before .before .before .before in
@@ -53,11 +46,9 @@ loop-again c =
           ∙ b6 .loop .inv .2,
     )
 
--- src/records.rt:117:1
 same-length : tie.Need-same-length Inv-loop μ-loop
 same-length c = c .before .loop .inv .2
 
--- src/records.rt:117:1
 returns : tie.Need-returns Inv-loop μ-loop
 returns c = collecting-end _ _ _ _ (c .before .loop .inv .0) (c .loop-test .left)
 

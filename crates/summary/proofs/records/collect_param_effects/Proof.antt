@@ -9,55 +9,42 @@ use Rattle.aliasing.proofs.field.Reads as field-reads
 use Rattle.summary.proofs.records.put_record.Reads as put-record-reads
 use Rattle.summary.proofs.records.reason_word.Reads as reason-word-reads
 
--- src/records.rt:75:13
 cast-x : tie.Need-cast-x
 cast-x c = search needs
 
--- src/records.rt:80:18
 add-put-record : tie.Need-add-put-record
 add-put-record c = search needs
 
--- src/records.rt:80:15
 mul-put-record : tie.Need-mul-put-record
 mul-put-record c = search needs
 
--- src/records.rt:80:15
 shared-slice-read-put-record : tie.Need-shared-slice-read-put-record
 shared-slice-read-put-record c = search needs
 
--- src/records.rt:86:18
 add-put-record-2 : tie.Need-add-put-record-2
 add-put-record-2 c = search needs
 
--- src/records.rt:86:15
 mul-put-record-2 : tie.Need-mul-put-record-2
 mul-put-record-2 c = search needs
 
--- src/records.rt:86:15
 shared-slice-read-put-record-2 : tie.Need-shared-slice-read-put-record-2
 shared-slice-read-put-record-2 c = search needs
 
--- src/records.rt:88:9
 field-requires : tie.Need-field-requires
 field-requires c κs = search needs
 
--- src/records.rt:95:9
 reason-word-requires : tie.Need-reason-word-requires
 reason-word-requires c κs = search needs
 
--- src/records.rt:89:9
 put-record-requires : tie.Need-put-record-requires
 put-record-requires c κs = search needs
 
--- src/records.rt:98:5
 put-record-requires-2 : tie.Need-put-record-requires-2
 put-record-requires-2 c κs = omega (arith, level-wrote _ _ _ _ _ (c .before .before .before .put-record .ensures))
 
--- src/records.rt:68:1
 same-length : tie.Need-same-length
 same-length c = search needs
 
--- src/records.rt:68:1
 returns : tie.Need-returns
 returns c = collected _ _ (c .before .before .before .before .before .before .before .before .before .before .before .before .before .before .before .before .pre .0 .0) (c .before .before .before .before .before .before .before .before .before .field .ensures) (c .before .before .before .before .before .before .before .reason-word .ensures) (c .before .before .before .before .before .before .put-record .ensures) (c .before .before .put-record2 .ensures)
 

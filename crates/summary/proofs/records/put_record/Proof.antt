@@ -11,34 +11,27 @@ use Rattle.summary.proofs.records.put_record.Reads as reads
 use Rattle.summary.proofs.records.put_record.Lts as lts
 use Rattle.copies.proofs.put_effect.Reads as put-effect-reads
 
--- src/records.rt:49:9
 returns : tie.Need-returns
 returns c = wrote-as (wrote-none _ _) (sym (ap (gather effectWords) (level-none _ _ _ _ _ (c .if1 .taken))))
 
--- src/records.rt:64:9
 put-effect-requires : tie.Need-put-effect-requires
 put-effect-requires c κs = search needs
 
--- src/records.rt:64:9
 same-length : tie.Need-same-length
 same-length c = search needs
 
--- src/records.rt:64:9
 returns-2 : tie.Need-returns-2
 returns-2 c =
     let b4 = c .before .before .before .before in
     wrote-as (c .before .before .put-effect .ensures) (one-effect _
     ∙ sym (ap (gather effectWords) (level-conditional _ _ _ _ _ (b4 .if2 .taken))))
 
--- src/records.rt:72:5
 put-effect-requires-2 : tie.Need-put-effect-requires-2
 put-effect-requires-2 c κs = search needs
 
--- src/records.rt:36:1
 same-length-2 : tie.Need-same-length-2
 same-length-2 c = search needs
 
--- src/records.rt:36:1
 returns-3 : tie.Need-returns-3
 returns-3 c =
     let b4 = c .before .before .before .before in

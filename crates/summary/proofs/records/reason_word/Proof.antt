@@ -7,11 +7,9 @@ use Rattle.summary.proofs.records.reason_word.Tie as tie
 use Rattle.summary.proofs.records.reason_word.Reads as reads
 use Rattle.summary.proofs.records.reason_word.Lts as lts
 
--- src/records.rt:29:1
 returns : tie.Need-returns
 returns c = reason-none _ (c .if1 .taken)
 
--- src/records.rt:29:1
 returns-2 : tie.Need-returns-2
 returns-2 c = reason-some _ (c .if1 .left)
 

@@ -10,11 +10,9 @@ use Rattle.summary.proofs.tracked.has_record.Reads as reads
 use Rattle.summary.proofs.tracked.has_record.Lts as lts
 use Rattle.aliasing.proofs.field.Reads as field-reads
 
--- src/tracked.rt:61:5
 field-requires : tie.Need-field-requires
 field-requires c κs = search needs
 
--- src/tracked.rt:57:1
 returns : tie.Need-returns
 returns c = ap (λ (w : ℕ). not (eqb (w % 16) 0)) (c .field .ensures) ∙ sym (has-words _ _ (c .before .before .pre .0))
 

@@ -17,33 +17,26 @@ Inv-loop ws₀ count i₀ ws i = Marking ws₀ ws i × (i ≤ count)
 abbrev μ-loop : tie.MeasureT-loop
 μ-loop ws₀ count i₀ ws i = count - i
 
--- src/tracked.rt:106:5
 loop-holds : tie.Need-loop-holds Inv-loop μ-loop
 loop-holds c = (marking-start _, omega arith)
 
--- src/tracked.rt:107:13
 tracked-requires : tie.Need-tracked-requires Inv-loop μ-loop
 tracked-requires c κs = omega arith
 
--- src/tracked.rt:108:13
 marked-requires : tie.Need-marked-requires Inv-loop μ-loop
 marked-requires c κs = (is-below _ _ (c .before .tracked .ensures), omega arith)
 
--- src/tracked.rt:109:9
 track-requires : tie.Need-track-requires Inv-loop μ-loop
 track-requires c κs =
     let b3 = c .before .before .before in
     ((omega arith, omega arith), mark-below _ _ _ (c .before .marked .ensures) (is-below _ _ (b3 .tracked .ensures)))
 
--- src/tracked.rt:110:9
 add-i : tie.Need-add-i Inv-loop μ-loop
 add-i c = omega arith
 
--- src/tracked.rt:106:5
 loop-less : tie.Need-loop-less Inv-loop μ-loop
 loop-less c = omega arith
 
--- src/tracked.rt:106:5
 loop-again : tie.Need-loop-again Inv-loop μ-loop
 loop-again c =
     let b4 = c .before .before .before .before in
@@ -51,11 +44,9 @@ loop-again c =
     let b9 = b6 .before .before .before in
     (marking-turn (b9 .loop .inv .0) (b6 .tracked .ensures) (b4 .marked .ensures) (c .before .before .track .ensures), omega arith)
 
--- src/tracked.rt:101:1
 same-length : tie.Need-same-length Inv-loop μ-loop
 same-length c = c .before .loop .inv .0 .kept .same
 
--- src/tracked.rt:101:1
 returns : tie.Need-returns Inv-loop μ-loop
 returns c = marking-end (c .before .loop .inv .0) _ (omega arith)
 

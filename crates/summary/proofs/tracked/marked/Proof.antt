@@ -6,21 +6,17 @@ use Rattle.summary.proofs.tracked.marked.Reads as reads
 use Rattle.summary.proofs.tracked.marked.Lts as lts
 use Rattle.summary.proofs.tracked.has_record.Reads as has-record-reads
 
--- src/tracked.rt:73:23
 cast-has-record : tie.Need-cast-has-record
 cast-has-record c = search needs
 
--- src/tracked.rt:73:8
 has-record-requires : tie.Need-has-record-requires
 has-record-requires c κs = search needs
 
--- src/tracked.rt:74:9
 returns : tie.Need-returns
 returns c =
     let b5 = c .before .before .before .before .before in
     mark-yes _ _ (b5 .pre .0) (c .before .has-record .ensures) (c .if1 .taken)
 
--- src/tracked.rt:68:1
 returns-2 : tie.Need-returns-2
 returns-2 c =
     let b5 = c .before .before .before .before .before in

@@ -19,43 +19,33 @@ Inv-loop ws first count answer₀ at to₀ i₀ answer to i = Putting ws first c
 abbrev μ-loop : tie.MeasureT-loop
 μ-loop ws first count answer₀ at to₀ i₀ answer to i = count - i
 
--- src/tracked.rt:90:34
 cast-put : tie.Need-cast-put Inv-loop μ-loop
 cast-put c = omega arith
 
--- src/tracked.rt:90:9
 put-requires : tie.Need-put-requires Inv-loop μ-loop
 put-requires c κs = omega arith
 
--- src/tracked.rt:92:5
 loop-holds : tie.Need-loop-holds Inv-loop μ-loop
 loop-holds c = (putting-start _ _ _ _ _, omega (arith, c .before .before .put .ensures .next), refl)
 
--- src/tracked.rt:93:29
 add-tracked : tie.Need-add-tracked Inv-loop μ-loop
 add-tracked c = omega arith
 
--- src/tracked.rt:93:13
 tracked-requires : tie.Need-tracked-requires Inv-loop μ-loop
 tracked-requires c κs = omega arith
 
--- src/tracked.rt:94:36
 marked-requires : tie.Need-marked-requires Inv-loop μ-loop
 marked-requires c κs = (is-below _ _ (c .before .tracked .ensures), omega arith)
 
--- src/tracked.rt:94:9
 put-place-requires : tie.Need-put-place-requires Inv-loop μ-loop
 put-place-requires c κs = omega arith
 
--- src/tracked.rt:95:9
 add-i : tie.Need-add-i Inv-loop μ-loop
 add-i c = omega arith
 
--- src/tracked.rt:92:5
 loop-less : tie.Need-loop-less Inv-loop μ-loop
 loop-less c = omega arith
 
--- src/tracked.rt:92:5
 loop-again : tie.Need-loop-again Inv-loop μ-loop
 loop-again c =
     let b3 = c .before .before .before in
@@ -68,13 +58,11 @@ loop-again c =
           ∙ b7 .loop .inv .2,
     )
 
--- src/tracked.rt:85:1
 same-length : tie.Need-same-length Inv-loop μ-loop
 same-length c =
     let b4 = c .before .before .before .before in
     c .before .loop .inv .2 ∙ b4 .put .kept .0
 
--- src/tracked.rt:85:1
 returns : tie.Need-returns Inv-loop μ-loop
 returns c =
     let b4 = c .before .before .before .before in

@@ -11,63 +11,49 @@ use Rattle.summary.proofs.tracked.track.Reads as reads
 use Rattle.summary.proofs.tracked.track.Lts as lts
 use Rattle.hir.proofs.places.traits_word.Reads as traits-word-reads
 
--- src/tracked.rt:34:9
 traits-word-requires : tie.Need-traits-word-requires
 traits-word-requires c κs = search needs
 
--- src/tracked.rt:35:42
 mul-ws : tie.Need-mul-ws
 mul-ws c =
     let b3 = c .before .before .before in
     omega (arith, c .traits-word .ensures, traits-most (effectNumber (b3 .args .p .effect)) (b3 .args .p .reactive) (effect-number (b3 .args .p .effect)))
 
--- src/tracked.rt:35:27
 add-ws : tie.Need-add-ws
 add-ws c =
     let b4 = c .before .before .before .before in
     omega (arith, c .before .traits-word .ensures, traits-most (effectNumber (b4 .args .p .effect)) (b4 .args .p .reactive) (effect-number (b4 .args .p .effect)))
 
--- src/tracked.rt:35:18
 mul-ws-2 : tie.Need-mul-ws-2
 mul-ws-2 c = search needs
 
--- src/tracked.rt:35:8
 add-ws-2 : tie.Need-add-ws-2
 add-ws-2 c = search needs
 
--- src/tracked.rt:35:5
 mul-ws-3 : tie.Need-mul-ws-3
 mul-ws-3 c = search needs
 
--- src/tracked.rt:35:5
 slice-write-ws : tie.Need-slice-write-ws
 slice-write-ws c = search needs
 
--- src/tracked.rt:36:18
 mul-ws-4 : tie.Need-mul-ws-4
 mul-ws-4 c = search needs
 
--- src/tracked.rt:36:8
 add-ws-3 : tie.Need-add-ws-3
 add-ws-3 c = search needs
 
--- src/tracked.rt:36:8
 add-ws-4 : tie.Need-add-ws-4
 add-ws-4 c = search needs
 
--- src/tracked.rt:36:5
 mul-ws-5 : tie.Need-mul-ws-5
 mul-ws-5 c = search needs
 
--- src/tracked.rt:36:5
 slice-write-ws-2 : tie.Need-slice-write-ws-2
 slice-write-ws-2 c = simp length-set (omega arith)
 
--- src/tracked.rt:27:1
 same-length : tie.Need-same-length
 same-length c = search needs
 
--- src/tracked.rt:27:1
 returns : tie.Need-returns
 returns c =
     let b4 = c .before .before .before .before in

@@ -7,51 +7,39 @@ use Rattle.summary.proofs.tracked.tracked.Lts as lts
 use Rattle.hir.proofs.places.effect_of.Reads as effect-of-reads
 use Rattle.hir.proofs.places.reactive_of.Reads as reactive-of-reads
 
--- src/tracked.rt:44:26
 mul-w : tie.Need-mul-w
 mul-w c = search needs
 
--- src/tracked.rt:44:16
 add-w : tie.Need-add-w
 add-w c = search needs
 
--- src/tracked.rt:44:13
 mul-w-2 : tie.Need-mul-w-2
 mul-w-2 c = search needs
 
--- src/tracked.rt:44:13
 shared-slice-read-w : tie.Need-shared-slice-read-w
 shared-slice-read-w c = search needs
 
--- src/tracked.rt:45:29
 mul-span : tie.Need-mul-span
 mul-span c = search needs
 
--- src/tracked.rt:45:19
 add-span : tie.Need-add-span
 add-span c = search needs
 
--- src/tracked.rt:45:19
 add-span-2 : tie.Need-add-span-2
 add-span-2 c = search needs
 
--- src/tracked.rt:45:16
 mul-span-2 : tie.Need-mul-span-2
 mul-span-2 c = search needs
 
--- src/tracked.rt:45:16
 shared-slice-read-span : tie.Need-shared-slice-read-span
 shared-slice-read-span c = search needs
 
--- src/tracked.rt:46:9
 effect-of-requires : tie.Need-effect-of-requires
 effect-of-requires c κs = search needs
 
--- src/tracked.rt:47:9
 reactive-of-requires : tie.Need-reactive-of-requires
 reactive-of-requires c κs = search needs
 
--- src/tracked.rt:40:1
 returns : tie.Need-returns
 unfolding trackedAt placeOf
 returns c = rw (c .before .effect-of .ensures, c .reactive-of .ensures)

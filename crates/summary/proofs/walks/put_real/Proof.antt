@@ -20,43 +20,33 @@ Inv-loop ws count answer₀ at to₀ i₀ answer to i = Leaves (gather countWord
 abbrev μ-loop : tie.MeasureT-loop
 μ-loop ws count answer₀ at to₀ i₀ answer to i = count - i
 
--- src/walks.rt:22:5
 loop-holds : tie.Need-loop-holds Inv-loop μ-loop
 loop-holds c = (leaves-all _ _ _, omega arith, refl)
 
--- src/walks.rt:23:45
 mul-put : tie.Need-mul-put Inv-loop μ-loop
 mul-put c = omega arith
 
--- src/walks.rt:23:33
 add-put : tie.Need-add-put Inv-loop μ-loop
 add-put c = omega arith
 
--- src/walks.rt:23:33
 add-put-2 : tie.Need-add-put-2 Inv-loop μ-loop
 add-put-2 c = omega arith
 
--- src/walks.rt:23:30
 mul-put-2 : tie.Need-mul-put-2 Inv-loop μ-loop
 mul-put-2 c = omega arith
 
--- src/walks.rt:23:30
 shared-slice-read-put : tie.Need-shared-slice-read-put Inv-loop μ-loop
 shared-slice-read-put c = omega arith
 
--- src/walks.rt:23:9
 put-requires : tie.Need-put-requires Inv-loop μ-loop
 put-requires c κs = omega arith
 
--- src/walks.rt:24:9
 add-i : tie.Need-add-i Inv-loop μ-loop
 add-i c = omega arith
 
--- src/walks.rt:22:5
 loop-less : tie.Need-loop-less Inv-loop μ-loop
 loop-less c = omega arith
 
--- src/walks.rt:22:5
 loop-again : tie.Need-loop-again Inv-loop μ-loop
 loop-again c =
     let b5 = c .before .before .before .before .before in
@@ -68,11 +58,9 @@ loop-again c =
           ∙ b6 .loop .inv .2,
     )
 
--- src/walks.rt:15:1
 same-length : tie.Need-same-length Inv-loop μ-loop
 same-length c = c .before .loop .inv .2
 
--- src/walks.rt:15:1
 returns : tie.Need-returns Inv-loop μ-loop
 unfolding takenOf
 returns c =

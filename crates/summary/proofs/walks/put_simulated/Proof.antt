@@ -20,35 +20,27 @@ Inv-loop ws count answer₀ at to₀ i₀ answer to i = Leaves (gather countWord
 abbrev μ-loop : tie.MeasureT-loop
 μ-loop ws count answer₀ at to₀ i₀ answer to i = count - i
 
--- src/walks.rt:37:5
 loop-holds : tie.Need-loop-holds Inv-loop μ-loop
 loop-holds c = (leaves-all _ _ _, omega arith, refl)
 
--- src/walks.rt:38:33
 add-put : tie.Need-add-put Inv-loop μ-loop
 add-put c = omega arith
 
--- src/walks.rt:38:30
 mul-put : tie.Need-mul-put Inv-loop μ-loop
 mul-put c = omega arith
 
--- src/walks.rt:38:30
 shared-slice-read-put : tie.Need-shared-slice-read-put Inv-loop μ-loop
 shared-slice-read-put c = omega arith
 
--- src/walks.rt:38:9
 put-requires : tie.Need-put-requires Inv-loop μ-loop
 put-requires c κs = omega arith
 
--- src/walks.rt:39:9
 add-i : tie.Need-add-i Inv-loop μ-loop
 add-i c = omega arith
 
--- src/walks.rt:37:5
 loop-less : tie.Need-loop-less Inv-loop μ-loop
 loop-less c = omega arith
 
--- src/walks.rt:37:5
 loop-again : tie.Need-loop-again Inv-loop μ-loop
 loop-again c =
     let b5 = c .before .before .before .before .before in
@@ -60,11 +52,9 @@ loop-again c =
           ∙ b6 .loop .inv .2,
     )
 
--- src/walks.rt:30:1
 same-length : tie.Need-same-length Inv-loop μ-loop
 same-length c = c .before .loop .inv .2
 
--- src/walks.rt:30:1
 returns : tie.Need-returns Inv-loop μ-loop
 unfolding simulatedOf
 returns c =

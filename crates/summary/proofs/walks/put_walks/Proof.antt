@@ -9,34 +9,27 @@ use Rattle.summary.proofs.walks.put_real.Reads as put-real-reads
 use Rattle.summary.proofs.walks.put_simulated.Reads as put-simulated-reads
 use Rattle.writing.proofs.put.Reads as put-reads
 
--- src/walks.rt:50:30
 add-put : tie.Need-add-put
 add-put c = search needs
 
--- src/walks.rt:50:29
 cast-put : tie.Need-cast-put
 cast-put c = search needs
 
--- src/walks.rt:50:9
 put-requires : tie.Need-put-requires
 put-requires c κs = search needs
 
--- src/walks.rt:51:9
 put-real-requires : tie.Need-put-real-requires
 put-real-requires c κs = search needs
 
--- src/walks.rt:52:5
 put-simulated-requires : tie.Need-put-simulated-requires
 put-simulated-requires c κs =
     let b3 = c .before .before .before in
     let b7 = b3 .before .before .before .before in
     ((omega arith, omega arith), omega (arith, b7 .put .ensures .next, taken-wrote _ _ (b3 .put-real .ensures)))
 
--- src/walks.rt:45:1
 same-length : tie.Need-same-length
 same-length c = search needs
 
--- src/walks.rt:45:1
 returns : tie.Need-returns
 returns c =
     let b6 = c .before .before .before .before .before .before in
