@@ -1,11 +1,10 @@
 -- Walks of entries that are all transitive and Conditional: a step pushes only such entries, and takes one as any other.
-use Prim.Native.Nat.{ℕ, zero, suc, _+_, _-_, _≤_, _<_}
+use Prim.Native.Nat.{ℕ, zero, suc, _+_, _-_, _<_}
 use native.Mathlib.Omega.{arith}
 use mathlib.Core.Bool.{Bool, true, false}
 use mathlib.Core.List.{List, [], _∷_, _++_, map, reverseAux}
 use mathlib.Core.Option.{Option, none, some}
 use mathlib.Core.Path.{_≡_, refl, sym, ap, subst}
-use lib.ListN.{getD, set}
 use lib.Seq.{slice}
 use borrow.Author.Tests.{eqb-true}
 use Rattle.model.specs.Lists.{listIf, Every}

@@ -1,24 +1,24 @@
 -- The parts of a block, judged: what is left to read once the words so far were read.
 use Prim.Native.Nat.{ℕ, _+_, _-_, _*_, _≤_, _<_}
 use native.Mathlib.Numerals.{add-one}
-use mathlib.Core.Path.{_≡_, _∙_, refl, sym, ap}
+use mathlib.Core.Path.{_≡_, _∙_, refl}
 use mathlib.Core.Bool.{Bool, true, false, _||_, or-false, or-assoc, or-comm}
-use mathlib.Core.List.{List, [], _∷_}
+use mathlib.Core.List.{List, []}
 use lib.ListN.{length, drop, getD}
 use lib.Seq.{drop-length, drop-cons}
 use lib.Dec.{leb, eqb}
 use borrow.Author.Tests.{leb-true}
 use Rattle.model.specs.Limits.{mostCount, mostOrder, mostTerminal, mostBlocks}
 use Rattle.model.specs.Lists.{each, among}
-use Rattle.model.specs.Sheet.{Place, Effect, EffectList, Operand, Phi, Instruction, Terminal, Other, Return, MaybeThrow, Block, BlockId, EvaluationOrder}
-use Rattle.model.specs.Reading.{Position, Result, got, refused, Read, andThen, _>>=_, pure, refuse, count, atMost, times, numbered, counted}
-use Rattle.model.specs.Sections.{place, effect, effects, operand, phi, instruction, terminalOf, terminal, block}
+use Rattle.model.specs.Sheet.{Place, EffectList, Operand, Phi, Instruction, Terminal, Return, MaybeThrow, BlockId, EvaluationOrder}
+use Rattle.model.specs.Reading.{Position, got, refused, _>>=_, pure, count, atMost, times, numbered, counted}
+use Rattle.model.specs.Sections.{place, effects, operand, phi, instruction, terminalOf, terminal, block}
 use Rattle.hir.specs.Runs.{noEffect, Run}
 use Rattle.hir.proofs.WordLaws.{and-left, and-right}
 use Rattle.hir.proofs.RunLaws.{run-leaves, emptyFrom, empty-got}
 use Rattle.blocks.specs.Empty.{emptyFits}
 use Rattle.blocks.specs.Judging.{Told, judge, withRelation, tellEffect, tellOperand, tellPhi, tellInstruction, tellTerminal, tellBlock, blocksOf}
-use Rattle.blocks.proofs.JudgeLaws.{judge-got, judge-refused, got-judged, refused-judged, then-got, then-refused, then-made, times-next}
+use Rattle.blocks.proofs.JudgeLaws.{judge-got, got-judged, refused-judged, then-got, then-refused, then-made, times-next}
 
 -- a search: what is found or stands from here on, one number later
 pub listed-next : (x : ℕ) (l : List ℕ) (i : ℕ) (found : Bool) → i < length l → found || among x (drop i l) ≡ eqb x (getD l i 0) || found || among x (drop (i + 1) l)

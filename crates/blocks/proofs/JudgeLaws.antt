@@ -4,15 +4,15 @@ use native.Mathlib.Nat.{not-suc-le-zero, le-of-suc-le-suc}
 use native.Mathlib.Numerals.{sub-one}
 use native.Mathlib.Omega.{arith}
 use mathlib.Core.Path.{_≡_, _∙_, refl, sym, ap, subst}
-use mathlib.Core.Bool.{Bool, true, false}
+use mathlib.Core.Bool.{true, false}
 use mathlib.Core.List.{List, [], _∷_}
 use lib.ListN.{length, drop, set}
 use lib.Seq.{drop-length}
 use borrow.Author.Tests.{ne-eqb}
 use Rattle.model.specs.Limits.{mostBlockNumber}
-use Rattle.model.specs.Lists.{pick, each, among, Every}
+use Rattle.model.specs.Lists.{each, among, Every}
 use Rattle.model.specs.Sheet.{BlockId}
-use Rattle.model.specs.Reading.{Position, Result, got, refused, Read, andThen, _>>=_, pure, refuse, count, atMost, newNumber, times, numbered, counted}
+use Rattle.model.specs.Reading.{Position, Result, got, refused, Read, andThen, _>>=_, pure, count, atMost, newNumber, times, numbered, counted}
 use Rattle.model.proofs.Everywhere.{every-mem}
 use Rattle.blocks.specs.Judging.{mapResult, judge}
 

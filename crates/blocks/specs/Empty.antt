@@ -1,8 +1,7 @@
 -- One test for the two words of an instruction without effects.
-use Prim.Native.Nat.{_+_}
 use mathlib.Core.Bool.{_&&_}
 use lib.ListN.{getD}
-use lib.Dec.{leb, eqb}
+use lib.Dec.{leb}
 use Rattle.model.specs.Limits.{mostOrder}
 use Rattle.hir.specs.Fits.{Test}
 use Rattle.hir.specs.Runs.{noEffect}

@@ -5,9 +5,9 @@ use mathlib.Core.Bool.{Bool, true, false}
 use mathlib.Core.List.{List, []}
 use lib.Dec.{ltb}
 use Rattle.model.specs.Lists.{pick, each}
-use Rattle.model.specs.Sheet.{EffectKind, Effect, BlockId, Operand, Phi, Instruction, Terminal, Other, Return, MaybeThrow, Block}
+use Rattle.model.specs.Sheet.{EffectKind, Effect, Operand, Phi, Instruction, Terminal, Other, Return, MaybeThrow, Block}
 use Rattle.model.specs.Effects.{Role, relation, mutation, render, diagnosis, nothing, rowOf, isAlias}
-use Rattle.model.specs.Reading.{Position, Result, got, refused, Read, andThen, _>>=_, count, numbered}
+use Rattle.model.specs.Reading.{Result, got, refused, Read, _>>=_, count, numbered}
 use Rattle.model.specs.Limits.{mostBlocks}
 use Rattle.model.specs.Sections.{block}
 

@@ -1,6 +1,5 @@
 // What refusal 8 counts.
 ghost use mathlib.Core.Path.{_≡_};
-ghost use mathlib.Core.Bool.{Bool};
 ghost use Rattle.model.specs.Effects.{kindOf};
 ghost use Rattle.hir.specs.Numbers.{kindSays};
 ghost use Rattle.blocks.specs.Judging.{bump, withRelation, withMutation, withRender, withDiagnosis, tellKind};

@@ -1,27 +1,24 @@
 -- The building so far under the steps that leave the graph's words alone: a mutation, a render or a block more; and the start, and the end in rows.
-use Prim.Native.Nat.{ℕ, zero, suc, _+_, _-_, _*_, _/_, _%_, _≤_, _<_}
+use Prim.Native.Nat.{ℕ, suc, _+_, _-_, _*_, _<_}
 use native.Mathlib.Omega.{arith}
-use native.Mathlib.Numerals.{add-one}
-use mathlib.Core.Bool.{Bool, true, false, not}
+use mathlib.Core.Bool.{Bool}
 use mathlib.Core.List.{List, [], _∷_, _++_}
 use mathlib.Core.Option.{Option}
 use mathlib.Core.Path.{_≡_, refl, sym, ap, subst, _∙_}
-use lib.ListN.{length, getD, take, drop}
+use lib.ListN.{take, drop}
 use lib.Seq.{slice}
-use Rattle.model.specs.Mutation.{Kind, Reason, Mutation, RenderOf}
-use Rattle.model.specs.Graph.{Graph}
-use Rattle.model.specs.Built.{Built, Waiting, mutates, comes}
+use Rattle.model.specs.Mutation.{Kind, Reason}
+use Rattle.model.specs.Built.{mutates, comes}
 use Rattle.model.specs.Built.{renders as rendersPlace}
-use Rattle.rows.specs.Layout.{LEAST, SEEN, VALUE, EDGES, ENTRIES, PREDS, RELATIONS, HANDED, MUTATIONS, RENDERS, FUNCTIONS}
-use Rattle.rows.specs.Rows.{Kept}
+use Rattle.rows.specs.Layout.{SEEN, VALUE, EDGES, ENTRIES, PREDS, RELATIONS, HANDED, MUTATIONS, RENDERS, FUNCTIONS}
 use Rattle.rows.specs.Pending.{mutationsOf, rendersOf}
 use Rattle.rows.proofs.Parts.{drop-more, take-less, slice-take, slice-drop}
-use Rattle.rows.proofs.Pending.{mutations-kept, renders-kept, mutations-below, renders-below}
+use Rattle.rows.proofs.Pending.{mutations-kept, renders-kept, mutations-below}
 use Rattle.building.specs.declared.Held.{Held}
 use Rattle.building.specs.declared.Building.{Building}
-use Rattle.building.specs.Logs.{Logs, graphOfLogs, Clean}
+use Rattle.building.specs.Logs.{graphOfLogs, Clean}
 use Rattle.building.specs.Held.{logsOf, graphOf, operandsOf, waitingOf}
-use Rattle.building.specs.Built.{placeAt, comeOf, indexOf, builtOf, Sound, Steps, PushesMutation, PushesRender, PushesBlock}
+use Rattle.building.specs.Built.{placeAt, indexOf, builtOf, Sound, Steps, PushesMutation, PushesRender, PushesBlock}
 use Rattle.building.proofs.Writes.{logs-eq, waits-same}
 use Rattle.building.proofs.Pushes.{come-kept}
 use Rattle.building.proofs.Stages.{built-eq}

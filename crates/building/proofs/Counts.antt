@@ -1,26 +1,26 @@
 -- The words that the logs hold are the edges and the entries of the graph.
-use Prim.Native.Nat.{ℕ, zero, suc, _+_, _-_, _*_, _/_, _%_, _≤_, _<_}
+use Prim.Native.Nat.{ℕ, zero, suc, _+_, _-_, _*_, _≤_, _<_}
 use native.Mathlib.Omega.{arith}
 use native.Mathlib.Nat.{add-zero, add-suc}
 use native.Mathlib.Decide.{ℕ-discrete}
 use mathlib.Core.Bool.{Bool, true, false}
 use mathlib.Core.List.{List, [], _∷_, _++_, map}
-use mathlib.Core.Option.{Option, none, some}
-use mathlib.Core.Path.{_≡_, refl, sym, ap, subst, _∙_}
+use mathlib.Core.Option.{Option, none}
+use mathlib.Core.Path.{_≡_, refl, sym, ap, _∙_}
 use lib.ListN.{length, getD, length-map}
-use lib.Seq.{slice, length-slice}
+use lib.Seq.{length-slice}
 use lib.Dec.{eqb}
 use Rattle.model.specs.Lists.{pick}
 use Rattle.model.specs.Graph.{Node, Graph}
 use Rattle.model.specs.Size.{nodeEdges, nodeEntries, edges, entries}
-use Rattle.rows.specs.Layout.{VALUE, FBOUND, EDGES, ENTRIES}
+use Rattle.rows.specs.Layout.{EDGES, ENTRIES}
 use Rattle.rows.specs.Sort.{keyW, wordW, sel, cnt, low}
 use Rattle.rows.specs.Graph.{edgeRow, entryRow, nodeOf, tab}
 use Rattle.rows.proofs.Counting.{low-suc, low-zero, low-all}
 use Rattle.rows.proofs.Rows.{keys₀, keys₁}
 use Rattle.rows.proofs.Graph.{node-some, node-none}
 use Rattle.building.specs.declared.Held.{Held}
-use Rattle.building.specs.Logs.{Logs, graphOfLogs, without, Clean}
+use Rattle.building.specs.Logs.{Logs, graphOfLogs, Clean}
 use Rattle.building.specs.Held.{logsOf, graphOf, Room}
 use Rattle.building.proofs.Words.{sel-own, key-edge, key-entry}
 

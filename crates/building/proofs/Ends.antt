@@ -1,17 +1,17 @@
 -- The start of building, where no identifier has a node, and its end, where the graph stands in rows.
-use Prim.Native.Nat.{ℕ, zero, suc, _+_, _-_, _*_, _≤_, _<_}
+use Prim.Native.Nat.{ℕ, _+_, _-_, _≤_, _<_}
 use native.Mathlib.Omega.{arith}
 use native.Mathlib.Nat.{add-zero}
 use native.Mathlib.Decide.{decLt}
-use mathlib.Core.List.{List, [], _∷_, _++_}
-use mathlib.Core.Option.{Option, none, some}
+use mathlib.Core.List.{List, []}
+use mathlib.Core.Option.{none}
 use mathlib.Core.Path.{_≡_, refl, sym, ap, subst, _∙_}
-use lib.ListN.{length, getD, set, take, drop, replicate, length-replicate, getD-replicate}
-use lib.Seq.{slice, slice-empty, sets, ext-getD}
-use Rattle.model.specs.Graph.{Node, Graph, object, create}
-use Rattle.model.specs.Built.{Built, Waiting, changed}
+use lib.ListN.{length, getD, set, replicate, length-replicate, getD-replicate}
+use lib.Seq.{slice, slice-empty, ext-getD}
+use Rattle.model.specs.Graph.{object, create}
+use Rattle.model.specs.Built.{changed}
 use Rattle.model.specs.Building.{noNodes}
-use Rattle.rows.specs.Layout.{LEAST, VALUE, FBOUND, QUEUE, EDGES, ENTRIES, PREDS, RELATIONS, MUTATIONS, RENDERS}
+use Rattle.rows.specs.Layout.{LEAST, VALUE, FBOUND, QUEUE, EDGES, ENTRIES, PREDS, MUTATIONS, RENDERS}
 use Rattle.rows.specs.Rows.{Kept}
 use Rattle.rows.specs.Sort.{clearW, sel}
 use Rattle.rows.specs.Graph.{nodeOf, tab}
@@ -21,9 +21,8 @@ use Rattle.rows.proofs.Clearing.{kept-clear, clear-at}
 use Rattle.rows.proofs.Tables.{tab-length, tab-at}
 use Rattle.rows.proofs.Graph.{node-none}
 use Rattle.rows.proofs.Pending.{mutations-kept, renders-kept}
-use Rattle.building.specs.declared.Held.{Held}
 use Rattle.building.specs.declared.Building.{Building}
-use Rattle.building.specs.Logs.{Logs, graphOfLogs, without, Clean}
+use Rattle.building.specs.Logs.{graphOfLogs, without, Clean}
 use Rattle.building.specs.Held.{valuesOf, logsOf, graphOf, operandsOf, waitingOf, Raises, Left, Laid}
 use Rattle.building.specs.Built.{comeOf, builtOf, Sound, Steps, begun, nothing, Starts, LaysOut}
 use Rattle.building.proofs.Values.{value-word, value-unwritten}

@@ -1,5 +1,5 @@
 -- Each step on the logs is a step on the graph.
-use Prim.Native.Nat.{ℕ, zero, suc, _+_, _-_, _*_, _/_, _%_, _≤_, _<_}
+use Prim.Native.Nat.{ℕ, zero, suc, _+_, _-_, _*_, _/_, _%_, _<_}
 use native.Mathlib.Omega.{arith}
 use native.Mathlib.Nat.{add-zero}
 use mathlib.Core.Bool.{Bool, true, false}
@@ -9,14 +9,14 @@ use mathlib.Core.Path.{_≡_, refl, sym, ap, subst, _∙_}
 use lib.ListN.{length, getD, set}
 use lib.Seq.{getD-set-same, getD-set-other}
 use lib.Dec.{eqb}
-use borrow.Author.Tests.{eq-eqb, ne-eqb}
-use Rattle.model.specs.Lists.{pick, isSome, mapOption}
-use Rattle.model.specs.Graph.{EdgeKind, Edge, Entry, Node, Graph, nodeAt, hasNode, newNode, create, Relation, edgeKind, enter, withEdge, withEntry, change}
+use borrow.Author.Tests.{ne-eqb}
+use Rattle.model.specs.Lists.{pick, mapOption}
+use Rattle.model.specs.Graph.{Edge, Node, nodeAt, hasNode, newNode, create, edgeKind, enter, withEdge, withEntry, change}
 use Rattle.rows.specs.Sort.{keyW, wordW, sel}
 use Rattle.rows.specs.Graph.{relationOf, valueOf, edgeRow, entryRow, ownNode, nodeOf, tab}
-use Rattle.rows.proofs.Tables.{tab-length, tab-at, tab-set, tab-same}
+use Rattle.rows.proofs.Tables.{tab-at, tab-set, tab-same}
 use Rattle.rows.proofs.Graph.{node-same, node-some, node-none}
-use Rattle.building.specs.Logs.{Logs, graphOfLogs, ownerW, without, anyW, onceW, createL, edgeL, entryL, edgeG, entryG}
+use Rattle.building.specs.Logs.{Logs, graphOfLogs, without, onceW, createL, edgeL, entryL, edgeG, entryG}
 use Rattle.building.proofs.Words.{sel-hit, sel-miss, sel-own, sel-other, key-edge, key-entry, key-edge-is, key-entry-is, once-own, once-other}
 
 -- ---- a node

@@ -1,16 +1,16 @@
 -- The rows of the two logs: what the walks read is the graph that was built.
-use Prim.Native.Nat.{ℕ, zero, suc, _+_, _-_, _*_, _/_, _%_, _≤_, _<_}
+use Prim.Native.Nat.{ℕ, suc, _+_, _-_, _*_, _≤_, _<_}
 use native.Mathlib.Omega.{arith}
 use native.Mathlib.Numerals.{add-one}
 use native.Mathlib.Decide.{decLt}
-use mathlib.Core.List.{List, [], _∷_, _++_}
-use mathlib.Core.Path.{_≡_, refl, sym, ap, subst, _∙_}
-use lib.ListN.{length, getD, set, take, drop, length-set}
+use mathlib.Core.List.{List}
+use mathlib.Core.Path.{_≡_, sym, ap, subst, _∙_}
+use lib.ListN.{length, getD, set, take, length-set}
 use lib.Seq.{slice, take-take, take-set-le, drop-set-lt, getD-set-same}
 use Rattle.rows.specs.Layout.{LEAST, VALUE, FBOUND, FEDGE, BBOUND, BENTRY, NODES, QUEUE, EDGES, ENTRIES}
-use Rattle.rows.specs.Rows.{rowsOf, limit, values, value, used, fb, bb, rowF, rowB, Good, Indexed, Kept}
-use Rattle.rows.specs.Sort.{keyW, sel, cnt, low, Lay, logOf, Sorted}
-use Rattle.rows.specs.Graph.{nodeOf, tab, graphOfRows}
+use Rattle.rows.specs.Rows.{rowsOf, limit, values, value, used, fb, bb, rowF, rowB, Good}
+use Rattle.rows.specs.Sort.{sel, low, Lay, logOf, Sorted}
+use Rattle.rows.specs.Graph.{nodeOf, graphOfRows}
 use Rattle.rows.proofs.Parts.{slice-take, slice-before, slice-after, drop-more, drop-word, take-word, kept-at}
 use Rattle.rows.proofs.Counting.{kept-log, log-length, low-suc, low-mono, low-le, low-zero, low-all}
 use Rattle.rows.proofs.Rows.{limit-at, value-at, value-beyond, used-few, used-above, used-under, f-word, b-word, fb-at, bb-at, fb-behind, bb-behind, rowF-at, rowB-at, keys₀, keys₁}

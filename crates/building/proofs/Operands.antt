@@ -1,11 +1,11 @@
 -- The waiting phi operands.
-use Prim.Native.Nat.{ℕ, zero, suc, _+_, _-_, _*_, _/_, _%_, _≤_, _<_}
+use Prim.Native.Nat.{ℕ, suc, _+_, _-_, _/_, _%_, _≤_, _<_}
 use native.Mathlib.Omega.{arith}
 use mathlib.Core.Bool.{Bool, true, false, not, true≢false}
 use mathlib.Core.List.{List, [], _∷_, _++_, append-assoc, append-nil}
 use mathlib.Core.Path.{_≡_, refl, sym, ap, subst, _∙_}
 use lib.ListN.{length, getD, set, take, drop, length-set}
-use lib.Seq.{slice, slice-cons, slice-empty, length-slice, take-set-le, drop-set-lt, getD-drop, take-take, drop-drop}
+use lib.Seq.{slice, slice-cons, slice-empty, length-slice, take-set-le, drop-set-lt}
 use lib.Dec.{eqb}
 use borrow.Author.Tests.{eq-eqb, ne-eqb}
 use Rattle.model.specs.Lists.{pick, keep, each, consIf}
@@ -15,7 +15,7 @@ use Rattle.model.specs.Building.{waitingFor}
 use Rattle.rows.specs.Layout.{LEAST, VALUE, EDGES, ENTRIES, PREDS, RELATIONS, HANDED}
 use Rattle.rows.proofs.Parts.{drop-more, take-less, drop-word, slice-at, slice-split, slice-take, slice-drop, slice-push, slice-before, slice-after, slice-less}
 use Rattle.building.specs.declared.Held.{Held}
-use Rattle.building.specs.Logs.{packW, Logs, graphOfLogs, anyP, Clean}
+use Rattle.building.specs.Logs.{packW, graphOfLogs, anyP, Clean}
 use Rattle.building.specs.Held.{logsOf, graphOf, operandOf, operandsOf, waitingOf, Room, Builds, Others, Waits, Moved, Wakes}
 use Rattle.building.proofs.Graphs.{Says, says}
 use Rattle.building.proofs.Loops.{none-both, slice-front, slice-last}

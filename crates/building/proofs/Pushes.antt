@@ -4,12 +4,12 @@ use native.Mathlib.Omega.{arith}
 use native.Mathlib.Numerals.{add-one}
 use mathlib.Core.Bool.{Bool, true, false, _||_}
 use mathlib.Core.List.{List, [], _∷_, _++_}
-use mathlib.Core.Path.{_≡_, refl, sym, ap, subst, _∙_}
+use mathlib.Core.Path.{_≡_, refl, sym, ap, _∙_}
 use lib.ListN.{length, getD, set, take, drop, length-set}
 use lib.Seq.{slice, slice-empty, getD-set-same, getD-set-other, take-suc, drop-append-le, length-take-le}
 use lib.Dec.{eqb}
 use Rattle.model.specs.Lists.{pick, among}
-use Rattle.model.specs.Mutation.{Mutation, RenderOf, reasonOf}
+use Rattle.model.specs.Mutation.{reasonOf}
 use Rattle.rows.specs.Layout.{LEAST, SEEN, MUTATIONS, RENDERS}
 use Rattle.rows.specs.Rows.{Kept}
 use Rattle.rows.specs.Pending.{kindOf, mutationOf, renderOf, mutationAt, renderAt}

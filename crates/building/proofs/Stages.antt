@@ -1,20 +1,18 @@
 -- The building so far under each step: what the graph's words, the waiting operands and the counts say together.
-use Prim.Native.Nat.{ℕ, zero, suc, _+_, _-_, _*_, _/_, _%_, _≤_, _<_}
+use Prim.Native.Nat.{ℕ, suc, _+_, _-_, _≤_, _<_}
 use native.Mathlib.Omega.{arith}
-use native.Mathlib.Numerals.{add-one}
-use mathlib.Core.Bool.{Bool, true, false, not}
+use mathlib.Core.Bool.{Bool, true, false}
 use mathlib.Core.List.{List, [], _∷_, _++_}
 use mathlib.Core.Path.{_≡_, refl, sym, ap, subst, _∙_}
-use lib.ListN.{length, getD, take, drop}
-use Rattle.model.specs.Lists.{pick, keep, each, among}
+use lib.ListN.{length, take, drop}
+use Rattle.model.specs.Lists.{keep, each, among}
 use Rattle.model.specs.Mutation.{Mutation, RenderOf}
-use Rattle.model.specs.Graph.{Value, Graph, create, intoAliases, relate}
+use Rattle.model.specs.Graph.{Graph, intoAliases, relate}
 use Rattle.model.specs.Built.{Built, Waiting, changed, related, waits}
 use Rattle.model.specs.Building.{operand, waitingFor, stillWaiting, wake}
 use Rattle.hir.specs.declared.FunctionId.{FunctionId}
-use Rattle.rows.specs.Layout.{LEAST, SEEN, VALUE, PREDS, HANDED, MUTATIONS, RENDERS, FUNCTIONS}
+use Rattle.rows.specs.Layout.{SEEN, VALUE, PREDS, HANDED, MUTATIONS, RENDERS, FUNCTIONS}
 use Rattle.rows.specs.Graph.{valueOf}
-use Rattle.rows.specs.Pending.{mutationsOf, rendersOf}
 use Rattle.rows.proofs.Parts.{drop-more, take-less}
 use Rattle.rows.proofs.Pending.{mutations-kept, renders-kept}
 use Rattle.building.specs.declared.Held.{Held}

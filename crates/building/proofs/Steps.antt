@@ -1,16 +1,16 @@
 -- The relations of document 01, from an edge, an entry and a creation.
-use Prim.Native.Nat.{ℕ, zero, suc, _+_, _-_, _*_, _/_, _%_, _≤_, _<_}
+use Prim.Native.Nat.{ℕ, zero, suc, _-_, _/_, _%_, _<_}
 use native.Mathlib.Omega.{arith}
-use mathlib.Core.Bool.{Bool, true, false, _&&_, true≢false}
-use mathlib.Core.List.{List, [], _∷_, _++_}
+use mathlib.Core.Bool.{true, false, true≢false}
+use mathlib.Core.List.{List, [], _∷_}
 use mathlib.Core.Option.{Option, none, some}
 use mathlib.Core.Path.{_≡_, refl, sym, ap, subst, _∙_}
-use lib.ListN.{length, set, take, drop}
+use lib.ListN.{length}
 use lib.Seq.{getD-set-same}
-use Rattle.model.specs.Lists.{pick, isSome, mapOption}
-use Rattle.model.specs.Graph.{Node, Graph, Value, object, nodeAt, hasNode, newNode, change, Relation, intoCreatedFrom, intoAliases, create, withEdge, withEntry, store, relate, createFrom}
+use Rattle.model.specs.Lists.{isSome, mapOption}
+use Rattle.model.specs.Graph.{Node, Graph, Value, object, hasNode, newNode, change, Relation, intoCreatedFrom, intoAliases, create, withEdge, store, relate, createFrom}
 use Rattle.model.specs.Graph.{assign as assignEffect}
-use Rattle.rows.specs.Graph.{valueOf, relationOf, nodeOf, tab}
+use Rattle.rows.specs.Graph.{relationOf, nodeOf}
 use Rattle.rows.specs.Sort.{sel}
 use Rattle.rows.proofs.Tables.{tab-length}
 use Rattle.building.specs.declared.Held.{Held}

@@ -1,19 +1,16 @@
 -- The logs under each write, and the steps one after the other.
-use Prim.Native.Nat.{ℕ, zero, suc, _+_, _-_, _*_, _/_, _%_, _≤_, _<_}
+use Prim.Native.Nat.{ℕ, _+_, _-_, _/_, _%_, _≤_, _<_}
 use native.Mathlib.Omega.{arith}
 use native.Mathlib.Decide.{ℕ-discrete}
 use mathlib.Core.Bool.{Bool, true, false, not, true≢false}
 use mathlib.Core.List.{List, [], _∷_, _++_}
-use mathlib.Core.Option.{Option, none, some}
 use mathlib.Core.Path.{_≡_, refl, sym, ap, subst, _∙_}
 use lib.ListN.{length, getD, set, take, drop, length-set}
 use lib.Seq.{slice, length-slice, take-set-le, drop-set-lt}
 use lib.Dec.{eqb}
 use borrow.Author.Tests.{eq-eqb, ne-eqb, not-true, not-false}
-use Rattle.model.specs.Lists.{pick}
 use Rattle.model.specs.Graph.{Graph, hasNode, create}
-use Rattle.rows.specs.Layout.{LEAST, VALUE, FBOUND, EDGES, ENTRIES, PREDS, RELATIONS}
-use Rattle.rows.specs.Rows.{Kept}
+use Rattle.rows.specs.Layout.{VALUE, FBOUND, EDGES, ENTRIES, PREDS, RELATIONS}
 use Rattle.rows.specs.Graph.{valueOf}
 use Rattle.rows.proofs.Parts.{drop-more, take-less, slice-take, slice-drop, slice-set-in, slice-push, slice-before, slice-after}
 use Rattle.building.specs.declared.Held.{Held}

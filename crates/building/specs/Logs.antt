@@ -7,7 +7,7 @@ use mathlib.Core.Path.{_≡_}
 use lib.ListN.{getD, set}
 use lib.Dec.{eqb}
 use Rattle.model.specs.Lists.{pick}
-use Rattle.model.specs.Graph.{Graph, Relation, change, withEdge, withEntry}
+use Rattle.model.specs.Graph.{Graph, change, withEdge, withEntry}
 use Rattle.rows.specs.Sort.{sel}
 use Rattle.rows.specs.Graph.{relationOf, nodeOf, tab}
 

@@ -1,16 +1,16 @@
 -- An instruction and a block, copied by their parts.
-use Prim.Native.Nat.{ℕ, zero, suc, _+_, _-_, _*_, _≤_, _<_}
+use Prim.Native.Nat.{ℕ, _+_, _-_, _*_, _≤_}
 use native.Mathlib.Omega.{arith}
 use mathlib.Core.Path.{_≡_, refl, sym, ap, subst, _∙_}
 use mathlib.Core.Bool.{true}
-use mathlib.Core.List.{List, [], _∷_, _++_}
+use mathlib.Core.List.{List}
 use lib.ListN.{length}
 use Rattle.model.specs.Lists.{gather}
 use Rattle.model.specs.Limits.{mostCount, mostOrder}
-use Rattle.model.specs.Sheet.{BlockId, Effect, EffectList, Phi, Instruction, Terminal, Block}
-use Rattle.model.specs.Reading.{Position, Result, got, refused, Read, andThen, _>>=_, pure, atMost, counted}
+use Rattle.model.specs.Sheet.{BlockId, EffectList, Phi, Instruction, Terminal, Block}
+use Rattle.model.specs.Reading.{Position, got, refused, _>>=_, pure, atMost, counted}
 use Rattle.model.specs.Sections.{effects, phi, instruction, terminal, block}
-use Rattle.model.proofs.Got.{got-value, got-next, not-both, bind-got}
+use Rattle.model.proofs.Got.{got-value, got-next, bind-got}
 use Rattle.hir.specs.Runs.{noEffect, Run}
 use Rattle.hir.proofs.RunLaws.{run-leaves, empty-read}
 use Rattle.writing.specs.Wrote.{Wrote}

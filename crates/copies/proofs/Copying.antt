@@ -1,5 +1,5 @@
 -- A loop that copies what it reads: what is left to read from here was left from the start, and so were its words.
-use Prim.Native.Nat.{ℕ, zero, suc, _+_, _-_, _≤_, _<_}
+use Prim.Native.Nat.{ℕ, suc, _+_, _-_, _≤_, _<_}
 use native.Mathlib.Omega.{arith}
 use mathlib.Core.Path.{_≡_, refl, sym, ap, subst, _∙_}
 use mathlib.Core.Bool.{Bool, true, false}
@@ -8,8 +8,8 @@ use lib.ListN.{length}
 use Rattle.model.specs.Lists.{pick, among, gather}
 use Rattle.model.specs.Limits.{mostBlockNumber}
 use Rattle.model.specs.Sheet.{BlockId}
-use Rattle.model.specs.Reading.{Position, Result, got, refused, Read, andThen, _>>=_, pure, refuse, count, atMost, newNumber, times, numbered, counted}
-use Rattle.model.proofs.Got.{got-value, got-next, not-both, bind-got, Cons, times-step, times-done, Numbered, numbered-step, numbered-done}
+use Rattle.model.specs.Reading.{Position, Result, got, refused, Read, _>>=_, pure, refuse, count, atMost, newNumber, times, numbered, counted}
+use Rattle.model.proofs.Got.{got-value, got-next, not-both, bind-got, times-step, times-done, Numbered, numbered-step, numbered-done}
 use Rattle.writing.specs.Wrote.{Wrote}
 use Rattle.copies.specs.Copies.{Copies}
 use Rattle.copies.proofs.Loops.{Leaves, leaves-all, leaves-then, leaves-none}

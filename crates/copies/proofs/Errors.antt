@@ -1,19 +1,18 @@
 -- The diagnostics of inner functions.
-use Prim.Native.Nat.{ℕ, zero, suc, _+_, _-_, _*_, _≤_, _<_}
+use Prim.Native.Nat.{ℕ, _+_, _-_, _*_, _≤_, _<_}
 use native.Mathlib.Omega.{arith}
-use mathlib.Core.Path.{_≡_, refl, sym, ap, subst, _∙_}
-use mathlib.Core.List.{List, [], _∷_, _++_, append-assoc}
+use mathlib.Core.Path.{_≡_, refl, sym, ap, _∙_}
+use mathlib.Core.List.{List}
 use lib.ListN.{length, getD, List·getD-eq-default}
 use lib.Seq.{slice}
 use Rattle.model.specs.Limits.{mostInnerDiagnostics}
 use Rattle.model.specs.Lists.{gather}
 use Rattle.model.specs.Sheet.{Diagnostic, InnerFunction, noFunction}
-use Rattle.model.specs.Reading.{Position, Result, got, refused, Read, andThen, _>>=_, pure, count, times, counted}
+use Rattle.model.specs.Reading.{Position, got, refused, _>>=_, pure, count, times, counted}
 use Rattle.model.specs.Sections.{diagnostic, innerFunction}
 use Rattle.model.specs.Answer.{functionErrors, diagnosticWords}
-use Rattle.model.proofs.Got.{got-value, got-next, not-both, bind-got}
+use Rattle.model.proofs.Got.{got-value, got-next, bind-got}
 use Rattle.rows.specs.Layout.{FUNCTIONS, HANDED}
-use Rattle.writing.specs.Wrote.{Wrote}
 use Rattle.writing.proofs.Writing.{wrote-none, wrote-as}
 use Rattle.copies.specs.Copies.{Copies}
 use Rattle.copies.specs.Functions.{Functions, Appended, AllAppended}

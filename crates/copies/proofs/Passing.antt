@@ -1,12 +1,12 @@
 -- Parts that are passed over by their counts.
-use Prim.Native.Nat.{ℕ, zero, suc, _+_, _*_, _-_, _≤_, _<_}
+use Prim.Native.Nat.{ℕ, suc, _+_, _*_, _-_, _≤_, _<_}
 use native.Mathlib.Omega.{arith}
 use mathlib.Core.Path.{_≡_, refl, sym, ap, subst, _∙_}
-use mathlib.Core.List.{List, [], _∷_}
+use mathlib.Core.List.{List, []}
 use lib.ListN.{length}
 use Rattle.model.specs.Limits.{mostCount, mostTerminal, mostOrder}
-use Rattle.model.specs.Sheet.{Place, Effect, EffectList, Operand, Phi, Terminal, Other, Return, MaybeThrow}
-use Rattle.model.specs.Reading.{Position, Result, got, refused, Read, andThen, _>>=_, pure, count, atMost, times, numbered, counted}
+use Rattle.model.specs.Sheet.{Place, EffectList, Operand, Phi, Terminal, Return, MaybeThrow}
+use Rattle.model.specs.Reading.{Position, got, refused, Read, _>>=_, pure, count, atMost, times, numbered, counted}
 use Rattle.model.specs.Sections.{place, effect, effects, operand, phi, terminalOf, terminal}
 use Rattle.model.proofs.Got.{got-value, got-next, not-both, bind-got, times-step, times-done}
 use Rattle.copies.specs.Copies.{Past}

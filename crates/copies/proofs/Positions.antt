@@ -1,19 +1,19 @@
 -- How many words a part of the sheet takes, and that it lies inside.
-use Prim.Native.Nat.{ℕ, zero, suc, _+_, _*_, _≤_, _<_}
+use Prim.Native.Nat.{ℕ, zero, suc, _+_, _*_, _≤_}
 use native.Mathlib.Omega.{arith}
 use native.Mathlib.Nat.{mul-zero, mul-suc}
-use mathlib.Core.Path.{_≡_, refl, sym, ap, subst, _∙_}
+use mathlib.Core.Path.{_≡_, refl, sym, subst, _∙_}
 use mathlib.Core.Bool.{Bool, true, false}
 use mathlib.Core.List.{List, [], _∷_}
 use lib.ListN.{length, getD}
-use lib.Dec.{ltb, leb, eqb}
+use lib.Dec.{ltb, leb}
 use borrow.Author.Tests.{ltb-true}
-use Rattle.model.specs.Limits.{mostBlockNumber, mostTraits, mostKind, mostCount}
+use Rattle.model.specs.Limits.{mostBlockNumber, mostTraits, mostKind}
 use Rattle.model.specs.Lists.{pick, among}
-use Rattle.model.specs.Sheet.{BlockId, Place, noPlace, Effect, EffectKind, Operand}
+use Rattle.model.specs.Sheet.{BlockId, Place, noPlace, EffectKind, Operand}
 use Rattle.model.specs.Traits.{effectOf, reactiveOf}
 use Rattle.model.specs.Effects.{kindOf, rowOf, isCreateFunction}
-use Rattle.model.specs.Reading.{Position, Result, got, refused, Read, andThen, _>>=_, pure, refuse, word, count, atMost, below, newNumber, times, numbered}
+use Rattle.model.specs.Reading.{Position, got, refused, Read, _>>=_, pure, refuse, word, count, atMost, below, newNumber, times, numbered}
 use Rattle.model.specs.Sections.{place, unused, extra, effect, operand}
 use Rattle.model.proofs.Got.{got-next, not-both, bind-got, times-step, times-done, numbered-step, numbered-done}
 

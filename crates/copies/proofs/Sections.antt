@@ -2,12 +2,12 @@
 use Prim.Native.Nat.{ℕ, _+_, _-_, _*_, _/_}
 use native.Mathlib.Omega.{arith}
 use mathlib.Core.Path.{_≡_, refl, sym, ap, _∙_}
-use mathlib.Core.Bool.{Bool, true, false, _||_}
-use mathlib.Core.List.{List, [], _∷_, _++_, map}
+use mathlib.Core.Bool.{true, false, _||_}
+use mathlib.Core.List.{List, [], _∷_, map}
 use lib.ListN.{length, set}
-use Rattle.model.specs.Lists.{gather, keep, listIf}
+use Rattle.model.specs.Lists.{gather, keep}
 use Rattle.model.specs.Sheet.{Effect, Diagnostic, Instruction, Block, Sheet}
-use Rattle.model.specs.Effects.{Role, Row, rowOf, isRender, isDiagnosis, diagnosticOf}
+use Rattle.model.specs.Effects.{rowOf, isRender, isDiagnosis, diagnosticOf}
 use Rattle.model.specs.Totals.{instructionEffects}
 use Rattle.model.specs.Summary.{errors, copied, recorded}
 use Rattle.model.specs.Answer.{diagnosticWords, effectWords, section}

@@ -5,8 +5,8 @@ use mathlib.Core.List.{List}
 use lib.ListN.{length, getD}
 use lib.Seq.{slice}
 use Rattle.model.specs.Lists.{gather}
-use Rattle.model.specs.Sheet.{InnerFunction, noFunction, FunctionId, Diagnostic}
-use Rattle.model.specs.Reading.{Position, Result, got}
+use Rattle.model.specs.Sheet.{InnerFunction, noFunction}
+use Rattle.model.specs.Reading.{Position, got}
 use Rattle.model.specs.Sections.{innerFunction}
 use Rattle.model.specs.Answer.{functionErrors, diagnosticWords}
 use Rattle.rows.specs.Layout.{FUNCTIONS, HANDED}

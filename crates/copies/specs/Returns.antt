@@ -4,7 +4,7 @@ use mathlib.Core.Path.{_≡_}
 use mathlib.Core.List.{List}
 use lib.ListN.{length, getD}
 use Rattle.model.specs.Sheet.{Identifier, IdentifierType, Place, Sheet}
-use Rattle.model.specs.Reading.{Position, Result, got, times}
+use Rattle.model.specs.Reading.{Position, got, times}
 use Rattle.model.specs.Sections.{identifier}
 use Rattle.model.specs.Summary.{noIdentifier, createReturns}
 use Rattle.model.specs.Answer.{effectWords}

@@ -4,7 +4,7 @@ use mathlib.Core.Bool.{Bool, _||_}
 use mathlib.Core.List.{List}
 use Rattle.model.specs.Lists.{gather, listIf}
 use Rattle.model.specs.Sheet.{Effect, Instruction, Block}
-use Rattle.model.specs.Effects.{Role, Row, rowOf, isRender, isDiagnosis, diagnosticOf}
+use Rattle.model.specs.Effects.{Role, rowOf, isRender, isDiagnosis, diagnosticOf}
 use Rattle.model.specs.Answer.{diagnosticWords, effectWords}
 use Rattle.copies.specs.declared.effect_lists.Section.{Section}
 use Rattle.copies.specs.declared.effect_lists.Section.the-variants.{Diagnostics, Effects}

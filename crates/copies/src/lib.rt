@@ -1,6 +1,5 @@
 // What the answer takes over from the sheet: places and effects in words, the effects and the diagnostics of instructions, the diagnostics of inner functions, and Create for returns.
-ghost use mathlib.Core.Path.{_≡_};
-ghost use Prim.Native.Nat.{ℕ, _+_, _≤_};
+ghost use Prim.Native.Nat.{_+_, _≤_};
 ghost use Rattle.model.specs.Answer.{placeWords, effectWords};
 ghost use Rattle.hir.specs.Says.{placeIs, effectIs};
 ghost use Rattle.writing.specs.Wrote.{Wrote, farthest};

@@ -1,6 +1,6 @@
 // Create for returns.
 ghost use mathlib.Core.Path.{_≡_};
-ghost use Prim.Native.Nat.{ℕ, _+_, _≤_, _<_};
+ghost use Prim.Native.Nat.{_+_, _≤_, _<_};
 ghost use Rattle.hir.specs.Numbers.{typeSays, valueNumber};
 ghost use Rattle.model.specs.Summary.{valueKind};
 ghost use Rattle.hir.specs.Says.{placeIs};

@@ -1,6 +1,5 @@
 // The section of diagnostics: those recorded while building, then those handed over by mutations and by renders.
-ghost use mathlib.Core.Path.{_≡_};
-ghost use Prim.Native.Nat.{ℕ, _+_, _≤_};
+ghost use Prim.Native.Nat.{_+_, _≤_};
 ghost use Rattle.model.specs.Sheet.{Sheet};
 ghost use Rattle.rows.specs.Layout.{MUTATIONS};
 ghost use Rattle.rows.specs.Rows.{Indexed};

@@ -5,7 +5,7 @@ use mathlib.Core.Bool.{Bool}
 use mathlib.Core.List.{List, [], _∷_}
 use native.Mathlib.Omega.{arith}
 use lib.Dec.{T, eqb, eqb→eq}
-use lib.ListN.{length, getD, List·getD-eq-default}
+use lib.ListN.{getD, List·getD-eq-default}
 use Rattle.model.specs.Sheet.{Freeze}
 use Rattle.model.specs.Effects.{kinds, kindOf, rowOf, Role as ModelRole, relation, mutation, render, diagnosis, nothing}
 use Rattle.hir.specs.Numbers.{kindSays, kindNumber}

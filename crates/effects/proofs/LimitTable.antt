@@ -5,7 +5,7 @@ use mathlib.Core.Bool.{Bool}
 use mathlib.Core.List.{List, [], _∷_}
 use native.Mathlib.Omega.{arith}
 use lib.Dec.{T, eqb, eqb→eq}
-use lib.ListN.{length, getD}
+use lib.ListN.{getD}
 use Rattle.model.specs.Sheet.{EffectKind, Freeze}
 use Rattle.model.specs.Effects.{kinds, kindOf, rowOf}
 use Rattle.effects.specs.Table.{limitsIn, limitsOf}

@@ -7,7 +7,7 @@ use lib.Dec.{ltb, leb, eqb}
 use Rattle.model.specs.Limits.{mostKind, mostTraits}
 use Rattle.model.specs.Lists.{pick}
 use Rattle.model.specs.Effects.{kindOf, rowOf}
-use Rattle.model.specs.Reading.{Position, Read, andThen, _>>=_, pure}
+use Rattle.model.specs.Reading.{Position, Read, _>>=_, pure}
 use Rattle.model.specs.Sections.{effect}
 
 -- the number of the kind of the effect that stands here

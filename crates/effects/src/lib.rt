@@ -2,7 +2,7 @@
 ghost use Prim.Native.Nat.{_+_, _≤_};
 ghost use mathlib.Core.Path.{_≡_};
 ghost use lib.ListN.{length};
-ghost use Rattle.model.specs.Effects.{kindOf, rowOf};
+ghost use Rattle.model.specs.Effects.{rowOf};
 ghost use Rattle.model.specs.Lists.{pick};
 ghost use Rattle.model.specs.Sections.{extra, effect};
 ghost use Rattle.hir.specs.Numbers.{kindSays};

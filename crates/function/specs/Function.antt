@@ -5,7 +5,7 @@ use mathlib.Core.Bool.{false}
 use mathlib.Core.List.{List, [], _∷_, _++_}
 use lib.ListN.{length}
 use Rattle.model.specs.Sheet.{Sheet}
-use Rattle.model.specs.Reading.{Position, Result, got, times, numbered}
+use Rattle.model.specs.Reading.{Position, got, times, numbered}
 use Rattle.model.specs.Sections.{identifier, block}
 use Rattle.model.specs.Summary.{errors, copied}
 use Rattle.hir.specs.Says.{placeIs}

@@ -10,10 +10,10 @@ use lib.ListN.{length, getD, set, take, drop, length-set}
 use lib.Seq.{getD-set-same, getD-set-other, take-set-le, drop-set-lt}
 use Rattle.model.specs.Limits.{mostInnerDiagnostics}
 use Rattle.model.specs.Sheet.{Diagnostic, InnerFunction, noFunction}
-use Rattle.model.specs.Reading.{Position, Result, got, refused, Read, pure, count, times, counted}
+use Rattle.model.specs.Reading.{Position, got, pure, count, times, counted}
 use Rattle.model.specs.Sections.{diagnostic, innerFunction}
 use Rattle.rows.specs.Layout.{FUNCTIONS, SIMULATED}
-use Rattle.model.proofs.Got.{got-value, got-next, not-both, bind-got, Cons}
+use Rattle.model.proofs.Got.{got-value, got-next, bind-got}
 use Rattle.header.proofs.Turns.{left-step, left-done}
 use Rattle.header.proofs.Within.{function-stays}
 

@@ -1,16 +1,16 @@
 -- A sheet taken apart: the sections up to the inner functions, and the rest.
-use Prim.Native.Nat.{ℕ, _≤_}
-use mathlib.Core.Path.{_≡_, refl, sym, subst, ap, _∙_}
+use Prim.Native.Nat.{ℕ}
+use mathlib.Core.Path.{_≡_, refl, sym, ap, _∙_}
 use mathlib.Core.Bool.{Bool, true, false, _&&_, not}
-use mathlib.Core.List.{List, [], _∷_}
+use mathlib.Core.List.{List, []}
 use lib.ListN.{length}
 use Rattle.model.specs.Limits.{mostIdentifiers, mostFunctions, mostParams, mostContext, returnsCount, mostBlocks}
-use Rattle.model.specs.Sheet.{Flags, Identifier, InnerFunction, Place, Block, Sheet}
-use Rattle.model.specs.Reading.{Position, Result, got, Read, _>>=_, pure, count, fixed, times, numbered, counted}
+use Rattle.model.specs.Sheet.{Flags, Identifier, InnerFunction, Sheet}
+use Rattle.model.specs.Reading.{Position, got, Read, _>>=_, pure, count, fixed, times, numbered, counted}
 use Rattle.model.specs.Sections.{flags, identifier, innerFunction, place, block, sheet}
 use Rattle.model.proofs.ReadLaws.{Reads, pure-reads, any-reads, bind-reads, times-length}
 use Rattle.header.specs.Read.{afterFunctions}
-use Rattle.model.proofs.Got.{got-value, got-next, bind-got}
+use Rattle.model.proofs.Got.{bind-got}
 
 -- a section's count, and its parts
 pub record Counted {A : Type 0} (most : ℕ) (f : Read A) (ws : List ℕ) (c : Position) (l : List A) (d : Position) : Type 0 where

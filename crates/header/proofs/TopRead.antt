@@ -1,14 +1,13 @@
 -- What the calls of `read_top` read is what the sheet's own sections are.
-use Prim.Native.Nat.{ℕ, _+_, _<_, _≤_}
-use mathlib.Core.Path.{_≡_, refl, sym, subst, ap, _∙_}
+use Prim.Native.Nat.{ℕ, _≤_}
+use mathlib.Core.Path.{_≡_, sym, subst, ap, _∙_}
 use mathlib.Core.Bool.{Bool, _&&_, not}
-use mathlib.Core.List.{List, [], _∷_, map}
+use mathlib.Core.List.{List, map}
 use native.Mathlib.Omega.{arith}
-use lib.ListN.{length, getD, take, drop, length-map}
-use lib.Seq.{sets}
+use lib.ListN.{length, take, drop, length-map}
 use Rattle.model.specs.Limits.{mostIdentifiers, mostFunctions}
-use Rattle.model.specs.Sheet.{Flags, Identifier, InnerFunction, noFunction, Sheet}
-use Rattle.model.specs.Reading.{Position, Result, got, refused, count, times}
+use Rattle.model.specs.Sheet.{Flags, Identifier, Sheet}
+use Rattle.model.specs.Reading.{Position, got, refused, count, times}
 use Rattle.model.specs.Sections.{flags, identifier, innerFunction, sheet}
 use Rattle.model.proofs.ReadLaws.{count-reads}
 use Rattle.hir.specs.declared.Cursor.{Cursor}
@@ -17,9 +16,8 @@ use Rattle.rows.proofs.Parts.{drop-sets}
 use Rattle.header.specs.Read.{Ends, Functions, afterFunctions, Tops}
 use Rattle.header.specs.declared.Next.{Next}
 use Rattle.header.specs.declared.Next.the-variants.{At, Refused}
-use Rattle.header.specs.declared.Top.{Top}
 use Rattle.model.proofs.Got.{got-value, got-next, not-both}
-use Rattle.header.proofs.SheetTop.{Counted, Parts, top-got}
+use Rattle.header.proofs.SheetTop.{Counted, top-got}
 
 -- the count and the parts of a section, where the count was read before
 counted-at : {A : Type 0} {most : ℕ} {f : _} {ws : List ℕ} {a b : Position} {l : List A} {d : Position} {n : ℕ} {c : Position} → Counted most f ws a l d → a ≡ b → count most ws b ≡ got n c

@@ -1,9 +1,9 @@
 -- A part read k times, at a number of turns that are left.
-use Prim.Native.Nat.{ℕ, zero, suc, _+_, _-_, _<_, _≤_}
+use Prim.Native.Nat.{ℕ, _+_, _-_, _<_, _≤_}
 use native.Mathlib.Omega.{arith}
 use mathlib.Core.Path.{_≡_, subst}
-use mathlib.Core.List.{List, [], _∷_}
-use Rattle.model.specs.Reading.{Position, Result, got, Read, times}
+use mathlib.Core.List.{List, []}
+use Rattle.model.specs.Reading.{Position, got, Read, times}
 use Rattle.model.proofs.Got.{Cons, times-step, times-done}
 
 module _ {A : Type 0} where

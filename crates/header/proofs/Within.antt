@@ -1,7 +1,7 @@
 -- Reading never goes past the sheet's end: the position after a part that was read is within the sheet.
 use Prim.Native.Nat.{ℕ, zero, suc, _+_, _<_, _≤_}
 use native.Mathlib.Omega.{arith}
-use mathlib.Core.Path.{_≡_, refl, sym, subst, ap, _∙_}
+use mathlib.Core.Path.{_≡_, refl, subst}
 use mathlib.Core.Bool.{Bool, true, false}
 use mathlib.Core.List.{List, [], _∷_}
 use lib.ListN.{length, getD}
@@ -9,10 +9,9 @@ use lib.Dec.{ltb, leb}
 use borrow.Author.Tests.{ltb-true}
 use Rattle.model.specs.Limits.{mostInnerDiagnostics, mostDiagnostic}
 use Rattle.model.specs.Lists.{pick}
-use Rattle.model.specs.Sheet.{InnerFunction}
-use Rattle.model.specs.Reading.{Position, Result, got, refused, Read, _>>=_, pure, refuse, word, count, atMost, times, counted}
+use Rattle.model.specs.Reading.{Position, got, refused, Read, _>>=_, pure, refuse, word, count, atMost, times, counted}
 use Rattle.model.specs.Sections.{diagnostic, innerFunction}
-use Rattle.model.proofs.Got.{got-next, not-both, Both, bind-got}
+use Rattle.model.proofs.Got.{got-next, not-both, bind-got}
 
 -- from within the sheet, the part leads to within the sheet
 abbrev pub Stays : {A : Type 0} → Read A → Type 0

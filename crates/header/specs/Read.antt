@@ -6,7 +6,7 @@ use lib.ListN.{length, getD, take, drop}
 use lib.Seq.{sets}
 use Rattle.model.specs.Limits.{mostIdentifiers, mostParams, mostContext, returnsCount, mostBlocks}
 use Rattle.model.specs.Sheet.{Flags, Identifier, InnerFunction, noFunction, Sheet}
-use Rattle.model.specs.Reading.{Position, Result, got, Read, andThen, _>>=_, pure, count, fixed, times, numbered, counted}
+use Rattle.model.specs.Reading.{Position, got, Read, _>>=_, pure, count, fixed, times, numbered, counted}
 use Rattle.model.specs.Sections.{identifier, innerFunction, place, block}
 use Rattle.model.specs.Sections.{sheet as sheetReader}
 use Rattle.model.specs.Summary.{errors}

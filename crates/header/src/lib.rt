@@ -7,7 +7,7 @@ use rows::END;
 use rows::FUNCTIONS;
 ghost use mathlib.Core.Path.{_≡_};
 ghost use mathlib.Core.Bool.{_&&_, not};
-ghost use Prim.Native.Nat.{ℕ, _+_, _≤_, _<_};
+ghost use Prim.Native.Nat.{_+_, _≤_, _<_};
 ghost use lib.ListN.{length};
 ghost use Rattle.model.specs.Reading.{times};
 ghost use Rattle.model.specs.Sections.{diagnostic, innerFunction};

@@ -1,7 +1,5 @@
 -- The code's effect kinds by their numbers: a row of the table is known by its number.
-use Prim.Native.Nat.{ℕ}
-use mathlib.Core.Path.{_≡_, _∙_, refl, ap, sym}
-use Rattle.model.specs.Sheet.{EffectKind, Freeze, Mutate, MutateConditionally, MutateTransitive, MutateTransitiveConditionally, Capture, Alias, MaybeAlias, Assign, Create, CreateFrom, ImmutableCapture, Apply, CreateFunction, MutateFrozen, MutateGlobal, Impure, Render}
+use mathlib.Core.Path.{_≡_, refl}
 use Rattle.model.specs.Effects.{kindOf, rowOf}
 use Rattle.hir.specs.Numbers.{kindSays, kindNumber}
 use Rattle.hir.specs.declared.EffectKind.{EffectKind as Kind}

@@ -1,14 +1,13 @@
 -- What a number that was read is known to be.
 use Prim.Native.Nat.{ℕ, zero, suc, _≤_, _<_}
-use mathlib.Core.Path.{_≡_, refl, sym}
-use mathlib.Core.Bool.{Bool}
+use mathlib.Core.Path.{_≡_, refl}
 use mathlib.Core.List.{List, [], _∷_}
-use lib.Dec.{T, leb, eqb, eqb→eq}
+use lib.Dec.{leb, eqb, eqb→eq}
 use lib.ListN.{getD}
 use borrow.Author.Tests.{leb-true}
 use Rattle.model.specs.Lists.{pick}
 use Rattle.model.specs.Sheet.{other}
-use Rattle.model.specs.Reading.{Position, Result, got, Read, pure, refuse, word, atMost}
+use Rattle.model.specs.Reading.{pure, refuse, word, atMost}
 use Rattle.model.specs.Sections.{typeOf}
 use Rattle.model.proofs.ReadLaws.{Reads, pure-reads, refuse-reads, pick-reads, any-reads, bind-reads}
 use Rattle.hir.specs.Numbers.{effectNumber}

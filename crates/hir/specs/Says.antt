@@ -1,5 +1,5 @@
 -- What each answer of a reader says: the value as the definitions have it with the next position, or the refusal's number.
-use Prim.Native.Nat.{ℕ, _+_}
+use Prim.Native.Nat.{ℕ}
 use mathlib.Core.Bool.{Bool}
 use Rattle.model.specs.Lists.{pick}
 use Rattle.model.specs.Sheet.{Place as ModelPlace, Effect as ModelEffect, Flags as ModelFlags, Identifier as ModelIdentifier, EvaluationOrder as ModelOrder, BlockId as ModelBlock}

@@ -1,37 +1,34 @@
 -- The sections of an answer, one after another.
-use Prim.Native.Nat.{ℕ, zero, suc, _+_, _*_, _≤_, _<_}
+use Prim.Native.Nat.{ℕ, _+_, _*_, _≤_, _<_}
 use native.Mathlib.Omega.{arith}
-use mathlib.Core.Path.{_≡_, refl, sym, subst, ap, _∙_}
+use mathlib.Core.Path.{_≡_, refl, sym, ap, _∙_}
 use mathlib.Core.List.{List, [], _∷_, _++_, map, append-assoc}
 use lib.ListN.{length, getD}
 use lib.Seq.{slice, slice-empty}
 use Rattle.model.specs.Lists.{listIf}
 use Rattle.model.specs.Sheet.{Sheet, Place}
-use Rattle.model.specs.Reading.{Position, got, times}
 use Rattle.model.specs.Mutation.{Mutation, RenderOf}
-use Rattle.model.specs.State.{State, Record, Mode, real}
+use Rattle.model.specs.State.{State, real}
 use Rattle.model.specs.Walks.{Walk}
 use Rattle.model.specs.Renders.{renderWalk}
 use Rattle.model.specs.Runs.{walksOf, after, rendered}
 use Rattle.model.specs.Building.{build}
 use Rattle.model.specs.Summary.{errors, built, realWalks, afterReal, afterRenders, marked}
-use Rattle.model.specs.Simulated.{Simulated, simulate}
-use Rattle.model.specs.Answer.{rangesOf, rangeWords, placeWords, diagnosticWords, effectWords, countWords, section, diagnosed, summary, Answer, answer, answerWords}
+use Rattle.model.specs.Simulated.{simulate}
+use Rattle.model.specs.Answer.{rangesOf, rangeWords, placeWords, diagnosticWords, effectWords, countWords, section, diagnosed, summary, answer, answerWords}
 use Rattle.model.proofs.Quiet.{final-ends, quiet}
 use Rattle.model.proofs.Handed.{withHanded}
 use Rattle.model.proofs.Rendering.{render-leaves}
 use Rattle.rows.specs.Layout.{HANDED, MUTATIONS, RENDERS, SIMULATED, FUNCTIONS}
-use Rattle.rows.specs.Rows.{Indexed, rowsOf}
-use Rattle.rows.specs.Graph.{tab, graphOfRows}
+use Rattle.rows.specs.Rows.{Indexed}
+use Rattle.rows.specs.Graph.{graphOfRows}
 use Rattle.rows.specs.Pending.{mutationsOf, rendersOf}
 use Rattle.rows.proofs.Parts.{drop-more, drop-word, slice-at}
 use Rattle.rows.proofs.Pending.{renders-kept}
 use Rattle.rows.proofs.Tables.{tab-same}
 use Rattle.building.specs.declared.Building.{Building}
-use Rattle.building.specs.Built.{indexOf}
-use Rattle.aliasing.specs.State.{nodesOf, recordsOf, endsOf, stateOf, Handing}
+use Rattle.aliasing.specs.State.{nodesOf, recordsOf, endsOf, stateOf}
 use Rattle.aliasing.specs.Pending.{takenOf, Processed}
-use Rattle.aliasing.specs.Walks.{Aside}
 use Rattle.aliasing.proofs.Walks.{indexed-after}
 use Rattle.renders.specs.Renders.{Unmoved}
 use Rattle.writing.specs.Wrote.{Wrote}
@@ -40,7 +37,6 @@ use Rattle.summary.specs.Records.{Holds}
 use Rattle.summary.specs.Ranges.{Ranges}
 use Rattle.summary.specs.Tracked.{trackedFrom}
 use Rattle.summary.specs.Sections.{Marked, simulatedOf}
-use Rattle.summary.proofs.Held.{held}
 use Rattle.summary.proofs.Places.{map-append}
 use Rattle.summary.proofs.Whole.{params-tracked, context-tracked}
 use Rattle.summary.proofs.Rooms.{ranges-next, marked-next}

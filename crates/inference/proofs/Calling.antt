@@ -1,24 +1,24 @@
 -- The call by its verdict: refusal 1, a refusal of the reading, or the answer of the sheet.
 use Prim.Native.Nat.{ℕ, _≤_, _<_}
-use mathlib.Core.Path.{_≡_, refl, sym, subst, ap, _∙_}
+use mathlib.Core.Path.{_≡_, refl, sym, ap, _∙_}
 use native.Mathlib.Omega.{arith}
 use mathlib.Core.Bool.{Bool, true, false, false≢true, _||_}
 use mathlib.Core.List.{List}
 use lib.ListN.{length}
 use lib.Dec.{ltb}
 use borrow.Author.Tests.{lt-ltb, le-ltb, ltb-false}
-use Rattle.model.specs.Limits.{leastWorkspace, mostSheet}
+use Rattle.model.specs.Limits.{mostSheet}
 use Rattle.model.specs.Lists.{pick}
 use Rattle.model.specs.Sheet.{Sheet}
-use Rattle.model.specs.Reading.{Position, Result, got, refused}
+use Rattle.model.specs.Reading.{got, refused}
 use Rattle.model.specs.Sections.{sheet as sheetReader}
 use Rattle.model.specs.Totals.{judged}
 use Rattle.model.specs.Answer.{answer, answerWords}
-use Rattle.model.specs.Call.{Outcome as TheOutcome, refusal, ended, read, IsSheet, fits, answered, outcome}
+use Rattle.model.specs.Call.{refusal, ended, read, IsSheet, fits, answered, outcome}
 use Rattle.model.proofs.ReadLaws.{isGot}
 use Rattle.model.proofs.Either.{or-left, or-right}
 use Rattle.blocks.specs.Judging.{Told}
-use Rattle.reading.specs.Whole.{Judgement, acceptance, judgementOf}
+use Rattle.reading.specs.Whole.{acceptance, judgementOf}
 use Rattle.reading.specs.Whole.{refusal as noSheet}
 use Rattle.reading.proofs.Accepted.{accepted-sheet, refused-sheet}
 use Rattle.reading.proofs.CopiedLaws.{accepted-copies}

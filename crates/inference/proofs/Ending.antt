@@ -1,21 +1,20 @@
 -- What is left in both buffers at the end of a call.
-use Prim.Native.Nat.{ℕ, zero, suc, _+_, _-_, _≤_, _<_}
+use Prim.Native.Nat.{ℕ, _+_, _-_, _≤_, _<_}
 use native.Mathlib.Omega.{arith}
 use mathlib.Core.Path.{_≡_, refl, sym, subst, ap, _∙_}
-use mathlib.Core.Bool.{Bool, true, false}
-use mathlib.Core.List.{List, [], _++_, append-nil}
+use mathlib.Core.Bool.{true, false}
+use mathlib.Core.List.{List, _++_, append-nil}
 use lib.ListN.{length, drop, replicate, length-replicate}
 use lib.Seq.{sets, sets-eq, length-sets, drop-length}
 use lib.Dec.{ltb}
 use borrow.Author.Tests.{lt-ltb, le-ltb}
-use Rattle.model.specs.Lists.{pick}
 use Rattle.model.specs.Call.{Outcome as TheOutcome, refusal, accepted, fits, answerAfter, workspaceAfter}
 use Rattle.rows.specs.Sort.{clearW}
 use Rattle.writing.specs.Wrote.{Wrote}
 use Rattle.writing.proofs.Writing.{filled}
 use Rattle.inference.specs.declared.Outcome.{Outcome}
 use Rattle.inference.specs.declared.Outcome.the-variants.{Refused, Accepted}
-use Rattle.inference.specs.Outcome.{Returned, number, length as inLength, returnedBy, Came}
+use Rattle.inference.specs.Outcome.{length as inLength, returnedBy, Came}
 
 pub came-as : {o o′ : TheOutcome} {ws ans : List ℕ} {r : Outcome} {ws′ ans′ : List ℕ} → o ≡ o′ → Came o ws ans r ws′ ans′ → Came o′ ws ans r ws′ ans′
 came-as {o} {o′} {ws} {ans} {r} {ws′} {ans′} e c = subst (λ (x : TheOutcome). Came x ws ans r ws′ ans′) e c

@@ -4,13 +4,13 @@ use native.Mathlib.Omega.{arith}
 use native.Mathlib.Decide.{decLt}
 use mathlib.Core.Path.{_≡_, refl, sym, ap, subst, _∙_}
 use mathlib.Core.List.{List}
-use lib.ListN.{length, getD, set, take, drop, length-set}
+use lib.ListN.{length, getD, set, length-set}
 use lib.Seq.{getD-take, getD-set-same, getD-set-other, drop-set-lt}
 use lib.Dec.{ltb}
 use borrow.Author.Tests.{lt-ltb, le-ltb}
 use Rattle.model.specs.Lists.{pick}
-use Rattle.rows.specs.Layout.{LEAST, RECORD, KEPT, END, SEEN}
-use Rattle.rows.specs.Rows.{rowsOf, limit, Good, Indexed, Kept}
+use Rattle.rows.specs.Layout.{LEAST, RECORD, KEPT, END}
+use Rattle.rows.specs.Rows.{limit, Indexed, Kept}
 use Rattle.rows.specs.Sort.{clearW}
 use Rattle.rows.proofs.Parts.{drop-more, drop-word, take-word}
 use Rattle.rows.proofs.Rows.{limit-at}

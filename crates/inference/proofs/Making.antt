@@ -8,7 +8,7 @@ use lib.ListN.{length}
 use Rattle.model.specs.Lists.{each}
 use Rattle.model.specs.Sheet.{Place, Sheet}
 use Rattle.model.specs.Totals.{totals, over}
-use Rattle.model.specs.Reading.{Position, Result, got, numbered}
+use Rattle.model.specs.Reading.{Position, got, numbered}
 use Rattle.model.specs.Sections.{block}
 use Rattle.model.specs.Sections.{sheet as sheetReader}
 use Rattle.model.specs.Building.{block as blockStep}
@@ -18,7 +18,7 @@ use Rattle.model.proofs.WhenRead.{read-got}
 use Rattle.hir.specs.Says.{placeIs}
 use Rattle.rows.specs.Layout.{LEAST}
 use Rattle.building.specs.declared.Building.{Building}
-use Rattle.building.specs.Built.{LaysOut, Sound}
+use Rattle.building.specs.Built.{LaysOut}
 use Rattle.instructions.specs.declared.BuildStep.{BuildStep}
 use Rattle.instructions.specs.declared.BuildStep.the-variants.{Got as GotBlocks, Refused as NoBlocks}
 use Rattle.instructions.specs.Cost.{costs}

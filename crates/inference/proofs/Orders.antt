@@ -1,9 +1,8 @@
 -- Every mutation of a sheet that was read has an instruction's order, at most 999,999.
-use Prim.Native.Nat.{ℕ, zero, suc, _≤_}
-use mathlib.Core.Path.{_≡_, refl, subst, ap}
+use Prim.Native.Nat.{ℕ, _≤_}
+use mathlib.Core.Path.{_≡_}
 use mathlib.Core.Bool.{Bool, true, false}
-use mathlib.Core.List.{List, [], _∷_, _++_, List·Memᴰ}
-use mathlib.Core.Option.{Option}
+use mathlib.Core.List.{List, [], _∷_, _++_}
 use lib.ListN.{length}
 use lib.Dec.{leb}
 use borrow.Author.Tests.{leb-true}
@@ -11,9 +10,9 @@ use Rattle.model.specs.Limits.{mostIdentifiers, mostFunctions, mostParams, most
 use Rattle.model.specs.Lists.{pick, each, among, keep, Every}
 use Rattle.model.specs.Sheet.{BlockId, EvaluationOrder, Place, EffectKind, Freeze, Mutate, MutateConditionally, MutateTransitive, MutateTransitiveConditionally, Capture, Alias, MaybeAlias, Assign, Create, CreateFrom, ImmutableCapture, Apply, CreateFunction, MutateFrozen, MutateGlobal, Impure, Render, Effect, Operand, Phi, Instruction, Terminal, Other, Return, MaybeThrow, Block, Sheet}
 use Rattle.model.specs.Effects.{isAlias}
-use Rattle.model.specs.Reading.{Position, Result, got, refused, Read, andThen, _>>=_, pure, refuse, word, count, fixed, atMost, numbered, counted}
+use Rattle.model.specs.Reading.{Position, got, Read, _>>=_, pure, refuse, word, count, fixed, atMost, numbered, counted}
 use Rattle.model.specs.Sections.{flags, identifier, innerFunction, place, effects, phi, instruction, terminal, block, sheet}
-use Rattle.model.specs.Mutation.{Kind, Reason, Mutation}
+use Rattle.model.specs.Mutation.{Mutation}
 use Rattle.model.specs.Graph.{intoAliases, relate}
 use Rattle.model.specs.Built.{Waiting, Built, changed, between}
 use Rattle.model.specs.Building.{instructionEffect, operand, phiNode, wake, waitingFor, stillWaiting, terminalEffect, build}

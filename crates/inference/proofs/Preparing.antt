@@ -26,7 +26,7 @@ use Rattle.rows.proofs.Tables.{tab-length, tab-at}
 use Rattle.rows.proofs.Pending.{mutations-kept, renders-kept}
 use Rattle.building.specs.declared.Building.{Building}
 use Rattle.building.specs.Built.{indexOf, builtOf, LaysOut}
-use Rattle.aliasing.specs.State.{nodesOf, fieldAt, endsOf, stateOf}
+use Rattle.aliasing.specs.State.{nodesOf, fieldAt, endsOf}
 use Rattle.aliasing.proofs.New.{state-new}
 use Rattle.aliasing.proofs.Parts.{rows-above}
 use Rattle.aliasing.proofs.Walks.{indexed-after}

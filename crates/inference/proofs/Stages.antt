@@ -4,7 +4,6 @@ use native.Mathlib.Omega.{arith}
 use mathlib.Core.Path.{_≡_, _∙_}
 use mathlib.Core.Bool.{Bool}
 use mathlib.Core.List.{List, _++_}
-use lib.ListN.{length}
 use Rattle.model.specs.Sheet.{Sheet}
 use Rattle.model.specs.Answer.{countWords, section}
 use Rattle.rows.specs.Layout.{MUTATIONS}

@@ -1,6 +1,6 @@
 // The port of `infer_mutation_aliasing_ranges` up to its second loop over the blocks, and of its Part 3.
 ghost use mathlib.Core.Path.{_≡_};
-ghost use Prim.Native.Nat.{ℕ, _≤_, max};
+ghost use Prim.Native.Nat.{_≤_, max};
 ghost use lib.ListN.{length};
 ghost use Rattle.rows.specs.Rows.{Indexed};
 ghost use Rattle.model.specs.Sheet.{Sheet};

@@ -1,16 +1,15 @@
 -- What building counts: the running index after building is the number of relation effects, mutations and renders, and as many mutations and renders are left for the walks as the sheet has.
-use Prim.Native.Nat.{ℕ, zero, suc, _+_, _≤_}
+use Prim.Native.Nat.{ℕ, _+_}
 use native.Mathlib.Omega.{arith}
-use mathlib.Core.Path.{_≡_, refl, sym, ap, _∙_}
+use mathlib.Core.Path.{_≡_, refl, _∙_}
 use mathlib.Core.Bool.{Bool, true, false}
 use mathlib.Core.List.{List, [], _∷_, _++_}
 use lib.ListN.{length, length-append}
 use Rattle.model.specs.Lists.{pick, keep, each, among, tally, oneIf}
-use Rattle.model.specs.Sheet.{Place, EffectKind, Freeze, Mutate, MutateConditionally, MutateTransitive, MutateTransitiveConditionally, Capture, Alias, MaybeAlias, Assign, Create, CreateFrom, ImmutableCapture, Apply, CreateFunction, MutateFrozen, MutateGlobal, Impure, Render, Effect, EffectList, Operand, Phi, Instruction, Terminal, Other, Return, MaybeThrow, Block, Sheet}
+use Rattle.model.specs.Sheet.{Place, EffectKind, Freeze, Mutate, MutateConditionally, MutateTransitive, MutateTransitiveConditionally, Capture, Alias, MaybeAlias, Assign, Create, CreateFrom, ImmutableCapture, Apply, CreateFunction, MutateFrozen, MutateGlobal, Impure, Render, Effect, Operand, Phi, Instruction, Terminal, Other, Return, MaybeThrow, Block, Sheet}
 use Rattle.model.specs.Effects.{Role, rowOf, isAlias, isRelation, isMutation, isRender}
-use Rattle.model.specs.Totals.{withRole, aliasesIn, terminalRelations, blockRelations, totals}
+use Rattle.model.specs.Totals.{withRole, terminalRelations, blockRelations, totals}
 use Rattle.model.specs.Graph.{Graph, phi, create, intoAliases, relate}
-use Rattle.model.specs.Mutation.{Mutation, RenderOf}
 use Rattle.model.specs.Built.{Built, Waiting, related, changed, waits, comes, between}
 use Rattle.model.specs.Building.{instructionEffect, instruction, operand, phiNode, waitingFor, stillWaiting, wake, terminalEffect, terminal, block, firstNodes, build}
 

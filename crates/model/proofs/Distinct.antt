@@ -1,15 +1,15 @@
 -- An accepted sheet uses no block number twice, and no phi of it names one predecessor twice.
 use Prim.Native.Nat.{ℕ, zero, suc}
-use mathlib.Core.Path.{_≡_, refl, sym, subst, ap, _∙_}
-use mathlib.Core.Bool.{Bool, true, false, _||_, true≢false}
+use mathlib.Core.Path.{_≡_, refl, sym}
+use mathlib.Core.Bool.{false}
 use mathlib.Core.List.{List, [], _∷_, map}
 use lib.ListN.{length}
 use lib.Dec.{eqb}
 use borrow.Author.Tests.{eqb-false, ne-eqb}
-use Rattle.model.specs.Limits.{flagCount, mostIdentifiers, mostFunctions, mostParams, mostContext, returnsCount, mostBlocks, mostBlockNumber, mostCount}
-use Rattle.model.specs.Lists.{pick, among, Every}
-use Rattle.model.specs.Sheet.{BlockId, Operand, Phi, Instruction, Terminal, Block, Sheet}
-use Rattle.model.specs.Reading.{Position, Result, got, Read, _>>=_, pure, refuse, count, fixed, atMost, newNumber, numbered, counted}
+use Rattle.model.specs.Limits.{mostIdentifiers, mostFunctions, mostParams, mostContext, returnsCount, mostBlocks, mostBlockNumber, mostCount}
+use Rattle.model.specs.Lists.{among, Every}
+use Rattle.model.specs.Sheet.{BlockId, Operand, Block}
+use Rattle.model.specs.Reading.{Read, _>>=_, pure, refuse, count, fixed, atMost, newNumber, numbered, counted}
 use Rattle.model.specs.Sections.{flags, identifier, innerFunction, place, operand, phi, instruction, terminal, block, sheet}
 use Rattle.model.specs.Distinct.{Distinct, PhiDistinct, SheetDistinct}
 use Rattle.model.proofs.Either.{or-left, or-right}

@@ -1,19 +1,19 @@
 -- An accepted sheet's tree has every identifier below N and every inner function below their count.
 use Prim.Native.Nat.{ℕ, zero, suc, _≤_, _<_}
 use native.Mathlib.Omega.{arith}
-use mathlib.Core.Path.{_≡_, refl, sym, subst, ap, _∙_}
-use mathlib.Core.Bool.{Bool, true, false, false≢true, true≢false}
-use mathlib.Core.List.{List, [], _∷_}
-use lib.ListN.{length, getD}
-use lib.Dec.{ltb, leb, eqb}
-use Rattle.model.specs.Limits.{flagCount, mostIdentifiers, mostFunctions, mostParams, mostContext, returnsCount, mostBlocks, mostCount, mostOrder, mostTerminal, mostTraits, mostKind}
+use mathlib.Core.Path.{_≡_, sym, _∙_}
+use mathlib.Core.Bool.{Bool, true, false, true≢false}
+use mathlib.Core.List.{List, []}
+use lib.ListN.{length}
+use lib.Dec.{leb}
+use Rattle.model.specs.Limits.{mostIdentifiers, mostFunctions, mostParams, mostContext, returnsCount, mostBlocks, mostCount, mostOrder, mostTerminal, mostTraits, mostKind}
 use Rattle.model.specs.Lists.{pick, Every}
-use Rattle.model.specs.Sheet.{Flags, Identifier, InnerFunction, BlockId, Place, noPlace, EffectKind, Effect, Operand, Phi, Instruction, Terminal, Other, Return, MaybeThrow, Block, Sheet}
+use Rattle.model.specs.Sheet.{Identifier, InnerFunction, BlockId, Place, noPlace, EffectKind, Operand, Instruction, Other, Return, MaybeThrow}
 use Rattle.model.specs.Effects.{kindOf, rowOf, isCreateFunction}
-use Rattle.model.specs.Reading.{Position, Result, got, refused, Read, andThen, _>>=_, pure, refuse, word, count, fixed, atMost, below, newNumber, times, numbered, counted}
+use Rattle.model.specs.Reading.{Read, _>>=_, pure, word, count, fixed, atMost, below, numbered, counted}
 use Rattle.model.specs.Sections.{flags, identifier, innerFunction, place, unused, extra, effect, effects, operand, phi, instruction, terminalOf, terminal, block, sheet}
 use Rattle.model.specs.Ranges.{PlaceBelow, EffectBelow, PhiBelow, TerminalBelow, BlockBelow, SheetBelow}
-use Rattle.model.proofs.ReadLaws.{Reads, pure-reads, refuse-reads, pick-reads, both-reads, any-reads, bind-reads, below-reads, times-reads, numbered-reads, counted-reads, counted-length}
+use Rattle.model.proofs.ReadLaws.{Reads, pure-reads, pick-reads, both-reads, any-reads, bind-reads, below-reads, numbered-reads, counted-reads, counted-length}
 
 -- a word of which nothing is asked
 then-reads : {A B : Type 0} (m : Read A) (f : A → Read B) (Q : B → Type 0) → ((a : A) → Reads (f a) Q) → Reads (m >>= f) Q

@@ -1,18 +1,18 @@
 -- The built graph stores nothing twice: whatever indexes weigh, the stored forward edges (entries), waiting operands, mutations and renders weigh at most what the indexes given so far do.
-use Prim.Native.Nat.{ℕ, zero, suc, _+_, _≤_, _<_}
+use Prim.Native.Nat.{ℕ, zero, suc, _+_, _≤_}
 use native.Mathlib.Omega.{arith}
-use mathlib.Core.Path.{_≡_, refl, sym, ap, _∙_}
+use mathlib.Core.Path.{_≡_, refl, ap}
 use mathlib.Core.Bool.{Bool, true, false, _&&_, not}
-use mathlib.Core.List.{List, [], _∷_, _++_, List·Memᴰ}
+use mathlib.Core.List.{List, [], _∷_, _++_}
 use mathlib.Core.Option.{Option, none, some}
-use lib.ListN.{length, getD, set, replicate}
+use lib.ListN.{getD, set}
 use Rattle.model.specs.Limits.{mostIdentifiers}
 use Rattle.model.specs.Lists.{pick, keep, consIf, each, among, tally, mapOption}
 use Rattle.model.specs.Sheet.{IdentifierId, Place, EffectKind, Freeze, Mutate, MutateConditionally, MutateTransitive, MutateTransitiveConditionally, Capture, Alias, MaybeAlias, Assign, Create, CreateFrom, ImmutableCapture, Apply, CreateFunction, MutateFrozen, MutateGlobal, Impure, Render, Effect, Operand, Phi, Instruction, Terminal, Other, Return, MaybeThrow, Block, Sheet}
 use Rattle.model.specs.Effects.{isAlias}
 use Rattle.model.specs.Graph.{Value, object, phi, function, edgeKind, Edge, Entry, Node, Graph, nodeAt, hasNode, newNode, create, Relation, intoAliases, intoMaybeAliases, intoCaptures, intoCreatedFrom, keepsFrom, enter, withEdge, withEntry, change, store, relate, assign, createFrom}
 use Rattle.model.specs.Mutation.{Mutation, RenderOf}
-use Rattle.model.specs.Built.{Built, Waiting, related, changed, waits, mutates, renders, comes, between}
+use Rattle.model.specs.Built.{Built, Waiting, related, changed, waits, renders, comes, between}
 use Rattle.model.specs.Building.{instructionEffect, instruction, operand, phiNode, waitingFor, stillWaiting, wake, terminalEffect, terminal, block, firstPlaces, noNodes, firstNodes, build}
 use Rattle.model.specs.Indexes.{nodeEdgesBy, nodeEntriesBy, edgesBy, entriesBy, walksBy}
 use Rattle.model.proofs.Steady.{each-keeps}

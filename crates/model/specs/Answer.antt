@@ -1,15 +1,14 @@
 -- Document 01, "The answer": "Sections, each after its count of records: ranges (start, end); params; context (places); diagnostics; effects (eight words each); walks".
-use Prim.Native.Nat.{ℕ, zero, suc}
+use Prim.Native.Nat.{ℕ}
 use mathlib.Core.List.{List, [], _∷_, _++_, map}
 use lib.ListN.{length, getD}
 use Rattle.model.specs.Lists.{gather}
 use Rattle.model.specs.Sheet.{EvaluationOrder, FunctionId, Identifier, Diagnostic, InnerFunction, noFunction, Place, Effect, Sheet}
 use Rattle.model.specs.Traits.{traitsWord}
-use Rattle.model.specs.Effects.{Row, rowOf}
-use Rattle.model.specs.State.{State}
+use Rattle.model.specs.Effects.{rowOf}
 use Rattle.model.specs.Walks.{Walk}
 use Rattle.model.specs.Summary.{realWalks, afterRenders, copied, recorded, collectParamEffects, marked, createReturns}
-use Rattle.model.specs.Simulated.{Simulated, simulate}
+use Rattle.model.specs.Simulated.{simulate}
 
 -- a record of the first section
 pub record Range : Type 0 where

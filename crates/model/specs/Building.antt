@@ -1,18 +1,18 @@
 -- Document 01, "Building": the graph, the mutations and the renders of a sheet.
 -- Left out: what is copied and recorded while building, which is a matter of the sheet alone (Summary).
-use Prim.Native.Nat.{ℕ, zero, suc}
+use Prim.Native.Nat.{ℕ}
 use mathlib.Core.Bool.{Bool, true, false, not}
 use mathlib.Core.List.{List, [], _∷_, _++_}
-use mathlib.Core.Option.{Option, none, some}
-use lib.ListN.{length, replicate}
+use mathlib.Core.Option.{none}
+use lib.ListN.{replicate}
 use lib.Dec.{eqb}
 use Rattle.model.specs.Limits.{mostIdentifiers}
 use Rattle.model.specs.Lists.{pick, keep, each, among}
-use Rattle.model.specs.Sheet.{IdentifierId, BlockId, EvaluationOrder, Place, EffectKind, Freeze, Mutate, MutateConditionally, MutateTransitive, MutateTransitiveConditionally, Capture, Alias, MaybeAlias, Assign, Create, CreateFrom, ImmutableCapture, Apply, CreateFunction, MutateFrozen, MutateGlobal, Impure, Render, Effect, Operand, Phi, Instruction, Terminal, Other, Return, MaybeThrow, Block, Sheet}
+use Rattle.model.specs.Sheet.{BlockId, EvaluationOrder, Place, EffectKind, Freeze, Mutate, MutateConditionally, MutateTransitive, MutateTransitiveConditionally, Capture, Alias, MaybeAlias, Assign, Create, CreateFrom, ImmutableCapture, Apply, CreateFunction, MutateFrozen, MutateGlobal, Impure, Render, Effect, Operand, Phi, Instruction, Terminal, Other, Return, MaybeThrow, Block, Sheet}
 use Rattle.model.specs.Effects.{isAlias}
 use Rattle.model.specs.Mutation.{conditional, definite, reasonOf}
-use Rattle.model.specs.Built.{Waiting, Built, changed, related, waits, mutates, renders, comes, between}
-use Rattle.model.specs.Graph.{Value, object, phi, function, Graph, create, Relation, intoAliases, intoMaybeAliases, intoCaptures, relate, assign, createFrom}
+use Rattle.model.specs.Built.{Waiting, Built, changed, waits, mutates, renders, comes, between}
+use Rattle.model.specs.Graph.{object, phi, function, Graph, create, intoAliases, intoMaybeAliases, intoCaptures, relate, assign, createFrom}
 
 -- what an effect of an instruction with this order does, by its kind
 unfoldable pub instructionEffect : EffectKind → EvaluationOrder → Effect → Built → Built

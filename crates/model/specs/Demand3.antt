@@ -1,16 +1,16 @@
 -- The mission's demand 3, as document 01 ("Walks") reads it: one claim about a list of mutations run one after another on the graph as built.
-use Prim.Native.Nat.{ℕ, suc, _≤_, _<_}
+use Prim.Native.Nat.{ℕ, _≤_, _<_}
 use mathlib.Core.Path.{_≡_}
-use mathlib.Core.Bool.{Bool, true, false}
+use mathlib.Core.Bool.{true}
 use mathlib.Core.List.{List, [], _∷_, map}
 use mathlib.Core.Option.{none}
 use lib.ListN.{length, getD, take}
 use Rattle.model.specs.Sheet.{Block, Sheet}
-use Rattle.model.specs.Graph.{Graph, nodeAt}
+use Rattle.model.specs.Graph.{nodeAt}
 use Rattle.model.specs.Mutation.{Mutation}
 use Rattle.model.specs.Building.{build}
 use Rattle.model.specs.State.{State, Mode, real}
-use Rattle.model.specs.Walks.{Walk, mutate}
+use Rattle.model.specs.Walks.{Walk}
 use Rattle.model.specs.Chain.{LeadsTo, LeadsDirectly}
 use Rattle.model.specs.Runs.{walksOf, after, reached, timesAccepted, largestEnd, EachWalk, SameMutations}
 use Rattle.model.specs.Summary.{errors, built}

@@ -1,12 +1,10 @@
 -- Document 01, "Answers and refusals": for each refusal a call that gets it, and the order of two that could both be given.
-use Prim.Native.Nat.{ℕ, _*_}
-use mathlib.Core.Bool.{Bool, true, false, _&&_}
+use Prim.Native.Nat.{ℕ}
+use mathlib.Core.Bool.{Bool, true, _&&_}
 use mathlib.Core.List.{List, [], _∷_, _++_}
 use lib.ListN.{length, replicate}
 use lib.Dec.{eqb}
-use Rattle.model.specs.Limits.{leastWorkspace, mostSheet, mostRenders}
-use Rattle.model.specs.Lists.{gather}
-use Rattle.model.specs.Call.{Outcome, outcome, numberOf}
+use Rattle.model.specs.Call.{outcome, numberOf}
 use Rattle.model.specs.Small.{one, sheet, block}
 use Rattle.model.specs.Table.{case1, answer1, case2}
 

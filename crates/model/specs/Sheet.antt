@@ -3,7 +3,6 @@
 use Prim.Native.Nat.{ℕ}
 use mathlib.Core.Bool.{Bool, false}
 use mathlib.Core.List.{List, []}
-use mathlib.Core.Option.{Option}
 
 -- the Rust's `IdentifierId`, `BlockId`, `FunctionId` and `EvaluationOrder`
 abbrev pub IdentifierId : Type 0

@@ -5,7 +5,7 @@ use mathlib.Core.List.{List, map}
 use lib.ListN.{length, take}
 use lib.Seq.{sets}
 use Rattle.model.specs.Sheet.{Identifier, Sheet}
-use Rattle.model.specs.Reading.{Position, Result, got}
+use Rattle.model.specs.Reading.{Position, got}
 use Rattle.model.specs.Sections.{sheet as sheetReader}
 use Rattle.rows.specs.Layout.{END, SEEN}
 use Rattle.building.specs.declared.Building.{Building}

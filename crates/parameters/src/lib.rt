@@ -1,6 +1,5 @@
 // The sections before the blocks of an accepted sheet, read a second time; parameters, context and returns get their nodes.
-ghost use mathlib.Core.Path.{_≡_};
-ghost use Prim.Native.Nat.{ℕ, _+_, _≤_, _<_};
+ghost use Prim.Native.Nat.{_+_, _≤_, _<_};
 ghost use lib.ListN.{length};
 ghost use Rattle.model.specs.Limits.{mostParams};
 ghost use Rattle.model.specs.Reading.{times, counted};

@@ -4,7 +4,7 @@ use mathlib.Core.Path.{_≡_, _∙_, refl, sym, ap}
 use mathlib.Core.Bool.{Bool, true, false, false≢true}
 use mathlib.Core.List.{List}
 use Rattle.model.specs.Sheet.{Sheet}
-use Rattle.model.specs.Reading.{Position, Result, got, refused}
+use Rattle.model.specs.Reading.{Result, got, refused}
 use Rattle.model.specs.Call.{read, IsSheet}
 use Rattle.blocks.specs.Judging.{Told}
 use Rattle.reading.specs.Whole.{told, Judgement, refusal, acceptance, judgementOf}

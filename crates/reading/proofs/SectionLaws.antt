@@ -1,7 +1,7 @@
 -- A section of which only the length goes on: its count, if all of its parts are read.
-use Prim.Native.Nat.{ℕ, zero, suc, _-_, _≤_, _<_}
-use mathlib.Core.Path.{_≡_, _∙_, refl, sym, ap}
-use mathlib.Core.List.{List, [], _∷_}
+use Prim.Native.Nat.{ℕ, _-_}
+use mathlib.Core.Path.{_≡_, refl}
+use mathlib.Core.List.{List}
 use lib.ListN.{length}
 use Rattle.model.specs.Limits.{mostInnerDiagnostics}
 use Rattle.model.specs.Lists.{each}
@@ -10,7 +10,7 @@ use Rattle.model.specs.Reading.{Position, Result, got, refused, Read, andThen, 
 use Rattle.model.specs.Sections.{diagnostic, innerFunction}
 use Rattle.model.proofs.ReadLaws.{times-length}
 use Rattle.blocks.specs.Judging.{mapResult, judge}
-use Rattle.blocks.proofs.JudgeLaws.{got-judged, refused-judged, then-got, then-refused}
+use Rattle.blocks.proofs.JudgeLaws.{got-judged, refused-judged}
 use Rattle.reading.specs.Whole.{lengthOf, skip}
 
 module _ {A : Type 0} (most : ℕ) (f : Read A) (ws : List ℕ) (c : Position) where

@@ -1,19 +1,18 @@
 -- From the judged sheet to the verdict: 7 if words are left, then 8, else the totals.
 use Prim.Native.Nat.{ℕ, _≤_, _<_}
-use mathlib.Core.Path.{_≡_, _∙_, refl, sym, ap}
-use mathlib.Core.Bool.{Bool, true, false}
+use mathlib.Core.Path.{_≡_, _∙_, sym, ap}
+use mathlib.Core.Bool.{true, false}
 use mathlib.Core.List.{List}
 use lib.ListN.{length}
-use lib.Dec.{ltb}
 use borrow.Author.Tests.{lt-ltb, le-ltb}
 use Rattle.model.specs.Sheet.{Sheet}
-use Rattle.model.specs.Reading.{Position, Result, got, refused}
+use Rattle.model.specs.Reading.{Position, got, refused}
 use Rattle.model.specs.Sections.{sheet}
 use Rattle.model.specs.Totals.{totals, over, judged}
 use Rattle.model.specs.Call.{ended}
 use Rattle.blocks.specs.Judging.{Told, noTotals}
 use Rattle.blocks.proofs.JudgeLaws.{got-judged, refused-judged}
-use Rattle.reading.specs.Whole.{judgedSheet, tellSheet, totalsOf, told, Judgement, refusal, acceptance, judgementOf}
+use Rattle.reading.specs.Whole.{judgedSheet, tellSheet, totalsOf, told, refusal, acceptance, judgementOf}
 use Rattle.reading.proofs.WholeLaws.{sheet-judged}
 use Rattle.reading.proofs.TotalsLaws.{told-over, told-totals}
 

@@ -1,12 +1,12 @@
 -- The judged sheet is the sheet, told.
 use Prim.Native.Nat.{ℕ}
-use mathlib.Core.Path.{_≡_, _∙_, refl, sym}
+use mathlib.Core.Path.{_≡_, refl}
 use mathlib.Core.List.{List, []}
 use lib.ListN.{length}
 use Rattle.model.specs.Limits.{mostIdentifiers, mostFunctions, mostParams, mostContext, returnsCount, mostBlocks}
-use Rattle.model.specs.Reading.{Position, Result, got, refused, Read, andThen, _>>=_, pure, count, fixed, numbered, counted}
+use Rattle.model.specs.Reading.{Position, Result, got, refused, _>>=_, pure, count, fixed, numbered, counted}
 use Rattle.model.specs.Sections.{flags, identifier, innerFunction, place, block, sheet}
-use Rattle.blocks.specs.Judging.{mapResult, judge, noTotals, blocksOf}
+use Rattle.blocks.specs.Judging.{judge, noTotals, blocksOf}
 use Rattle.reading.specs.Whole.{lengthOf, heading, placeLists, judgedSheet, tellSheet}
 
 -- what was read, or refused

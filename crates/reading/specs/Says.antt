@@ -4,7 +4,6 @@ use Rattle.blocks.specs.Says.{totalsAre}
 use Rattle.reading.specs.Whole.{Heading as TheHeading, Judgement, refusal, acceptance}
 use Rattle.reading.specs.declared.CursorStep.{CursorStep}
 use Rattle.reading.specs.declared.CursorStep.the-variants.{Got as GotCursor, Refused as NoCursor}
-use Rattle.reading.specs.declared.Heading.{Heading}
 use Rattle.reading.specs.declared.HeadingStep.{HeadingStep}
 use Rattle.reading.specs.declared.HeadingStep.the-variants.{Got as GotHeading, Refused as NoHeading}
 use Rattle.reading.specs.declared.Verdict.{Verdict}

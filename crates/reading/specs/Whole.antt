@@ -7,7 +7,7 @@ use Rattle.model.specs.Limits.{mostIdentifiers, mostFunctions, mostParams, most
 use Rattle.model.specs.Lists.{each, tally, oneIf}
 use Rattle.model.specs.Sheet.{Place, Block, Sheet}
 use Rattle.model.specs.Effects.{isDiagnosis}
-use Rattle.model.specs.Reading.{Position, Result, got, refused, Read, andThen, _>>=_, pure, fixed, counted}
+use Rattle.model.specs.Reading.{Result, got, refused, Read, _>>=_, pure, fixed, counted}
 use Rattle.model.specs.Sections.{flags, identifier, innerFunction, place}
 use Rattle.model.specs.Totals.{withRole, Totals, totals}
 use Rattle.blocks.specs.Judging.{mapResult, judge, Told, tellBlock, noTotals, blocksOf}

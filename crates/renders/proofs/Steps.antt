@@ -6,8 +6,8 @@ use mathlib.Core.List.{List, [], _∷_, _++_, map, reverseAux}
 use mathlib.Core.Logic.{_⊎_, ⊎-map}
 use mathlib.Core.Option.{none}
 use mathlib.Core.Path.{_≡_, refl, sym, ap, subst, _∙_}
-use lib.ListN.{length, getD, set, take}
-use lib.Seq.{slice, getD-set-other, getD-take}
+use lib.ListN.{length, getD, set}
+use lib.Seq.{slice, getD-set-other}
 use lib.Dec.{eqb}
 use Rattle.model.specs.Graph.{Node, nodeAt}
 use Rattle.model.specs.State.{noRecord, hasRecord, functionOf, State}

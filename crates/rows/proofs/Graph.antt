@@ -1,17 +1,13 @@
 -- The graph that rows hold, node by node.
-use Prim.Native.Nat.{ℕ, zero, suc, _+_, _*_, _≤_, _<_}
-use native.Mathlib.Omega.{arith}
-use mathlib.Core.Bool.{Bool, true, false}
-use mathlib.Core.List.{List, [], _∷_, _++_, map}
-use mathlib.Core.Option.{Option, none, some}
-use mathlib.Core.Path.{_≡_, refl, sym, ap, subst, _∙_}
+use Prim.Native.Nat.{ℕ, _+_, _*_, _<_}
+use mathlib.Core.List.{List}
+use mathlib.Core.Option.{none, some}
+use mathlib.Core.Path.{_≡_, _∙_}
 use lib.ListN.{length, getD}
-use lib.Dec.{eqb}
 use borrow.Author.Tests.{eq-eqb, ne-eqb}
-use Rattle.model.specs.Lists.{pick}
-use Rattle.model.specs.Graph.{Node, Graph, nodeAt}
+use Rattle.model.specs.Graph.{nodeAt}
 use Rattle.rows.specs.Rows.{values, value, rowF, rowB}
-use Rattle.rows.specs.Graph.{ownNode, nodeOf, tab, graphOfRows}
+use Rattle.rows.specs.Graph.{ownNode, nodeOf, graphOfRows}
 use Rattle.rows.proofs.Tables.{tab-length, tab-at}
 
 -- ---- a node by its value and its rows

@@ -4,10 +4,9 @@ use native.Mathlib.Omega.{arith}
 use native.Mathlib.Nat.{add-zero, zero-add, add-suc, suc-add}
 use mathlib.Core.Bool.{Bool, true, false}
 use mathlib.Core.List.{List, [], _∷_, _++_}
-use mathlib.Core.Path.{_≡_, refl, sym, ap, subst, _∙_}
+use mathlib.Core.Path.{_≡_, refl, sym, ap, _∙_}
 use lib.ListN.{length, getD, set, take, drop, length-set, length-append, take-append-drop}
-use lib.Seq.{slice, sets, sets-eq, length-sets, length-slice, length-take-le, take-set-le, take-set-lt, drop-set-lt, drop-set-add, getD-take, getD-drop, take-take, drop-drop, take-at, drop-at, drop-append-le, take-suc-set, ext-getD}
-use lib.Dec.{leb, ltb, eqb}
+use lib.Seq.{slice, sets, sets-eq, length-slice, length-take-le, take-set-le, take-set-lt, drop-set-lt, drop-set-add, getD-take, getD-drop, take-take, drop-drop, take-at, drop-at, drop-append-le, take-suc-set, ext-getD}
 use Rattle.model.specs.Lists.{pick}
 use Rattle.rows.specs.Rows.{Kept}
 

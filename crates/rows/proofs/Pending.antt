@@ -1,15 +1,14 @@
 -- The pending mutations and renders: the next one, one more, and which words they are.
-use Prim.Native.Nat.{ℕ, zero, suc, _+_, _-_, _*_, _/_, _%_, _≤_, _<_}
+use Prim.Native.Nat.{ℕ, _+_, _-_, _*_, _≤_, _<_}
 use native.Mathlib.Omega.{arith}
 use native.Mathlib.Numerals.{add-one}
-use mathlib.Core.Bool.{Bool, true, false}
 use mathlib.Core.List.{List, [], _∷_, _++_}
-use mathlib.Core.Path.{_≡_, refl, sym, ap, subst, _∙_}
-use lib.ListN.{length, getD, set, take, drop}
+use mathlib.Core.Path.{_≡_, ap, _∙_}
+use lib.ListN.{getD, take, drop}
 use Rattle.model.specs.Mutation.{Mutation, RenderOf}
 use Rattle.rows.specs.Layout.{MUTATIONS, RENDERS}
 use Rattle.rows.specs.Graph.{tab}
-use Rattle.rows.specs.Pending.{mutationOf, renderOf, mutationAt, renderAt, mutationsOf, rendersOf}
+use Rattle.rows.specs.Pending.{mutationAt, renderAt, mutationsOf, rendersOf}
 use Rattle.rows.proofs.Parts.{take-word, drop-word}
 use Rattle.rows.proofs.Tables.{tab-same, tab-drop, tab-end}
 

@@ -3,13 +3,13 @@ use Prim.Native.Nat.{ℕ, zero, suc, _+_, _-_, _*_, _≤_, _<_}
 use native.Mathlib.Omega.{arith}
 use native.Mathlib.Nat.{add-assoc}
 use native.Mathlib.Decide.{decLt, ℕ-discrete}
-use mathlib.Core.List.{List, [], _∷_, _++_}
-use mathlib.Core.Path.{_≡_, refl, sym, ap, subst, _∙_}
-use lib.ListN.{length, getD, take, drop, length-take, List·getD-eq-default}
+use mathlib.Core.List.{List}
+use mathlib.Core.Path.{_≡_, sym, ap, _∙_}
+use lib.ListN.{length, getD, take, length-take, List·getD-eq-default}
 use lib.Seq.{slice, length-slice, getD-take}
 use borrow.Author.Tests.{eq-eqb, ne-eqb, lt-ltb, le-ltb}
 use Rattle.rows.specs.Layout.{LEAST, VALUE, FBOUND, FEDGE, BBOUND, BENTRY, NODES, QUEUE}
-use Rattle.rows.specs.Rows.{rowsOf, limit, values, value, usedOf, used, fb, bb, rowF, rowB, Good, Indexed}
+use Rattle.rows.specs.Rows.{rowsOf, limit, values, value, usedOf, used, fb, bb, rowF, rowB, Good}
 use Rattle.rows.specs.Sort.{keyW}
 use Rattle.rows.proofs.Parts.{slice-at, slice-slice}
 

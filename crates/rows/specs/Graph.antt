@@ -5,7 +5,7 @@ use mathlib.Core.Option.{Option, none, some}
 use lib.ListN.{getD}
 use lib.Dec.{eqb}
 use Rattle.model.specs.Lists.{pick}
-use Rattle.model.specs.Graph.{EdgeKind, Value, object, phi, function, Edge, Entry, Node, Graph, Relation, intoCreatedFrom, intoAliases, intoMaybeAliases, intoCaptures, edgeKind}
+use Rattle.model.specs.Graph.{Value, object, phi, function, Edge, Entry, Node, Graph, Relation, intoCreatedFrom, intoAliases, intoMaybeAliases, intoCaptures, edgeKind}
 use Rattle.rows.specs.Rows.{values, rowF, rowB}
 
 -- the list by its number

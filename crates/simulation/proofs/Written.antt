@@ -10,7 +10,7 @@ use Rattle.model.specs.Sheet.{Place, Effect, Sheet}
 use Rattle.model.specs.Reading.{times, numbered}
 use Rattle.model.specs.Sections.{identifier, block}
 use Rattle.model.specs.Summary.{afterRenders, copied, collectParamEffects, createReturns}
-use Rattle.model.specs.Simulated.{Simulated, simulate}
+use Rattle.model.specs.Simulated.{simulate}
 use Rattle.model.specs.Answer.{effectWords, section, summary}
 use Rattle.hir.specs.Says.{placeIs}
 use Rattle.rows.specs.Layout.{HANDED, MUTATIONS, SIMULATED}

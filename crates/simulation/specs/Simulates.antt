@@ -10,7 +10,7 @@ use Rattle.model.specs.Building.{build}
 use Rattle.model.specs.State.{State}
 use Rattle.model.specs.Walks.{Walk}
 use Rattle.model.specs.Summary.{copied, afterRenders}
-use Rattle.model.specs.Simulated.{Simulated, tracked, simulate}
+use Rattle.model.specs.Simulated.{tracked, simulate}
 use Rattle.model.specs.Answer.{effectWords, section, summary}
 use Rattle.rows.specs.Layout.{HANDED, MUTATIONS, SIMULATED}
 use Rattle.aliasing.specs.State.{Covered, stateOf}

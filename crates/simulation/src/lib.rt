@@ -1,6 +1,6 @@
 // The section of effects: those copied, the records of context and parameters, Create for returns, and what simulated walks find.
 ghost use mathlib.Core.Path.{_≡_};
-ghost use Prim.Native.Nat.{ℕ, _+_, _≤_, _<_};
+ghost use Prim.Native.Nat.{_+_, _≤_, _<_};
 ghost use Rattle.model.specs.Sheet.{Sheet};
 ghost use Rattle.model.specs.State.{simulated};
 ghost use Rattle.model.specs.Simulated.{simulation};

@@ -1,9 +1,9 @@
 // Steps of building as words, four to a step, and the walks over the graph that they build.
 // The first word has the step's number; a mutation's also 16 if it is transitive, 32 if it is Definite and 64 for its reason.
-ghost use mathlib.Core.Bool.{Bool, true};
+ghost use mathlib.Core.Bool.{true};
 ghost use mathlib.Core.Path.{_≡_};
-ghost use Prim.Native.Nat.{ℕ, _+_, _*_, _≤_, _<_};
-ghost use lib.ListN.{length, getD};
+ghost use Prim.Native.Nat.{_+_, _*_, _≤_, _<_};
+ghost use lib.ListN.{length};
 ghost use Rattle.rows.specs.Layout.{LEAST, MUTATIONS};
 ghost use Rattle.rows.specs.Rows.{Indexed};
 ghost use Rattle.building.specs.Built.{FunctionBelow, Sound};
@@ -150,7 +150,7 @@ fn run_steps(steps: &[u32], ws: &mut [u32]) -> Building
     requires { ⌜ LEAST ≤ length (now ws) ⌝ }
     ensures { λ r. ⌜ Goes (now (ws .entry)) (now (ws .exit)) r ⌝ }
 {
-    let mut b = building::begun(building::start(ws));
+    let mut b = building::start(ws);
     let mut i = 0;
     while 4 <= steps.len() - i {
         b = step(b, ws, steps[i], steps[i + 1], steps[i + 2], steps[i + 3]);

@@ -1,24 +1,23 @@
 -- The records of a place as effects.
-use Prim.Native.Nat.{ℕ, zero, suc, _+_, _*_, _/_, _%_, _≤_, _<_}
+use Prim.Native.Nat.{ℕ, zero, suc, _+_, _/_, _%_, _≤_, _<_}
 use native.Mathlib.Omega.{arith}
 use mathlib.Core.Path.{_≡_, refl, sym, ap, _∙_, subst}
 use mathlib.Core.List.{List, [], _∷_, _++_, append-nil}
-use mathlib.Core.Option.{Option, none, some}
 use lib.ListN.{length, getD, drop, length-append}
 use Rattle.model.specs.Lists.{gather}
 use Rattle.model.specs.Sheet.{Place, noPlace, EffectKind, Mutate, MutateConditionally, MutateTransitive, MutateTransitiveConditionally, Effect}
 use Rattle.model.specs.Mutation.{reasonOf}
-use Rattle.model.specs.State.{Info, Record, noRecord, State}
-use Rattle.model.specs.Summary.{recordOf, reasonWord, localEffects, transitiveEffects, collectParamEffects}
+use Rattle.model.specs.State.{Record, State}
+use Rattle.model.specs.Summary.{reasonWord, localEffects, transitiveEffects, collectParamEffects}
 use Rattle.model.specs.Answer.{effectWords}
 use Rattle.rows.specs.Layout.{RECORD, LSPAN, TSPAN}
 use Rattle.rows.specs.Graph.{tab}
 use Rattle.aliasing.specs.State.{nodesOf, infoOf, recordIn, fieldAt, stateOf}
 use Rattle.writing.specs.Wrote.{Wrote}
-use Rattle.writing.proofs.Writing.{wrote-then, wrote-as, wrote-none}
+use Rattle.writing.proofs.Writing.{wrote-then, wrote-as}
 use Rattle.copies.proofs.Gathers.{gather-append, gather-gather}
 use Rattle.copies.proofs.Sections.{effects-length}
-use Rattle.copies.proofs.Loops.{Leaves, leaves-all, leaves-then, table-turn, table-end}
+use Rattle.copies.proofs.Loops.{Leaves, leaves-all, table-turn, table-end}
 use Rattle.summary.specs.Records.{Holds, levelEffects, Collected}
 use Rattle.summary.specs.Tracked.{trackedAt, trackedFrom}
 use Rattle.summary.proofs.Held.{held, state-words}

@@ -1,5 +1,5 @@
 -- The section of walks.
-use Prim.Native.Nat.{ℕ, zero, suc, _+_, _*_, _≤_, _<_}
+use Prim.Native.Nat.{ℕ, _+_, _*_}
 use native.Mathlib.Omega.{arith}
 use mathlib.Core.Path.{_≡_, refl, sym, ap, _∙_}
 use mathlib.Core.List.{List, [], _∷_, _++_}
@@ -7,7 +7,6 @@ use lib.ListN.{length, getD, length-append}
 use Rattle.model.specs.Lists.{gather}
 use Rattle.model.specs.Answer.{countWords, section}
 use Rattle.rows.specs.Layout.{MUTATIONS, SIMULATED}
-use Rattle.rows.specs.Graph.{tab}
 use Rattle.rows.proofs.Tables.{tab-length}
 use Rattle.aliasing.specs.Pending.{takenOf}
 use Rattle.writing.specs.Wrote.{Wrote}

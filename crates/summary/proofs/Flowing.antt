@@ -1,14 +1,14 @@
 -- What flows into the place of a simulated walk.
-use Prim.Native.Nat.{ℕ, zero, suc, _+_, _*_, _/_, _≤_, _<_}
+use Prim.Native.Nat.{ℕ, _+_, _/_, _≤_, _<_}
 use native.Mathlib.Omega.{arith}
 use mathlib.Core.Path.{_≡_, refl, sym, ap, _∙_}
 use mathlib.Core.Bool.{Bool, true, false, _&&_, not}
-use mathlib.Core.List.{List, [], _∷_, _++_, append-nil}
-use lib.ListN.{length, getD, drop}
+use mathlib.Core.List.{List, [], _∷_, append-nil}
+use lib.ListN.{length, drop}
 use lib.Dec.{eqb}
 use borrow.Author.Tests.{eq-eqb, ne-eqb}
 use Rattle.model.specs.Lists.{pick, gather}
-use Rattle.model.specs.Sheet.{Place, noPlace, EffectKind, Alias, Capture, Effect, Sheet}
+use Rattle.model.specs.Sheet.{Place, EffectKind, Alias, Capture, Effect}
 use Rattle.model.specs.State.{Record, State}
 use Rattle.model.specs.Simulated.{tracked, flows, flowEffect, flowEffects}
 use Rattle.model.specs.Answer.{effectWords}
@@ -18,7 +18,6 @@ use Rattle.aliasing.specs.State.{nodesOf, fieldAt, stateOf}
 use Rattle.writing.specs.Wrote.{Wrote}
 use Rattle.writing.proofs.Writing.{wrote-as, wrote-none}
 use Rattle.copies.proofs.Gathers.{gather-gather}
-use Rattle.copies.proofs.Sections.{effects-length}
 use Rattle.copies.proofs.Loops.{Leaves, leaves-all, table-turn, table-end}
 use Rattle.summary.specs.Records.{Holds}
 use Rattle.summary.specs.Tracked.{trackedAt, trackedOf}

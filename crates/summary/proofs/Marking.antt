@@ -1,21 +1,21 @@
 -- Capture marks.
-use Prim.Native.Nat.{ℕ, zero, suc, _+_, _*_, _≤_, _<_}
+use Prim.Native.Nat.{ℕ, _+_, _*_, _≤_, _<_}
 use native.Mathlib.Omega.{arith}
 use native.Mathlib.Decide.{ℕ-discrete}
 use mathlib.Core.Path.{_≡_, refl, sym, ap, _∙_}
 use mathlib.Core.Bool.{Bool, true, false}
 use mathlib.Core.List.{List, [], _∷_, map}
-use lib.ListN.{length, getD, take, drop}
+use lib.ListN.{length, take, drop}
 use Rattle.model.specs.Lists.{pick, gather}
 use Rattle.model.specs.Answer.{placeWords, section}
 use Rattle.model.specs.Sheet.{Place}
 use Rattle.model.specs.Traits.{captureEffect}
-use Rattle.model.specs.State.{Record, noRecord, hasRecord, State}
+use Rattle.model.specs.State.{hasRecord, State}
 use Rattle.model.specs.Summary.{recordOf, captureMark, marked}
 use Rattle.rows.specs.Layout.{SEEN}
 use Rattle.rows.specs.Rows.{Kept}
 use Rattle.rows.specs.Graph.{tab}
-use Rattle.rows.proofs.Parts.{kept-none, kept-then, take-less, drop-more}
+use Rattle.rows.proofs.Parts.{kept-none, kept-then, take-less}
 use Rattle.rows.proofs.Tables.{tab-same, tab-length}
 use Rattle.aliasing.specs.State.{nodesOf, recordAt, recordsOf, stateOf}
 use Rattle.writing.specs.Wrote.{Wrote}

@@ -1,10 +1,9 @@
 -- The tracked places: one that is stored, those that stay, and parts of the list.
-use Prim.Native.Nat.{ℕ, zero, suc, _+_, _*_, _/_, _%_, _≤_, _<_}
+use Prim.Native.Nat.{ℕ, zero, suc, _+_, _*_, _≤_, _<_}
 use native.Mathlib.Omega.{arith}
 use native.Mathlib.Nat.{add-zero, add-suc}
 use native.Mathlib.Numerals.{add-one}
 use mathlib.Core.Path.{_≡_, refl, sym, ap, _∙_}
-use mathlib.Core.Bool.{Bool}
 use mathlib.Core.List.{List, [], _∷_, _++_, map, append-nil, append-assoc}
 use lib.ListN.{length, getD, set, take, drop, length-set}
 use lib.Seq.{getD-set-same, getD-set-other}
@@ -12,7 +11,7 @@ use Rattle.model.specs.Sheet.{Place}
 use Rattle.model.specs.Traits.{traitsWord}
 use Rattle.rows.specs.Rows.{Kept}
 use Rattle.rows.specs.Graph.{tab}
-use Rattle.rows.proofs.Parts.{kept-none, kept-set, take-word, drop-word, take-less}
+use Rattle.rows.proofs.Parts.{kept-none, kept-set, take-word, drop-word}
 use Rattle.rows.proofs.Tables.{tab-same}
 use Rattle.summary.specs.Tracked.{TRACKED, placeOf, trackedAt, trackedOf, trackedFrom, Tracks}
 use Rattle.summary.proofs.Words.{place-back, place-below}

@@ -1,13 +1,13 @@
 -- Where the next word goes after each section.
-use Prim.Native.Nat.{ℕ, zero, suc, _+_, _*_, _≤_, _<_}
+use Prim.Native.Nat.{ℕ, zero, suc, _+_, _*_, _≤_}
 use native.Mathlib.Omega.{arith}
 use native.Mathlib.Nat.{mul-suc}
-use mathlib.Core.Path.{_≡_, refl, sym, ap, _∙_}
+use mathlib.Core.Path.{_≡_, refl, ap, _∙_}
 use mathlib.Core.List.{List, [], _∷_, _++_, map, append-nil}
 use lib.ListN.{length, length-append}
 use Rattle.model.specs.Lists.{pick, gather}
 use Rattle.model.specs.Sheet.{Identifier, Place, Effect, Sheet}
-use Rattle.model.specs.Reading.{Position, Result, got, times}
+use Rattle.model.specs.Reading.{Position, got, times}
 use Rattle.model.specs.Sections.{identifier}
 use Rattle.model.specs.State.{State}
 use Rattle.model.specs.Summary.{marked, collectParamEffects}
@@ -19,10 +19,8 @@ use Rattle.aliasing.specs.State.{nodesOf, endsOf, stateOf}
 use Rattle.aliasing.specs.Pending.{takenOf}
 use Rattle.writing.specs.Wrote.{Wrote}
 use Rattle.copies.proofs.Lengths.{gather-length}
-use Rattle.copies.proofs.Sections.{effects-length}
 use Rattle.summary.specs.Records.{Holds, Collected}
 use Rattle.summary.specs.Tracked.{trackedAt, trackedOf, trackedFrom}
-use Rattle.summary.specs.Ranges.{Ranges}
 use Rattle.summary.specs.Sections.{Marked, Flows, simulatedOf}
 use Rattle.summary.proofs.Held.{held}
 use Rattle.summary.proofs.Places.{tracked-below}

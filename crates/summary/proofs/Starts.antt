@@ -7,7 +7,7 @@ use lib.ListN.{length, getD, drop}
 use lib.Seq.{drop-cons}
 use Rattle.model.specs.Lists.{gather}
 use Rattle.model.specs.Sheet.{Identifier, EvaluationOrder}
-use Rattle.model.specs.Reading.{Position, Result, got, times}
+use Rattle.model.specs.Reading.{Position, got, times}
 use Rattle.model.specs.Sections.{identifier}
 use Rattle.model.specs.Answer.{Range, rangesOf, rangeWords, section}
 use Rattle.model.proofs.Got.{times-step, times-done}

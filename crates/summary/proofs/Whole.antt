@@ -1,5 +1,5 @@
 -- The tracked places of a sheet: its parameters, its context and its returns, before and after their marks.
-use Prim.Native.Nat.{ℕ, zero, suc, _+_, _*_, _≤_, _<_}
+use Prim.Native.Nat.{ℕ, _+_}
 use native.Mathlib.Omega.{arith}
 use native.Mathlib.Numerals.{add-one}
 use mathlib.Core.Path.{_≡_, refl, sym, ap, _∙_}
@@ -7,14 +7,12 @@ use mathlib.Core.List.{List, [], _∷_, _++_, map, append-assoc}
 use lib.ListN.{length, getD, take, drop}
 use lib.Seq.{take-at, drop-at}
 use Rattle.model.specs.Sheet.{Place, Sheet}
-use Rattle.model.specs.State.{State}
 use Rattle.model.specs.Summary.{marked, afterRenders}
 use Rattle.model.specs.Simulated.{tracked}
-use Rattle.rows.specs.Rows.{Kept}
 use Rattle.rows.specs.Graph.{tab}
 use Rattle.rows.proofs.Tables.{tab-length}
 use Rattle.summary.specs.Records.{Holds}
-use Rattle.summary.specs.Tracked.{TRACKED, trackedAt, trackedOf, trackedFrom, Marks}
+use Rattle.summary.specs.Tracked.{trackedAt, trackedOf, trackedFrom, Marks}
 use Rattle.summary.proofs.Places.{tracked-parts, tracked-first, tracked-high, map-append}
 
 -- all places of the sheet are tracked

@@ -3,7 +3,7 @@ use Prim.Native.Nat.{ℕ}
 use mathlib.Core.List.{List}
 use mathlib.Core.Path.{_≡_}
 use Rattle.model.specs.Sheet.{Identifier}
-use Rattle.model.specs.Reading.{Position, Result, got, times}
+use Rattle.model.specs.Reading.{Position, got, times}
 use Rattle.model.specs.Sections.{identifier}
 use Rattle.model.specs.Answer.{rangesOf, rangeWords, section}
 use Rattle.aliasing.specs.State.{nodesOf, endsOf}

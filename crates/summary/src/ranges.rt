@@ -1,6 +1,5 @@
 // The section of ranges.
-ghost use mathlib.Core.Path.{_≡_};
-ghost use Prim.Native.Nat.{ℕ, _+_, _*_, _≤_, _<_};
+ghost use Prim.Native.Nat.{_+_, _*_, _≤_, _<_};
 ghost use lib.ListN.{length};
 ghost use Rattle.writing.specs.Wrote.{farthest};
 ghost use Rattle.summary.specs.Ranges.{Ranges};

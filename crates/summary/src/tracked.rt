@@ -1,6 +1,6 @@
 // The tracked places: parameters, context, returns.
 ghost use mathlib.Core.Path.{_≡_};
-ghost use Prim.Native.Nat.{ℕ, _+_, _*_, _≤_, _<_};
+ghost use Prim.Native.Nat.{_+_, _*_, _≤_, _<_};
 ghost use lib.ListN.{length};
 ghost use Rattle.model.specs.Summary.{marked};
 ghost use Rattle.model.specs.State.{State, hasRecord};

@@ -1,10 +1,10 @@
 -- Words written one after another; a word patched later; the whole buffer once all is written.
-use Prim.Native.Nat.{ℕ, zero, suc, _+_, _-_, _≤_, _<_}
+use Prim.Native.Nat.{ℕ, suc, _+_, _-_, _≤_, _<_}
 use native.Mathlib.Omega.{arith}
 use mathlib.Core.Path.{_≡_, refl, sym, ap, _∙_}
 use mathlib.Core.List.{List, [], _∷_, _++_, append-nil}
-use lib.ListN.{length, set, take, drop, replicate, length-append, length-replicate, drop-of-length-le}
-use lib.Seq.{sets, sets-eq, length-sets, set-set, set-comm}
+use lib.ListN.{length, set, replicate, length-append, length-replicate, drop-of-length-le}
+use lib.Seq.{sets, sets-eq, set-set, set-comm}
 use Rattle.rows.proofs.Parts.{sets-append}
 use Rattle.writing.specs.Wrote.{Wrote}
 

@@ -1,8 +1,8 @@
 // The answer's words, written one after another into a lent buffer. What has no room is counted all the same, so that the answer's length is known at any length.
 ghost use mathlib.Core.Path.{_≡_};
-ghost use mathlib.Core.List.{List, [], _∷_};
-ghost use Prim.Native.Nat.{ℕ, _+_, _≤_, _<_};
-ghost use lib.ListN.{length, set};
+ghost use mathlib.Core.List.{[], _∷_};
+ghost use Prim.Native.Nat.{_+_, _<_};
+ghost use lib.ListN.{set};
 ghost use Rattle.writing.specs.Wrote.{Wrote, farthest};
 
 // The next word of the answer.

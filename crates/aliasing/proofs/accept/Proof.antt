@@ -2,10 +2,6 @@ use Rattle.aliasing.proofs.Writes.{accepted}
 use borrow.Author.Needs.{needs}
 use Rattle.aliasing.proofs.accept.Statement.{statement}
 use Rattle.aliasing.proofs.accept.Tie as tie
-use Rattle.aliasing.proofs.accept.Reads as reads
-use Rattle.aliasing.proofs.accept.Lts as lts
-use Rattle.aliasing.proofs.raise_end.Reads as raise-end-reads
-use Rattle.aliasing.proofs.record.Reads as record-reads
 
 record-requires : tie.Need-record-requires
 record-requires c κs = search needs

@@ -5,8 +5,6 @@ use borrow.Author.Tests.{lt-ltb, le-ltb}
 use borrow.Author.Needs.{needs}
 use Rattle.aliasing.proofs.append_function_errors.Statement.{statement}
 use Rattle.aliasing.proofs.append_function_errors.Tie as tie
-use Rattle.aliasing.proofs.append_function_errors.Reads as reads
-use Rattle.aliasing.proofs.append_function_errors.Lts as lts
 
 add-v : tie.Need-add-v
 add-v c = search needs

@@ -2,9 +2,6 @@ use Rattle.aliasing.proofs.Begin.{nodes-few, unmarked}
 use native.Mathlib.Omega.{arith}
 use Rattle.aliasing.proofs.clear_marks.Statement.{statement}
 use Rattle.aliasing.proofs.clear_marks.Tie as tie
-use Rattle.aliasing.proofs.clear_marks.Reads as reads
-use Rattle.aliasing.proofs.clear_marks.Lts as lts
-use Rattle.rows.proofs.clear.Reads as clear-reads
 
 slice-read-nodes : tie.Need-slice-read-nodes
 slice-read-nodes c = omega (arith, c .before .before .pre .size)

@@ -9,8 +9,6 @@ use Prim.Native.Nat.{ℕ, _+_}
 use Rattle.aliasing.proofs.Enters.{enters-beyond, enters-seen, enters-marked}
 use Rattle.aliasing.proofs.enter.Statement.{statement}
 use Rattle.aliasing.proofs.enter.Tie as tie
-use Rattle.aliasing.proofs.enter.Reads as reads
-use Rattle.aliasing.proofs.enter.Lts as lts
 
 slice-read-if1 : tie.Need-slice-read-if1
 slice-read-if1 c = omega arith

@@ -1,11 +1,8 @@
 use borrow.Author.Needs.{needs}
-use native.Mathlib.Omega.{arith}
 use mathlib.Core.Path.{sym, _∙_}
 use Rattle.aliasing.proofs.Fields.{field-word, field-there, field-beyond}
 use Rattle.aliasing.proofs.field.Statement.{statement}
 use Rattle.aliasing.proofs.field.Tie as tie
-use Rattle.aliasing.proofs.field.Reads as reads
-use Rattle.aliasing.proofs.field.Lts as lts
 
 cast-if1 : tie.Need-cast-if1
 cast-if1 c = search needs

@@ -2,8 +2,6 @@ use Rattle.aliasing.proofs.Pending.{kind-definite}
 use borrow.Author.Needs.{needs}
 use Rattle.aliasing.proofs.kind_of.Statement.{statement}
 use Rattle.aliasing.proofs.kind_of.Tie as tie
-use Rattle.aliasing.proofs.kind_of.Reads as reads
-use Rattle.aliasing.proofs.kind_of.Lts as lts
 
 returns : tie.Need-returns
 returns c = search needs

@@ -4,14 +4,6 @@ use mathlib.Core.Path.{_∙_}
 use native.Mathlib.Omega.{arith}
 use Rattle.aliasing.proofs.mutate.Statement.{statement}
 use Rattle.aliasing.proofs.mutate.Tie as tie
-use Rattle.aliasing.proofs.mutate.Reads as reads
-use Rattle.aliasing.proofs.mutate.Lts as lts
-use Rattle.aliasing.proofs.bit_of.Reads as bit-of-reads
-use Rattle.aliasing.proofs.kind_bit.Reads as kind-bit-reads
-use Rattle.aliasing.proofs.take_base.Reads as take-base-reads
-use Rattle.aliasing.proofs.walk.Reads as walk-reads
-use Rattle.aliasing.proofs.walk_conditional.Reads as walk-conditional-reads
-use Rattle.pushes.proofs.entry.Reads as entry-reads
 
 take-base-requires : tie.Need-take-base-requires
 take-base-requires c κs = (c .before .before .pre .0, c .before .before .pre .1 .0 .marks)

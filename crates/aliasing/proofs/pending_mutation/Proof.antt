@@ -4,9 +4,6 @@ use Prim.Native.Nat.{_/_, _<_}
 use borrow.Author.Needs.{needs}
 use Rattle.aliasing.proofs.pending_mutation.Statement.{statement}
 use Rattle.aliasing.proofs.pending_mutation.Tie as tie
-use Rattle.aliasing.proofs.pending_mutation.Reads as reads
-use Rattle.aliasing.proofs.pending_mutation.Lts as lts
-use Rattle.aliasing.proofs.kind_of.Reads as kind-of-reads
 
 kind-of-requires : tie.Need-kind-of-requires
 kind-of-requires c κs = search needs

@@ -4,11 +4,6 @@ use Prim.Native.Nat.{_-_}
 use mathlib.Core.Path.{_∙_}
 use Rattle.aliasing.proofs.process_mutations.Statement.{statement}
 use Rattle.aliasing.proofs.process_mutations.Tie as tie
-use Rattle.aliasing.proofs.process_mutations.Reads as reads
-use Rattle.aliasing.proofs.process_mutations.Lts as lts
-use Rattle.aliasing.proofs.clear_marks.Reads as clear-marks-reads
-use Rattle.aliasing.proofs.mutate.Reads as mutate-reads
-use Rattle.aliasing.proofs.pending_mutation.Reads as pending-mutation-reads
 
 abbrev Inv-loop : tie.InvT-loop
 Inv-loop ws₀ count should-record-errors i₀ hand₀ ws i hand = Processing should-record-errors ws₀ count ws i hand

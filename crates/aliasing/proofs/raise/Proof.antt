@@ -3,8 +3,6 @@ use borrow.Author.Tests.{lt-ltb, le-ltb}
 use borrow.Author.Needs.{needs}
 use Rattle.aliasing.proofs.raise.Statement.{statement}
 use Rattle.aliasing.proofs.raise.Tie as tie
-use Rattle.aliasing.proofs.raise.Reads as reads
-use Rattle.aliasing.proofs.raise.Lts as lts
 
 mul-if1 : tie.Need-mul-if1
 mul-if1 c = search needs

@@ -2,10 +2,6 @@ use Rattle.aliasing.proofs.Writes.{raise-unset}
 use borrow.Author.Needs.{needs}
 use Rattle.aliasing.proofs.raise_end.Statement.{statement}
 use Rattle.aliasing.proofs.raise_end.Tie as tie
-use Rattle.aliasing.proofs.raise_end.Reads as reads
-use Rattle.aliasing.proofs.raise_end.Lts as lts
-use Rattle.aliasing.proofs.raise.Reads as raise-reads
-use Rattle.hir.proofs.EvaluationOrder.is_unset.Reads as is-unset-reads
 
 is-unset-requires : tie.Need-is-unset-requires
 is-unset-requires c κs = search needs

@@ -5,9 +5,6 @@ use native.Mathlib.Omega.{arith}
 use borrow.Author.Needs.{needs}
 use Rattle.aliasing.proofs.record.Statement.{statement}
 use Rattle.aliasing.proofs.record.Tie as tie
-use Rattle.aliasing.proofs.record.Reads as reads
-use Rattle.aliasing.proofs.record.Lts as lts
-use Rattle.aliasing.proofs.larger.Reads as larger-reads
 
 add-w : tie.Need-add-w
 add-w c = search needs

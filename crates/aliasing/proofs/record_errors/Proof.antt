@@ -4,9 +4,6 @@ use borrow.Author.Tests.{eq-eqb, ne-eqb}
 use borrow.Author.Needs.{needs}
 use Rattle.aliasing.proofs.record_errors.Statement.{statement}
 use Rattle.aliasing.proofs.record_errors.Tie as tie
-use Rattle.aliasing.proofs.record_errors.Reads as reads
-use Rattle.aliasing.proofs.record_errors.Lts as lts
-use Rattle.aliasing.proofs.append_function_errors.Reads as append-function-errors-reads
 
 add-if2 : tie.Need-add-if2
 add-if2 c = search needs

@@ -4,12 +4,6 @@ use borrow.Author.Tests.{not-true, not-false}
 use native.Mathlib.Omega.{arith}
 use Rattle.aliasing.proofs.step_conditional.Statement.{statement}
 use Rattle.aliasing.proofs.step_conditional.Tie as tie
-use Rattle.aliasing.proofs.step_conditional.Reads as reads
-use Rattle.aliasing.proofs.step_conditional.Lts as lts
-use Rattle.aliasing.proofs.accept.Reads as accept-reads
-use Rattle.aliasing.proofs.enter.Reads as enter-reads
-use Rattle.aliasing.proofs.record_errors.Reads as record-errors-reads
-use Rattle.pushes.proofs.push_whole.Reads as push-whole-reads
 
 sub-t : tie.Need-sub-t
 sub-t c = omega arith

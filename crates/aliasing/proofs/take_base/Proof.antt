@@ -3,9 +3,6 @@ use mathlib.Core.Logic.{⊎-elim}
 use native.Mathlib.Omega.{arith}
 use Rattle.aliasing.proofs.take_base.Statement.{statement}
 use Rattle.aliasing.proofs.take_base.Tie as tie
-use Rattle.aliasing.proofs.take_base.Reads as reads
-use Rattle.aliasing.proofs.take_base.Lts as lts
-use Rattle.aliasing.proofs.clear_marks.Reads as clear-marks-reads
 
 slice-read-if1 : tie.Need-slice-read-if1
 slice-read-if1 c = omega (arith, c .before .before .pre .0 .size)

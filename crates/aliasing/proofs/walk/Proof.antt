@@ -6,9 +6,6 @@ use native.Mathlib.Omega.{arith}
 use Prim.Native.Nat.{_+_}
 use Rattle.aliasing.proofs.walk.Statement.{statement}
 use Rattle.aliasing.proofs.walk.Tie as tie
-use Rattle.aliasing.proofs.walk.Reads as reads
-use Rattle.aliasing.proofs.walk.Lts as lts
-use Rattle.aliasing.proofs.step.Reads as step-reads
 
 abbrev Inv-loop : tie.InvT-loop
 Inv-loop ws₀ top hand m base t₀ h₀ taken₀ ws t h taken = WalkInv m base ws₀ top hand ws t h taken

@@ -8,9 +8,6 @@ use native.Mathlib.Omega.{arith}
 use Prim.Native.Nat.{_+_}
 use Rattle.aliasing.proofs.walk_conditional.Statement.{statement}
 use Rattle.aliasing.proofs.walk_conditional.Tie as tie
-use Rattle.aliasing.proofs.walk_conditional.Reads as reads
-use Rattle.aliasing.proofs.walk_conditional.Lts as lts
-use Rattle.aliasing.proofs.step_conditional.Reads as step-conditional-reads
 
 abbrev Inv-loop : tie.InvT-loop
 Inv-loop ws₀ top hand m base t₀ h₀ count₀ ws t h count = WalkInv m base ws₀ top hand ws t h count × AllConditional ws t

@@ -1,6 +1,6 @@
 use Rattle.blocks.proofs.BlockLaws.{block-got, block-phis-refused, block-instructions-refused}
 use Rattle.blocks.specs.Says.{totalsSays}
-use mathlib.Core.Path.{_≡_, _∙_, sym, refl}
+use mathlib.Core.Path.{_∙_, sym}
 use Rattle.hir.proofs.Answers.{says}
 use borrow.Author.Needs.{needs}
 use Rattle.blocks.proofs.block.Statement.{statement}

@@ -1,6 +1,6 @@
 use Rattle.blocks.proofs.BlockLaws.{instruction-got, instruction-refused}
 use Rattle.hir.specs.Says.{orderSays}
-use mathlib.Core.Path.{_≡_, _∙_, sym, refl}
+use mathlib.Core.Path.{_∙_, sym}
 use Rattle.hir.proofs.Answers.{says}
 use borrow.Author.Needs.{needs}
 use Rattle.blocks.proofs.instruction.Statement.{statement}

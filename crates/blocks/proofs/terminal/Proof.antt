@@ -1,6 +1,6 @@
 use Rattle.blocks.proofs.BlockLaws.{terminal-got, terminal-kind-refused, terminal-order-refused, other-got, return-got, return-refused, throw-got}
 use Rattle.hir.specs.Says.{kindStepSays, orderSays, placeSays}
-use mathlib.Core.Path.{_≡_, _∙_, sym, refl}
+use mathlib.Core.Path.{_∙_, sym}
 use Rattle.hir.proofs.Answers.{says}
 use borrow.Author.Needs.{needs}
 use Rattle.blocks.proofs.terminal.Statement.{statement}

@@ -3,9 +3,6 @@ use Rattle.building.proofs.Ends.{first-created}
 use borrow.Author.Needs.{needs}
 use Rattle.building.proofs.create_first.Statement.{statement}
 use Rattle.building.proofs.create_first.Tie as tie
-use Rattle.building.proofs.create_first.Reads as reads
-use Rattle.building.proofs.create_first.Lts as lts
-use Rattle.building.proofs.graph.raise.Reads as raise-reads
 
 raise-requires : tie.Need-raise-requires
 raise-requires c κs = search needs

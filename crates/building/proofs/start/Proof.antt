@@ -5,9 +5,6 @@ use Rattle.building.proofs.Ends.{started}
 use borrow.Author.Needs.{needs}
 use Rattle.building.proofs.start.Statement.{statement}
 use Rattle.building.proofs.start.Tie as tie
-use Rattle.building.proofs.start.Reads as reads
-use Rattle.building.proofs.start.Lts as lts
-use Rattle.rows.proofs.clear.Reads as clear-reads
 
 clear-requires : tie.Need-clear-requires
 clear-requires c κs = search needs

@@ -3,8 +3,6 @@ use Rattle.building.proofs.Stages.{function-small, function-word}
 use borrow.Author.Needs.{needs}
 use Rattle.building.proofs.value_word.Statement.{statement}
 use Rattle.building.proofs.value_word.Tie as tie
-use Rattle.building.proofs.value_word.Reads as reads
-use Rattle.building.proofs.value_word.Lts as lts
 
 enum-told : tie.Need-enum-told
 enum-told c = search needs

@@ -3,11 +3,6 @@ use Rattle.writing.proofs.Writing.{wrote-then, wrote-as}
 use borrow.Author.Needs.{needs}
 use Rattle.copies.proofs.put_effect.Statement.{statement}
 use Rattle.copies.proofs.put_effect.Tie as tie
-use Rattle.copies.proofs.put_effect.Reads as reads
-use Rattle.copies.proofs.put_effect.Lts as lts
-use Rattle.copies.proofs.put_place.Reads as put-place-reads
-use Rattle.hir.proofs.EffectKind.number.Reads as number-reads
-use Rattle.writing.proofs.put.Reads as put-reads
 
 number-requires : tie.Need-number-requires
 number-requires c κs = search needs

@@ -2,10 +2,6 @@ use Rattle.writing.proofs.Writing.{wrote-then, wrote-as}
 use borrow.Author.Needs.{needs}
 use Rattle.copies.proofs.put_place.Statement.{statement}
 use Rattle.copies.proofs.put_place.Tie as tie
-use Rattle.copies.proofs.put_place.Reads as reads
-use Rattle.copies.proofs.put_place.Lts as lts
-use Rattle.hir.proofs.places.traits_word.Reads as traits-word-reads
-use Rattle.writing.proofs.put.Reads as put-reads
 
 put-requires : tie.Need-put-requires
 put-requires c κs = search needs

@@ -3,10 +3,6 @@ use native.Mathlib.Omega.{arith}
 use Prim.Native.Nat.{_-_}
 use Rattle.diagnostics.proofs.process_renders.Statement.{statement}
 use Rattle.diagnostics.proofs.process_renders.Tie as tie
-use Rattle.diagnostics.proofs.process_renders.Reads as reads
-use Rattle.diagnostics.proofs.process_renders.Lts as lts
-use Rattle.copies.proofs.functions.put_handed.Reads as put-handed-reads
-use Rattle.renders.proofs.render.Reads as render-reads
 
 abbrev Inv-loop : tie.InvT-loop
 Inv-loop sheet ws₀ count renders answer₀ at to₀ i₀ ws answer to i = Rendering sheet ws₀ count renders answer₀ at ws answer to i

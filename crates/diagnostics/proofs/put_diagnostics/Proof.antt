@@ -1,16 +1,9 @@
 use Rattle.diagnostics.proofs.Diagnosing.{HandedPut, handed-put, handed-not, handed-as, count-least, count-few, diagnostics-put}
 use native.Mathlib.Omega.{arith}
 use mathlib.Core.Logic.{⊎-elim}
-use mathlib.Core.Path.{_≡_, _∙_}
+use mathlib.Core.Path.{_∙_}
 use Rattle.diagnostics.proofs.put_diagnostics.Statement.{statement}
 use Rattle.diagnostics.proofs.put_diagnostics.Tie as tie
-use Rattle.diagnostics.proofs.put_diagnostics.Reads as reads
-use Rattle.diagnostics.proofs.put_diagnostics.Lts as lts
-use Rattle.copies.proofs.functions.put_handed.Reads as put-handed-reads
-use Rattle.diagnostics.proofs.process_renders.Reads as process-renders-reads
-use Rattle.diagnostics.proofs.put_recorded.Reads as put-recorded-reads
-use Rattle.writing.proofs.patch.Reads as patch-reads
-use Rattle.writing.proofs.put.Reads as put-reads
 
 put-requires : tie.Need-put-requires
 put-requires c κs =

@@ -2,9 +2,6 @@ use Rattle.diagnostics.proofs.Diagnosing.{recorded-put, recorded-not}
 use native.Mathlib.Omega.{arith}
 use Rattle.diagnostics.proofs.put_recorded.Statement.{statement}
 use Rattle.diagnostics.proofs.put_recorded.Tie as tie
-use Rattle.diagnostics.proofs.put_recorded.Reads as reads
-use Rattle.diagnostics.proofs.put_recorded.Lts as lts
-use Rattle.copies.proofs.effect_lists.copy_effects.Reads as copy-effects-reads
 
 copy-effects-requires : tie.Need-copy-effects-requires
 copy-effects-requires c κs =

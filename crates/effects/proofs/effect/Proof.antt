@@ -1,4 +1,3 @@
-use Prim.Native.Nat.{ℕ}
 use mathlib.Core.Path.{ap, sym, _∙_}
 use Rattle.model.specs.Effects.{rowOf}
 use Rattle.model.specs.Sections.{effect}

@@ -3,8 +3,6 @@ use Rattle.effects.proofs.EffectTable.{of-kind}
 use borrow.Author.Needs.{needs}
 use Rattle.effects.proofs.role_of.Statement.{statement}
 use Rattle.effects.proofs.role_of.Tie as tie
-use Rattle.effects.proofs.role_of.Reads as reads
-use Rattle.effects.proofs.role_of.Lts as lts
 
 enum-told : tie.Need-enum-told
 enum-told c = search needs

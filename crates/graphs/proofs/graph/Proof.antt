@@ -4,14 +4,6 @@ use lib.ListN.{length-set}
 use borrow.Author.Needs.{needs}
 use Rattle.graphs.proofs.graph.Statement.{statement}
 use Rattle.graphs.proofs.graph.Tie as tie
-use Rattle.graphs.proofs.graph.Reads as reads
-use Rattle.graphs.proofs.graph.Lts as lts
-use Rattle.graphs.proofs.count_at.Reads as count-at-reads
-use Rattle.graphs.proofs.one_graph.Reads as one-graph-reads
-use Rattle.graphs.proofs.put_ends.Reads as put-ends-reads
-use Rattle.graphs.proofs.walks.Reads as walks-reads
-use Rattle.rows.proofs.clear.Reads as clear-reads
-use Rattle.steps.proofs.lay_out_steps.Reads as lay-out-steps-reads
 
 count-at-requires : tie.Need-count-at-requires
 count-at-requires c κs = tt

@@ -4,8 +4,6 @@ use mathlib.Core.Path.{_≡_, refl, _∙_}
 use lib.ListN.{length}
 use Rattle.graphs.proofs.graphs.Statement.{statement}
 use Rattle.graphs.proofs.graphs.Tie as tie
-use Rattle.graphs.proofs.graphs.Reads as reads
-use Rattle.graphs.proofs.graphs.Lts as lts
 
 abbrev Inv-loop : tie.InvT-loop
 Inv-loop part ws₀ t₀ i₀ ws t i = (i ≤ length part) × (length ws ≡ length ws₀)

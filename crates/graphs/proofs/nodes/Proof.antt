@@ -2,10 +2,6 @@ use Prim.Native.Nat.{_-_, _≤_}
 use native.Mathlib.Omega.{arith}
 use Rattle.graphs.proofs.nodes.Statement.{statement}
 use Rattle.graphs.proofs.nodes.Tie as tie
-use Rattle.graphs.proofs.nodes.Reads as reads
-use Rattle.graphs.proofs.nodes.Lts as lts
-use Rattle.graphs.proofs.bare.Reads as bare-reads
-use Rattle.graphs.proofs.node.Reads as node-reads
 
 abbrev Inv-loop : tie.InvT-loop
 Inv-loop graph ws identifiers r₀ x₀ r x = x ≤ 512

@@ -3,8 +3,6 @@ use mathlib.Core.Path.{_≡_, refl, _∙_}
 use lib.ListN.{length}
 use Rattle.graphs.proofs.parts.Statement.{statement}
 use Rattle.graphs.proofs.parts.Tie as tie
-use Rattle.graphs.proofs.parts.Reads as reads
-use Rattle.graphs.proofs.parts.Lts as lts
 
 abbrev Inv-loop : tie.InvT-loop
 Inv-loop ws₀ t₀ left₀ ws t left = length ws ≡ length ws₀

@@ -5,9 +5,6 @@ use mathlib.Core.Path.{_≡_}
 use lib.ListN.{length, length-set}
 use Rattle.graphs.proofs.put_ends.Statement.{statement}
 use Rattle.graphs.proofs.put_ends.Tie as tie
-use Rattle.graphs.proofs.put_ends.Reads as reads
-use Rattle.graphs.proofs.put_ends.Lts as lts
-use Rattle.graphs.proofs.word_at.Reads as word-at-reads
 
 abbrev Inv-loop : tie.InvT-loop
 Inv-loop graph at identifiers ws₀ x₀ ws x = (x ≤ 512) × (length ws ≡ length ws₀)

@@ -2,11 +2,6 @@ use Rattle.graphs.proofs.Keeps.{held-render}
 use borrow.Author.Needs.{needs}
 use Rattle.graphs.proofs.render.Statement.{statement}
 use Rattle.graphs.proofs.render.Tie as tie
-use Rattle.graphs.proofs.render.Reads as reads
-use Rattle.graphs.proofs.render.Lts as lts
-use Rattle.graphs.proofs.Comparison.word.Reads as word-reads
-use Rattle.graphs.proofs.handed.Reads as handed-reads
-use Rattle.renders.proofs.render.Reads as render-reads
 
 add-w : tie.Need-add-w
 add-w c = search needs

@@ -4,10 +4,6 @@ use Rattle.graphs.specs.Graphs.{Held}
 use Rattle.graphs.proofs.Keeps.{held-none, held-then}
 use Rattle.graphs.proofs.rendered.Statement.{statement}
 use Rattle.graphs.proofs.rendered.Tie as tie
-use Rattle.graphs.proofs.rendered.Reads as reads
-use Rattle.graphs.proofs.rendered.Lts as lts
-use Rattle.graphs.proofs.Comparison.word.Reads as word-reads
-use Rattle.graphs.proofs.render.Reads as render-reads
 
 abbrev Inv-loop : tie.InvT-loop
 Inv-loop graph ws₀ count r₀ i₀ ws r i = (i ≤ count) × Held ws₀ ws

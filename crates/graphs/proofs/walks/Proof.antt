@@ -1,10 +1,7 @@
-use native.Mathlib.Omega.{arith}
-use mathlib.Core.Path.{_≡_, refl, _∙_}
+use mathlib.Core.Path.{_∙_}
 use Rattle.graphs.proofs.Keeps.{held-walks, held-then}
 use Rattle.graphs.proofs.walks.Statement.{statement}
 use Rattle.graphs.proofs.walks.Tie as tie
-use Rattle.graphs.proofs.walks.Reads as reads
-use Rattle.graphs.proofs.walks.Lts as lts
 
 word-at-requires : tie.Need-word-at-requires
 word-at-requires c κs = tt

@@ -2,9 +2,6 @@ use Prim.Native.Nat.{_-_, _≤_}
 use native.Mathlib.Omega.{arith}
 use Rattle.graphs.proofs.words.Statement.{statement}
 use Rattle.graphs.proofs.words.Tie as tie
-use Rattle.graphs.proofs.words.Reads as reads
-use Rattle.graphs.proofs.words.Lts as lts
-use Rattle.graphs.proofs.Comparison.word.Reads as word-reads
 
 abbrev Inv-loop : tie.InvT-loop
 Inv-loop graph ws first end r₀ i₀ r i = i ≤ end

@@ -1,14 +1,11 @@
 use Prim.Native.Nat.{_-_}
-use mathlib.Core.Path.{sym, ap, subst}
+use mathlib.Core.Path.{subst}
 use native.Mathlib.Omega.{arith}
 use borrow.Author.Needs.{needs}
 use Rattle.header.specs.Read.{nextIs}
 use Rattle.header.proofs.Functions.{FunctionsInv, functions-start, functions-turn, functions-refused, functions-done}
 use Rattle.header.proofs.read_functions.Statement.{statement}
 use Rattle.header.proofs.read_functions.Tie as tie
-use Rattle.header.proofs.read_functions.Reads as reads
-use Rattle.header.proofs.read_functions.Lts as lts
-use Rattle.header.proofs.skip_function.Reads as skip-function-reads
 
 abbrev Inv-loop : tie.InvT-loop
 Inv-loop sheet ws₀ m at₀ i₀ ws at i = FunctionsInv m sheet ws₀ (at₀ .at) ws (at .at) i

@@ -1,22 +1,12 @@
 use native.Mathlib.Omega.{arith}
-use mathlib.Core.Path.{subst}
 use Rattle.model.proofs.ReadLaws.{count-reads}
 use Rattle.hir.specs.Says.{wordSays, flagsSays}
 use Rattle.hir.proofs.Answers.{says}
-use Rattle.header.specs.Read.{Ends, Functions}
-use Rattle.header.specs.declared.Next.{Next}
 use Rattle.header.proofs.Within.{count-within}
 use Rattle.header.proofs.TopRead.{tops, no-flags, no-identifiers, no-ends, no-functions, no-list, ends-as, functions-as}
 use borrow.Author.Needs.{needs}
 use Rattle.header.proofs.read_top.Statement.{statement}
 use Rattle.header.proofs.read_top.Tie as tie
-use Rattle.header.proofs.read_top.Reads as reads
-use Rattle.header.proofs.read_top.Lts as lts
-use Rattle.header.proofs.read_ends.Reads as read-ends-reads
-use Rattle.header.proofs.read_functions.Reads as read-functions-reads
-use Rattle.header.proofs.records_errors.Reads as records-errors-reads
-use Rattle.hir.proofs.Cursor.count.Reads as count-reads
-use Rattle.hir.proofs.Cursor.flags.Reads as flags-reads
 
 flags-requires : tie.Need-flags-requires
 flags-requires c κs = search needs

@@ -1,9 +1,6 @@
 use Rattle.header.proofs.SheetTop.{no-errors, some-errors}
-use borrow.Author.Needs.{needs}
 use Rattle.header.proofs.records_errors.Statement.{statement}
 use Rattle.header.proofs.records_errors.Tie as tie
-use Rattle.header.proofs.records_errors.Reads as reads
-use Rattle.header.proofs.records_errors.Lts as lts
 
 returns : tie.Need-returns
 returns c = no-errors (c .before .args .flags .validations) _ (c .if1 .taken)

@@ -1,18 +1,10 @@
-use mathlib.Core.Path.{sym, subst, ap, _∙_}
-use Rattle.model.specs.Reading.{times, got}
-use Rattle.model.specs.Sections.{diagnostic}
 use Rattle.hir.specs.Says.{wordSays}
 use Rattle.hir.proofs.Answers.{says}
-use Rattle.header.specs.Read.{nextIs}
 use Rattle.model.proofs.Got.{not-both}
 use Rattle.header.proofs.Functions.{function-got, skip-reads}
 use borrow.Author.Needs.{needs}
 use Rattle.header.proofs.skip_function.Statement.{statement}
 use Rattle.header.proofs.skip_function.Tie as tie
-use Rattle.header.proofs.skip_function.Reads as reads
-use Rattle.header.proofs.skip_function.Lts as lts
-use Rattle.header.proofs.skip_diagnostics.Reads as skip-diagnostics-reads
-use Rattle.hir.proofs.Cursor.count.Reads as count-reads
 
 count-requires : tie.Need-count-requires
 count-requires c κs = search needs

@@ -1,15 +1,9 @@
-use native.Mathlib.Omega.{arith}
 use mathlib.Core.Path.{_∙_}
 use Rattle.inference.proofs.Making.{prepared-got, no-answer}
 use Rattle.inference.proofs.Ending.{too-long, fitting}
 use borrow.Author.Needs.{needs}
 use Rattle.inference.proofs.answer_sheet.Statement.{statement}
 use Rattle.inference.proofs.answer_sheet.Tie as tie
-use Rattle.inference.proofs.answer_sheet.Reads as reads
-use Rattle.inference.proofs.answer_sheet.Lts as lts
-use Rattle.inference.proofs.build.Reads as build-reads
-use Rattle.inference.proofs.put_answer.Reads as put-answer-reads
-use Rattle.rows.proofs.clear.Reads as clear-reads
 
 build-requires : tie.Need-build-requires
 build-requires c κs = c .before .before .before .before .pre

@@ -1,16 +1,9 @@
 use mathlib.Core.Path.{_∙_}
-use native.Mathlib.Omega.{arith}
 use Rattle.inference.proofs.Making.{no-function, blocks-can, no-blocks, whole-got, few-identifiers, prepares}
 use Rattle.inference.proofs.Calling.{short-sheet}
 use borrow.Author.Needs.{needs}
 use Rattle.inference.proofs.build.Statement.{statement}
 use Rattle.inference.proofs.build.Tie as tie
-use Rattle.inference.proofs.build.Reads as reads
-use Rattle.inference.proofs.build.Lts as lts
-use Rattle.building.proofs.Building.lay_out.Reads as lay-out-reads
-use Rattle.dataflow.proofs.build_blocks.Reads as build-blocks-reads
-use Rattle.inference.proofs.keep.Reads as keep-reads
-use Rattle.parameters.proofs.read_function.Reads as read-function-reads
 
 read-function-requires : tie.Need-read-function-requires
 read-function-requires c κs =

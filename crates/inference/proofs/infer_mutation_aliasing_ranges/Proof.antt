@@ -4,11 +4,6 @@ use Rattle.inference.proofs.Calling.{accepted-is, accepted-none, refuse
 use borrow.Author.Needs.{needs}
 use Rattle.inference.proofs.infer_mutation_aliasing_ranges.Statement.{statement}
 use Rattle.inference.proofs.infer_mutation_aliasing_ranges.Tie as tie
-use Rattle.inference.proofs.infer_mutation_aliasing_ranges.Reads as reads
-use Rattle.inference.proofs.infer_mutation_aliasing_ranges.Lts as lts
-use Rattle.inference.proofs.answer_sheet.Reads as answer-sheet-reads
-use Rattle.inference.proofs.refuse.Reads as refuse-reads
-use Rattle.reading.proofs.read.Reads as read-reads
 
 refuse-requires : tie.Need-refuse-requires
 refuse-requires c κs = search needs

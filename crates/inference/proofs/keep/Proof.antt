@@ -1,16 +1,10 @@
-use Prim.Native.Nat.{ℕ}
 use native.Mathlib.Omega.{arith}
 use mathlib.Core.Path.{_∙_}
 use lib.ListN.{length-set}
 use Rattle.aliasing.proofs.Begin.{nodes-few}
 use Rattle.inference.proofs.Keeping.{kept-most, keeps}
-use borrow.Author.Needs.{needs}
 use Rattle.inference.proofs.keep.Statement.{statement}
 use Rattle.inference.proofs.keep.Tie as tie
-use Rattle.inference.proofs.keep.Reads as reads
-use Rattle.inference.proofs.keep.Lts as lts
-use Rattle.inference.proofs.larger.Reads as larger-reads
-use Rattle.rows.proofs.clear.Reads as clear-reads
 
 slice-read-nodes : tie.Need-slice-read-nodes
 slice-read-nodes c = omega (arith, c .before .before .pre .0 .size)

@@ -5,14 +5,6 @@ use Rattle.inference.proofs.Stages.{hand-low, before-effects, stages}
 use borrow.Author.Needs.{needs}
 use Rattle.inference.proofs.put_answer.Statement.{statement}
 use Rattle.inference.proofs.put_answer.Tie as tie
-use Rattle.inference.proofs.put_answer.Reads as reads
-use Rattle.inference.proofs.put_answer.Lts as lts
-use Rattle.aliasing.proofs.process_mutations.Reads as process-mutations-reads
-use Rattle.building.proofs.Building.index.Reads as index-reads
-use Rattle.diagnostics.proofs.put_diagnostics.Reads as put-diagnostics-reads
-use Rattle.inference.proofs.put_places.Reads as put-places-reads
-use Rattle.simulation.proofs.put_effects.Reads as put-effects-reads
-use Rattle.summary.proofs.walks.put_walks.Reads as put-walks-reads
 
 process-mutations-requires : tie.Need-process-mutations-requires
 process-mutations-requires c κs =

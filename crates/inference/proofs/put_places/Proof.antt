@@ -4,10 +4,6 @@ use Rattle.inference.proofs.Answering.{ranges-room, places-put}
 use borrow.Author.Needs.{needs}
 use Rattle.inference.proofs.put_places.Statement.{statement}
 use Rattle.inference.proofs.put_places.Tie as tie
-use Rattle.inference.proofs.put_places.Reads as reads
-use Rattle.inference.proofs.put_places.Lts as lts
-use Rattle.summary.proofs.ranges.put_ranges.Reads as put-ranges-reads
-use Rattle.summary.proofs.tracked.put_marked.Reads as put-marked-reads
 
 cast-params : tie.Need-cast-params
 cast-params c = omega (arith, c .before .before .before .before .pre .0 .params)

@@ -1,11 +1,7 @@
-use native.Mathlib.Omega.{arith}
 use Rattle.inference.proofs.Ending.{refused-all}
 use borrow.Author.Needs.{needs}
 use Rattle.inference.proofs.refuse.Statement.{statement}
 use Rattle.inference.proofs.refuse.Tie as tie
-use Rattle.inference.proofs.refuse.Reads as reads
-use Rattle.inference.proofs.refuse.Lts as lts
-use Rattle.rows.proofs.clear.Reads as clear-reads
 
 clear-requires : tie.Need-clear-requires
 clear-requires c κs = search needs

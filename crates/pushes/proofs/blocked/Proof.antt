@@ -1,8 +1,6 @@
 use borrow.Author.Tests.{eq-eqb, ne-eqb}
 use Rattle.pushes.proofs.blocked.Statement.{statement}
 use Rattle.pushes.proofs.blocked.Tie as tie
-use Rattle.pushes.proofs.blocked.Reads as reads
-use Rattle.pushes.proofs.blocked.Lts as lts
 
 returns : tie.Need-returns
 returns c = simp (eq-eqb _ 1 (c .if1 .taken))

@@ -3,8 +3,6 @@ use borrow.Author.Tests.{eq-eqb, ne-eqb}
 use Rattle.pushes.specs.Pushes.{edgeLevel}
 use Rattle.pushes.proofs.edge_kind.Statement.{statement}
 use Rattle.pushes.proofs.edge_kind.Tie as tie
-use Rattle.pushes.proofs.edge_kind.Reads as reads
-use Rattle.pushes.proofs.edge_kind.Lts as lts
 
 returns : tie.Need-returns
 unfolding edgeLevel

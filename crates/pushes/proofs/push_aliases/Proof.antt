@@ -10,10 +10,6 @@ use Rattle.pushes.proofs.Sizes.{list-le}
 use borrow.Author.Needs.{needs}
 use Rattle.pushes.proofs.push_aliases.Statement.{statement}
 use Rattle.pushes.proofs.push_aliases.Tie as tie
-use Rattle.pushes.proofs.push_aliases.Reads as reads
-use Rattle.pushes.proofs.push_aliases.Lts as lts
-use Rattle.pushes.proofs.blocked.Reads as blocked-reads
-use Rattle.pushes.proofs.push_list.Reads as push-list-reads
 
 add-blocked : tie.Need-add-blocked
 add-blocked c = omega arith

@@ -5,12 +5,6 @@ use mathlib.Core.Path.{_∙_}
 use Rattle.pushes.proofs.Pushes.{pushed-length}
 use Rattle.pushes.proofs.push_all.Statement.{statement}
 use Rattle.pushes.proofs.push_all.Tie as tie
-use Rattle.pushes.proofs.push_all.Reads as reads
-use Rattle.pushes.proofs.push_all.Lts as lts
-use Rattle.pushes.proofs.push_aliases.Reads as push-aliases-reads
-use Rattle.pushes.proofs.push_captures.Reads as push-captures-reads
-use Rattle.pushes.proofs.push_edges.Reads as push-edges-reads
-use Rattle.pushes.proofs.push_list.Reads as push-list-reads
 
 push-edges-requires : tie.Need-push-edges-requires
 push-edges-requires c κs =

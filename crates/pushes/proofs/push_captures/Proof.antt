@@ -8,9 +8,6 @@ use Rattle.pushes.proofs.Pushes.{pushed-none, captures-open, captures-s
 use borrow.Author.Needs.{needs}
 use Rattle.pushes.proofs.push_captures.Statement.{statement}
 use Rattle.pushes.proofs.push_captures.Tie as tie
-use Rattle.pushes.proofs.push_captures.Reads as reads
-use Rattle.pushes.proofs.push_captures.Lts as lts
-use Rattle.pushes.proofs.push_list.Reads as push-list-reads
 
 mul-push-list : tie.Need-mul-push-list
 mul-push-list c = search needs

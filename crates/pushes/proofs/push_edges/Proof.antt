@@ -8,10 +8,6 @@ use Rattle.pushes.specs.Pushes.{forwardW, Pushed}
 use Rattle.rows.proofs.Rows.{Bounds, edge-bounds, rowF-at}
 use Rattle.pushes.proofs.push_edges.Statement.{statement}
 use Rattle.pushes.proofs.push_edges.Tie as tie
-use Rattle.pushes.proofs.push_edges.Reads as reads
-use Rattle.pushes.proofs.push_edges.Lts as lts
-use Rattle.pushes.proofs.push_forward.Reads as push-forward-reads
-use Rattle.pushes.proofs.wide.Reads as wide-reads
 
 bounds : (s : tie.Start) → Bounds (s .args .ws .now) FBOUND (FBOUND + s .args .x) (FBOUND + s .args .x + 1) (fb (rowsOf (s .args .ws .now)) (s .args .x)) (fb (rowsOf (s .args .ws .now)) (s .args .x + 1))
 bounds s = edge-bounds (s .args .ws .now) (s .pre .0 .size) (s .pre .0 .good) (s .args .x) (s .pre .1 .1 .1 .1)

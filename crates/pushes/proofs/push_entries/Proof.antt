@@ -4,9 +4,6 @@ use Rattle.pushes.specs.Pushes.{entriesW}
 use Rattle.pushes.proofs.Pushing.{PushInv, push-start, entries-turn, entries-skipped, entries-done}
 use Rattle.pushes.proofs.push_entries.Statement.{statement}
 use Rattle.pushes.proofs.push_entries.Tie as tie
-use Rattle.pushes.proofs.push_entries.Reads as reads
-use Rattle.pushes.proofs.push_entries.Lts as lts
-use Rattle.pushes.proofs.entry.Reads as entry-reads
 
 abbrev Inv-loop : tie.InvT-loop
 Inv-loop ws₀ at end index transitive kind top i₀ len₀ ws i len = PushInv (entriesW index transitive kind) ws₀ at end top ws i end len

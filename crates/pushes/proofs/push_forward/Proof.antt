@@ -4,10 +4,6 @@ use Rattle.pushes.specs.Pushes.{forwardW}
 use Rattle.pushes.proofs.Pushing.{PushInv, push-start, forward-turn, forward-stopped, forward-done}
 use Rattle.pushes.proofs.push_forward.Statement.{statement}
 use Rattle.pushes.proofs.push_forward.Tie as tie
-use Rattle.pushes.proofs.push_forward.Reads as reads
-use Rattle.pushes.proofs.push_forward.Lts as lts
-use Rattle.pushes.proofs.edge_kind.Reads as edge-kind-reads
-use Rattle.pushes.proofs.entry.Reads as entry-reads
 
 abbrev Inv-loop : tie.InvT-loop
 Inv-loop ws₀ at end index transitive kind top i₀ stop₀ len₀ ws i stop len = PushInv (forwardW index transitive kind) ws₀ at end top ws i stop len

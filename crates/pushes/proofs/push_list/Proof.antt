@@ -8,10 +8,6 @@ use Rattle.pushes.specs.Pushes.{entriesW, Pushed}
 use Rattle.rows.proofs.Rows.{Bounds, list-bounds, rowB-at}
 use Rattle.pushes.proofs.push_list.Statement.{statement}
 use Rattle.pushes.proofs.push_list.Tie as tie
-use Rattle.pushes.proofs.push_list.Reads as reads
-use Rattle.pushes.proofs.push_list.Lts as lts
-use Rattle.pushes.proofs.push_entries.Reads as push-entries-reads
-use Rattle.pushes.proofs.wide.Reads as wide-reads
 
 bounds : (s : tie.Start) → Bounds (s .args .ws .now) BBOUND (BBOUND + s .args .k) (BBOUND + s .args .k + 1) (bb (rowsOf (s .args .ws .now)) (s .args .k)) (bb (rowsOf (s .args .ws .now)) (s .args .k + 1))
 bounds s = list-bounds (s .args .ws .now) (s .pre .0 .size) (s .pre .0 .good) (s .args .k) (s .pre .1 .1 .1 .1)

@@ -6,13 +6,6 @@ use Rattle.pushes.proofs.Whole.{run-room, run-bounds, run-fits, run-pus
 use borrow.Author.Needs.{needs}
 use Rattle.pushes.proofs.push_whole.Statement.{statement}
 use Rattle.pushes.proofs.push_whole.Tie as tie
-use Rattle.pushes.proofs.push_whole.Reads as reads
-use Rattle.pushes.proofs.push_whole.Lts as lts
-use Rattle.pushes.proofs.blocked.Reads as blocked-reads
-use Rattle.pushes.proofs.push_edges.Reads as push-edges-reads
-use Rattle.pushes.proofs.push_entries.Reads as push-entries-reads
-use Rattle.pushes.proofs.push_list.Reads as push-list-reads
-use Rattle.pushes.proofs.wide.Reads as wide-reads
 
 push-edges-requires : tie.Need-push-edges-requires
 push-edges-requires c κs = (room-edges (c .before .before .args .ws .now) (c .before .before .args .top) (c .before .before .args .x) (c .before .before .args .direction) (c .before .before .args .index) 1 0 (c .before .before .pre .0) (c .before .before .pre .1 .0), (c .before .before .pre .1 .0, (omega arith, (omega arith, c .before .before .pre .1 .1))))

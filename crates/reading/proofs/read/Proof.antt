@@ -1,6 +1,6 @@
 use Rattle.reading.proofs.VerdictLaws.{judged-refused, judged-seven, judged-eight, judged-accepted}
 use Rattle.blocks.specs.Says.{totalsSays}
-use mathlib.Core.Path.{_≡_, _∙_, sym}
+use mathlib.Core.Path.{_∙_, sym}
 use borrow.Author.Tests.{lt-ltb, le-ltb}
 use Rattle.model.specs.Call.{read}
 use Rattle.hir.proofs.Answers.{says}

@@ -1,8 +1,6 @@
 use borrow.Author.Tests.{eq-eqb, ne-eqb}
 use Rattle.renders.proofs.passes_by.Statement.{statement}
 use Rattle.renders.proofs.passes_by.Tie as tie
-use Rattle.renders.proofs.passes_by.Reads as reads
-use Rattle.renders.proofs.passes_by.Lts as lts
 
 returns : tie.Need-returns
 returns c = simp (eq-eqb _ 0 (c .if1 .taken))

@@ -3,9 +3,6 @@ use mathlib.Core.Path.{_∙_}
 use native.Mathlib.Omega.{arith}
 use Rattle.renders.proofs.push_origins.Statement.{statement}
 use Rattle.renders.proofs.push_origins.Tie as tie
-use Rattle.renders.proofs.push_origins.Reads as reads
-use Rattle.renders.proofs.push_origins.Lts as lts
-use Rattle.pushes.proofs.push_list.Reads as push-list-reads
 
 mul-push-list : tie.Need-mul-push-list
 mul-push-list c = omega arith

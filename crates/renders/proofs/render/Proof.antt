@@ -4,10 +4,6 @@ use mathlib.Core.Path.{_∙_}
 use native.Mathlib.Omega.{arith}
 use Rattle.renders.proofs.render.Statement.{statement}
 use Rattle.renders.proofs.render.Tie as tie
-use Rattle.renders.proofs.render.Reads as reads
-use Rattle.renders.proofs.render.Lts as lts
-use Rattle.renders.proofs.walk.Reads as walk-reads
-use Rattle.rows.proofs.clear.Reads as clear-reads
 
 clear-requires : tie.Need-clear-requires
 clear-requires c κs = omega arith

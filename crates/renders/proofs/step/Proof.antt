@@ -5,13 +5,6 @@ use native.Mathlib.Omega.{arith}
 use borrow.Author.Needs.{needs}
 use Rattle.renders.proofs.step.Statement.{statement}
 use Rattle.renders.proofs.step.Tie as tie
-use Rattle.renders.proofs.step.Reads as reads
-use Rattle.renders.proofs.step.Lts as lts
-use Rattle.aliasing.proofs.append_function_errors.Reads as append-function-errors-reads
-use Rattle.aliasing.proofs.field.Reads as field-reads
-use Rattle.renders.proofs.passes_by.Reads as passes-by-reads
-use Rattle.renders.proofs.push_origins.Reads as push-origins-reads
-use Rattle.renders.proofs.value_of.Reads as value-of-reads
 
 sub-t : tie.Need-sub-t
 sub-t c = search needs

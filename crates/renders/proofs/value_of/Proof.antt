@@ -2,8 +2,6 @@ use Rattle.renders.proofs.Steps.{value-below, value-none}
 use native.Mathlib.Omega.{arith}
 use Rattle.renders.proofs.value_of.Statement.{statement}
 use Rattle.renders.proofs.value_of.Tie as tie
-use Rattle.renders.proofs.value_of.Reads as reads
-use Rattle.renders.proofs.value_of.Lts as lts
 
 cast-if1 : tie.Need-cast-if1
 cast-if1 c = omega arith

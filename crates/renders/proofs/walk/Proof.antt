@@ -6,9 +6,6 @@ use Prim.Native.Nat.{_+_}
 use native.Mathlib.Omega.{arith}
 use Rattle.renders.proofs.walk.Statement.{statement}
 use Rattle.renders.proofs.walk.Tie as tie
-use Rattle.renders.proofs.walk.Reads as reads
-use Rattle.renders.proofs.walk.Lts as lts
-use Rattle.renders.proofs.step.Reads as step-reads
 
 abbrev Inv-loop : tie.InvT-loop
 Inv-loop ws₀ index top hand t₀ h₀ taken₀ ws t h taken = WalkInv index ws₀ top hand ws t h taken

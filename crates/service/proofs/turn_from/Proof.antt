@@ -2,10 +2,6 @@ use Rattle.service.proofs.Serving.{served-refused, served-accepted}
 use borrow.Author.Needs.{needs}
 use Rattle.service.proofs.turn_from.Statement.{statement}
 use Rattle.service.proofs.turn_from.Tie as tie
-use Rattle.service.proofs.turn_from.Reads as reads
-use Rattle.service.proofs.turn_from.Lts as lts
-use Rattle.inference.proofs.infer_mutation_aliasing_ranges.Reads as infer-mutation-aliasing-ranges-reads
-use Rattle.std.proofs.num.wrapping_add_u32.Reads as wrapping-add-u32-reads
 
 infer-mutation-aliasing-ranges-requires : tie.Need-infer-mutation-aliasing-ranges-requires
 infer-mutation-aliasing-ranges-requires c κs = search needs

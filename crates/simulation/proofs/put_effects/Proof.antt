@@ -4,15 +4,6 @@ use Rattle.simulation.proofs.Written.{indexed-after, after-context, aft
 use borrow.Author.Needs.{needs}
 use Rattle.simulation.proofs.put_effects.Statement.{statement}
 use Rattle.simulation.proofs.put_effects.Tie as tie
-use Rattle.simulation.proofs.put_effects.Reads as reads
-use Rattle.simulation.proofs.put_effects.Lts as lts
-use Rattle.copies.proofs.returns.put_create_returns.Reads as put-create-returns-reads
-use Rattle.simulation.proofs.put_copied.Reads as put-copied-reads
-use Rattle.simulation.proofs.simulate.Reads as simulate-reads
-use Rattle.summary.proofs.records.collect_effects.Reads as collect-effects-reads
-use Rattle.summary.proofs.tracked.mark_tracked.Reads as mark-tracked-reads
-use Rattle.writing.proofs.patch.Reads as patch-reads
-use Rattle.writing.proofs.put.Reads as put-reads
 
 cast-params : tie.Need-cast-params
 cast-params c =

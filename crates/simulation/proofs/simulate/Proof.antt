@@ -5,13 +5,6 @@ use Rattle.summary.proofs.Places.{is-below}
 use Rattle.simulation.proofs.Turns.{Turned, cleared-start, cleared-marked, cleared-end, long, stored-size, turned-turn, turned-end}
 use Rattle.simulation.proofs.simulate.Statement.{statement}
 use Rattle.simulation.proofs.simulate.Tie as tie
-use Rattle.simulation.proofs.simulate.Reads as reads
-use Rattle.simulation.proofs.simulate.Lts as lts
-use Rattle.aliasing.proofs.clear_marks.Reads as clear-marks-reads
-use Rattle.aliasing.proofs.mutate.Reads as mutate-reads
-use Rattle.simulation.proofs.simulated.Reads as simulated-reads
-use Rattle.summary.proofs.flows.put_flows.Reads as put-flows-reads
-use Rattle.summary.proofs.tracked.tracked.Reads as tracked-reads
 
 abbrev Inv-loop : tie.InvT-loop
 Inv-loop ws₀ count index returns answer₀ at to₀ i₀ next₀ ws answer to i next = Turned ws₀ count index (returns .0) answer₀ at ws answer to i next

@@ -4,8 +4,6 @@ use mathlib.Core.Path.{refl}
 use native.Mathlib.Omega.{arith}
 use Rattle.simulation.proofs.simulated.Statement.{statement}
 use Rattle.simulation.proofs.simulated.Tie as tie
-use Rattle.simulation.proofs.simulated.Reads as reads
-use Rattle.simulation.proofs.simulated.Lts as lts
 
 returns : tie.Need-returns
 unfolding simulation modeSays mutationSays

@@ -6,8 +6,6 @@ use Rattle.steps.specs.Steps.{Orders}
 use Rattle.steps.proofs.Steps.{orders-none, orders-next}
 use Rattle.steps.proofs.have_orders.Statement.{statement}
 use Rattle.steps.proofs.have_orders.Tie as tie
-use Rattle.steps.proofs.have_orders.Reads as reads
-use Rattle.steps.proofs.have_orders.Lts as lts
 
 abbrev Inv-loop : tie.InvT-loop
 Inv-loop ws count i₀ i = (i ≤ count) × Orders ws i

@@ -2,10 +2,6 @@ use Rattle.steps.proofs.Steps.{laid}
 use borrow.Author.Needs.{needs}
 use Rattle.steps.proofs.lay_out_steps.Statement.{statement}
 use Rattle.steps.proofs.lay_out_steps.Tie as tie
-use Rattle.steps.proofs.lay_out_steps.Reads as reads
-use Rattle.steps.proofs.lay_out_steps.Lts as lts
-use Rattle.building.proofs.Building.lay_out.Reads as lay-out-reads
-use Rattle.steps.proofs.run_steps.Reads as run-steps-reads
 
 run-steps-requires : tie.Need-run-steps-requires
 run-steps-requires c κs = search needs

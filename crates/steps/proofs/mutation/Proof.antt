@@ -2,9 +2,6 @@ use native.Mathlib.Omega.{arith}
 use borrow.Author.Needs.{needs}
 use Rattle.steps.proofs.mutation.Statement.{statement}
 use Rattle.steps.proofs.mutation.Tie as tie
-use Rattle.steps.proofs.mutation.Reads as reads
-use Rattle.steps.proofs.mutation.Lts as lts
-use Rattle.building.proofs.Building.push_mutation.Reads as push-mutation-reads
 
 push-mutation-requires : tie.Need-push-mutation-requires
 push-mutation-requires c κs = (c .before .before .before .before .pre .0, (omega (arith, c .before .if1 .taken), (omega arith, (omega arith, (omega arith, omega arith)))))

@@ -2,9 +2,6 @@ use native.Mathlib.Omega.{arith}
 use borrow.Author.Needs.{needs}
 use Rattle.steps.proofs.steps_build.Statement.{statement}
 use Rattle.steps.proofs.steps_build.Tie as tie
-use Rattle.steps.proofs.steps_build.Reads as reads
-use Rattle.steps.proofs.steps_build.Lts as lts
-use Rattle.steps.proofs.lay_out_steps.Reads as lay-out-steps-reads
 
 returns : tie.Need-returns
 returns c = λ h. absurd (omega (arith, h, c .if1 .taken))

@@ -1,12 +1,7 @@
 use Rattle.steps.proofs.Steps.{kept-covered, orders-every, walked, not-walked}
-use native.Mathlib.Omega.{arith}
 use borrow.Author.Needs.{needs}
 use Rattle.steps.proofs.walk_mutations.Statement.{statement}
 use Rattle.steps.proofs.walk_mutations.Tie as tie
-use Rattle.steps.proofs.walk_mutations.Reads as reads
-use Rattle.steps.proofs.walk_mutations.Lts as lts
-use Rattle.aliasing.proofs.process_mutations.Reads as process-mutations-reads
-use Rattle.steps.proofs.have_orders.Reads as have-orders-reads
 
 slice-read-if1 : tie.Need-slice-read-if1
 slice-read-if1 c = search needs

@@ -3,8 +3,6 @@ use lib.Seq.{set-out}
 use borrow.Author.Needs.{needs}
 use Rattle.writing.proofs.patch.Statement.{statement}
 use Rattle.writing.proofs.patch.Tie as tie
-use Rattle.writing.proofs.patch.Reads as reads
-use Rattle.writing.proofs.patch.Lts as lts
 
 mul-answer : tie.Need-mul-answer
 mul-answer c = search needs

@@ -1,6 +1,6 @@
 use Rattle.blocks.proofs.BlockLaws.{phi-got, phi-place-refused, phi-count-refused}
 use Rattle.hir.specs.Says.{wordSays, placeSays}
-use mathlib.Core.Path.{_≡_, _∙_, sym, refl}
+use mathlib.Core.Path.{_∙_, sym}
 use Rattle.hir.proofs.Answers.{says}
 use borrow.Author.Needs.{needs}
 use Rattle.blocks.proofs.phis.phi.Statement.{statement}

@@ -3,9 +3,6 @@ use lib.ListN.{drop}
 use borrow.Author.Needs.{needs}
 use Rattle.blocks.proofs.phis.repeated.Statement.{statement}
 use Rattle.blocks.proofs.phis.repeated.Tie as tie
-use Rattle.blocks.proofs.phis.repeated.Reads as reads
-use Rattle.blocks.proofs.phis.repeated.Lts as lts
-use Rattle.blocks.proofs.phis.listed.Reads as listed-reads
 
 cast-listed : tie.Need-cast-listed
 cast-listed c = search needs

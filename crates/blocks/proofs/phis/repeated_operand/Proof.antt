@@ -3,9 +3,6 @@ use Rattle.blocks.specs.Operands.{predecessors}
 use borrow.Author.Needs.{needs}
 use Rattle.blocks.proofs.phis.repeated_operand.Statement.{statement}
 use Rattle.blocks.proofs.phis.repeated_operand.Tie as tie
-use Rattle.blocks.proofs.phis.repeated_operand.Reads as reads
-use Rattle.blocks.proofs.phis.repeated_operand.Lts as lts
-use Rattle.blocks.proofs.phis.among_operands.Reads as among_operands-reads
 
 among-operands-requires : tie.Need-among-operands-requires
 among-operands-requires c κs = search needs

@@ -3,10 +3,6 @@ use Rattle.building.proofs.Stages.{relation}
 use borrow.Author.Needs.{needs}
 use Rattle.building.proofs.Building.assign_effect.Statement.{statement}
 use Rattle.building.proofs.Building.assign_effect.Tie as tie
-use Rattle.building.proofs.Building.assign_effect.Reads as reads
-use Rattle.building.proofs.Building.assign_effect.Lts as lts
-use Rattle.building.proofs.Building.index.Reads as index-reads
-use Rattle.building.proofs.graph.assign.Reads as assign-reads
 
 index-requires : tie.Need-index-requires
 index-requires c κs = search needs

@@ -3,9 +3,6 @@ use Rattle.building.proofs.Stages.{come-is}
 use borrow.Author.Needs.{needs}
 use Rattle.building.proofs.Building.block_has_come.Statement.{statement}
 use Rattle.building.proofs.Building.block_has_come.Tie as tie
-use Rattle.building.proofs.Building.block_has_come.Reads as reads
-use Rattle.building.proofs.Building.block_has_come.Lts as lts
-use Rattle.building.proofs.pending.has_come.Reads as has-come-reads
 
 has-come-requires : tie.Need-has-come-requires
 has-come-requires c κs = search needs

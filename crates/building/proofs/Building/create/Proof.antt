@@ -5,10 +5,6 @@ use Rattle.building.proofs.Stages.{created}
 use borrow.Author.Needs.{needs}
 use Rattle.building.proofs.Building.create.Statement.{statement}
 use Rattle.building.proofs.Building.create.Tie as tie
-use Rattle.building.proofs.Building.create.Reads as reads
-use Rattle.building.proofs.Building.create.Lts as lts
-use Rattle.building.proofs.graph.create.Reads as create-reads
-use Rattle.building.proofs.value_word.Reads as value-word-reads
 
 value-word-requires : tie.Need-value-word-requires
 value-word-requires c κs = search needs

@@ -3,10 +3,6 @@ use Rattle.building.proofs.Stages.{relation}
 use borrow.Author.Needs.{needs}
 use Rattle.building.proofs.Building.create_from.Statement.{statement}
 use Rattle.building.proofs.Building.create_from.Tie as tie
-use Rattle.building.proofs.Building.create_from.Reads as reads
-use Rattle.building.proofs.Building.create_from.Lts as lts
-use Rattle.building.proofs.Building.index.Reads as index-reads
-use Rattle.building.proofs.graph.create_from.Reads as create-from-reads
 
 index-requires : tie.Need-index-requires
 index-requires c κs = search needs

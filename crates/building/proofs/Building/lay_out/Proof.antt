@@ -3,9 +3,6 @@ use Rattle.building.proofs.Ends.{laid-out}
 use borrow.Author.Needs.{needs}
 use Rattle.building.proofs.Building.lay_out.Statement.{statement}
 use Rattle.building.proofs.Building.lay_out.Tie as tie
-use Rattle.building.proofs.Building.lay_out.Reads as reads
-use Rattle.building.proofs.Building.lay_out.Lts as lts
-use Rattle.building.proofs.graph.lay_out.Reads as lay-out-reads
 
 lay-out-requires : tie.Need-lay-out-requires
 lay-out-requires c κs = search needs

@@ -3,11 +3,6 @@ use Rattle.building.proofs.Stages.{operand-assigned, operand-waits}
 use borrow.Author.Needs.{needs}
 use Rattle.building.proofs.Building.operand.Statement.{statement}
 use Rattle.building.proofs.Building.operand.Tie as tie
-use Rattle.building.proofs.Building.operand.Reads as reads
-use Rattle.building.proofs.Building.operand.Lts as lts
-use Rattle.building.proofs.Building.assign.Reads as assign-reads
-use Rattle.building.proofs.Building.block_has_come.Reads as block-has-come-reads
-use Rattle.building.proofs.Building.wait.Reads as wait-reads
 
 block-has-come-requires : tie.Need-block-has-come-requires
 block-has-come-requires c κs = search needs

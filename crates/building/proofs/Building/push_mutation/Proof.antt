@@ -3,10 +3,6 @@ use Rattle.building.proofs.Beside.{mutated}
 use borrow.Author.Needs.{needs}
 use Rattle.building.proofs.Building.push_mutation.Statement.{statement}
 use Rattle.building.proofs.Building.push_mutation.Tie as tie
-use Rattle.building.proofs.Building.push_mutation.Reads as reads
-use Rattle.building.proofs.Building.push_mutation.Lts as lts
-use Rattle.building.proofs.Building.index.Reads as index-reads
-use Rattle.building.proofs.pending.push_mutation.Reads as push-mutation-reads
 
 index-requires : tie.Need-index-requires
 index-requires c κs = search needs

@@ -3,10 +3,6 @@ use Rattle.building.proofs.Beside.{rendered}
 use borrow.Author.Needs.{needs}
 use Rattle.building.proofs.Building.push_render.Statement.{statement}
 use Rattle.building.proofs.Building.push_render.Tie as tie
-use Rattle.building.proofs.Building.push_render.Reads as reads
-use Rattle.building.proofs.Building.push_render.Lts as lts
-use Rattle.building.proofs.Building.index.Reads as index-reads
-use Rattle.building.proofs.pending.push_render.Reads as push-render-reads
 
 index-requires : tie.Need-index-requires
 index-requires c κs = search needs

@@ -3,10 +3,6 @@ use Rattle.building.proofs.Stages.{relation}
 use borrow.Author.Needs.{needs}
 use Rattle.building.proofs.Building.relate.Statement.{statement}
 use Rattle.building.proofs.Building.relate.Tie as tie
-use Rattle.building.proofs.Building.relate.Reads as reads
-use Rattle.building.proofs.Building.relate.Lts as lts
-use Rattle.building.proofs.Building.index.Reads as index-reads
-use Rattle.building.proofs.graph.store.Reads as store-reads
 
 index-requires : tie.Need-index-requires
 index-requires c κs = search needs

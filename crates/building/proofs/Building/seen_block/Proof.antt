@@ -3,9 +3,6 @@ use Rattle.building.proofs.Beside.{came}
 use borrow.Author.Needs.{needs}
 use Rattle.building.proofs.Building.seen_block.Statement.{statement}
 use Rattle.building.proofs.Building.seen_block.Tie as tie
-use Rattle.building.proofs.Building.seen_block.Reads as reads
-use Rattle.building.proofs.Building.seen_block.Lts as lts
-use Rattle.building.proofs.pending.push_block.Reads as push-block-reads
 
 push-block-requires : tie.Need-push-block-requires
 push-block-requires c κs = search needs

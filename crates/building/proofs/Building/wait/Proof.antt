@@ -3,10 +3,6 @@ use Rattle.building.proofs.Stages.{waited}
 use borrow.Author.Needs.{needs}
 use Rattle.building.proofs.Building.wait.Statement.{statement}
 use Rattle.building.proofs.Building.wait.Tie as tie
-use Rattle.building.proofs.Building.wait.Reads as reads
-use Rattle.building.proofs.Building.wait.Lts as lts
-use Rattle.building.proofs.Building.index.Reads as index-reads
-use Rattle.building.proofs.waiting.wait.Reads as wait-reads
 
 index-requires : tie.Need-index-requires
 index-requires c κs = search needs

@@ -3,9 +3,6 @@ use Rattle.building.proofs.Stages.{woken}
 use borrow.Author.Needs.{needs}
 use Rattle.building.proofs.Building.wake.Statement.{statement}
 use Rattle.building.proofs.Building.wake.Tie as tie
-use Rattle.building.proofs.Building.wake.Reads as reads
-use Rattle.building.proofs.Building.wake.Lts as lts
-use Rattle.building.proofs.waiting.wake.Reads as wake-reads
 
 wake-requires : tie.Need-wake-requires
 wake-requires c κs = search needs

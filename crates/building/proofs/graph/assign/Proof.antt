@@ -4,11 +4,6 @@ use Rattle.building.proofs.Steps.{effect-creates, effect-assigns}
 use borrow.Author.Needs.{needs}
 use Rattle.building.proofs.graph.assign.Statement.{statement}
 use Rattle.building.proofs.graph.assign.Tie as tie
-use Rattle.building.proofs.graph.assign.Reads as reads
-use Rattle.building.proofs.graph.assign.Lts as lts
-use Rattle.building.proofs.graph.create.Reads as create-reads
-use Rattle.building.proofs.graph.exists.Reads as exists-reads
-use Rattle.building.proofs.graph.store.Reads as store-reads
 
 exists-requires : tie.Need-exists-requires
 exists-requires c κs = search needs

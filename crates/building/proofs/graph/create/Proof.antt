@@ -6,10 +6,6 @@ use Prim.Native.Nat.{_+_}
 use borrow.Author.Needs.{needs}
 use Rattle.building.proofs.graph.create.Statement.{statement}
 use Rattle.building.proofs.graph.create.Tie as tie
-use Rattle.building.proofs.graph.create.Reads as reads
-use Rattle.building.proofs.graph.create.Lts as lts
-use Rattle.building.proofs.graph.raise.Reads as raise-reads
-use Rattle.building.proofs.logs.leave.Reads as leave-reads
 
 raise-requires : tie.Need-raise-requires
 raise-requires c κs = search needs

@@ -4,13 +4,6 @@ use Rattle.building.proofs.Steps.{alone-ready, from-ready, into-ready, 
 use borrow.Author.Needs.{needs}
 use Rattle.building.proofs.graph.create_from.Statement.{statement}
 use Rattle.building.proofs.graph.create_from.Tie as tie
-use Rattle.building.proofs.graph.create_from.Reads as reads
-use Rattle.building.proofs.graph.create_from.Lts as lts
-use Rattle.building.proofs.graph.create.Reads as create-reads
-use Rattle.building.proofs.graph.exists.Reads as exists-reads
-use Rattle.building.proofs.logs.add_edge.Reads as add-edge-reads
-use Rattle.building.proofs.logs.add_entry.Reads as add-entry-reads
-use Rattle.building.proofs.logs.pack.Reads as pack-reads
 
 create-requires : tie.Need-create-requires
 create-requires c κs = search needs

@@ -1,10 +1,7 @@
 use native.Mathlib.Omega.{arith}
 use Rattle.building.proofs.Values.{has-word, has-none}
-use borrow.Author.Needs.{needs}
 use Rattle.building.proofs.graph.exists.Statement.{statement}
 use Rattle.building.proofs.graph.exists.Tie as tie
-use Rattle.building.proofs.graph.exists.Reads as reads
-use Rattle.building.proofs.graph.exists.Lts as lts
 
 add-result : tie.Need-add-result
 add-result c = omega arith

@@ -4,9 +4,6 @@ use Rattle.building.proofs.LayOut.{lay-edges, lay-entries, noting-room,
 use lib.ListN.{length-set}
 use Rattle.building.proofs.graph.lay_out.Statement.{statement}
 use Rattle.building.proofs.graph.lay_out.Tie as tie
-use Rattle.building.proofs.graph.lay_out.Reads as reads
-use Rattle.building.proofs.graph.lay_out.Lts as lts
-use Rattle.rows.proofs.sort.Reads as sort-reads
 
 cast-ws : tie.Need-cast-ws
 cast-ws c = omega arith

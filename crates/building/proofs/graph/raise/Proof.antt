@@ -4,9 +4,6 @@ use mathlib.Core.Path.{refl}
 use borrow.Author.Needs.{needs}
 use Rattle.building.proofs.graph.raise.Statement.{statement}
 use Rattle.building.proofs.graph.raise.Tie as tie
-use Rattle.building.proofs.graph.raise.Reads as reads
-use Rattle.building.proofs.graph.raise.Lts as lts
-use Rattle.rows.proofs.clear.Reads as clear-reads
 
 returns : tie.Need-returns
 returns c = raise-none _ _ _ (c .before .before .pre .1 .0) (c .if1 .taken)

@@ -4,12 +4,6 @@ use Rattle.building.proofs.Steps.{edge-ready, entry-ready, store-builds
 use borrow.Author.Needs.{needs}
 use Rattle.building.proofs.graph.store.Statement.{statement}
 use Rattle.building.proofs.graph.store.Tie as tie
-use Rattle.building.proofs.graph.store.Reads as reads
-use Rattle.building.proofs.graph.store.Lts as lts
-use Rattle.building.proofs.graph.exists.Reads as exists-reads
-use Rattle.building.proofs.logs.add_edge.Reads as add-edge-reads
-use Rattle.building.proofs.logs.add_entry.Reads as add-entry-reads
-use Rattle.building.proofs.logs.pack.Reads as pack-reads
 
 exists-requires : tie.Need-exists-requires
 exists-requires c κs = search needs

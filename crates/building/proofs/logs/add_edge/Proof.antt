@@ -3,8 +3,6 @@ use native.Mathlib.Omega.{arith}
 use borrow.Author.Needs.{needs}
 use Rattle.building.proofs.logs.add_edge.Statement.{statement}
 use Rattle.building.proofs.logs.add_edge.Tie as tie
-use Rattle.building.proofs.logs.add_edge.Reads as reads
-use Rattle.building.proofs.logs.add_edge.Lts as lts
 
 add-ws : tie.Need-add-ws
 add-ws c = omega arith

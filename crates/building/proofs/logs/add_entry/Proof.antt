@@ -4,9 +4,6 @@ use native.Mathlib.Omega.{arith}
 use borrow.Author.Needs.{needs}
 use Rattle.building.proofs.logs.add_entry.Statement.{statement}
 use Rattle.building.proofs.logs.add_entry.Tie as tie
-use Rattle.building.proofs.logs.add_entry.Reads as reads
-use Rattle.building.proofs.logs.add_entry.Lts as lts
-use Rattle.building.proofs.logs.has_entry.Reads as has-entry-reads
 
 has-entry-requires : tie.Need-has-entry-requires
 has-entry-requires c κs = search needs

@@ -7,8 +7,6 @@ use Rattle.building.specs.Logs.{sameW}
 use native.Mathlib.Omega.{arith}
 use Rattle.building.proofs.logs.has_entry.Statement.{statement}
 use Rattle.building.proofs.logs.has_entry.Tie as tie
-use Rattle.building.proofs.logs.has_entry.Reads as reads
-use Rattle.building.proofs.logs.has_entry.Lts as lts
 
 abbrev Inv-loop : tie.InvT-loop
 Inv-loop ws n w found₀ i₀ found i = Testing (sameW w) ENTRIES ws n found i

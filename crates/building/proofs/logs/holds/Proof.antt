@@ -7,9 +7,6 @@ use Rattle.building.specs.Logs.{ownsW}
 use native.Mathlib.Omega.{arith}
 use Rattle.building.proofs.logs.holds.Statement.{statement}
 use Rattle.building.proofs.logs.holds.Tie as tie
-use Rattle.building.proofs.logs.holds.Reads as reads
-use Rattle.building.proofs.logs.holds.Lts as lts
-use Rattle.building.proofs.logs.owner.Reads as owner-reads
 
 abbrev Inv-loop : tie.InvT-loop
 Inv-loop ws t at n x found₀ i₀ found i = Testing (ownsW t x) at ws n found i

@@ -4,10 +4,6 @@ use Prim.Native.Nat.{_-_}
 use native.Mathlib.Omega.{arith}
 use Rattle.building.proofs.logs.leave.Statement.{statement}
 use Rattle.building.proofs.logs.leave.Tie as tie
-use Rattle.building.proofs.logs.leave.Reads as reads
-use Rattle.building.proofs.logs.leave.Lts as lts
-use Rattle.building.proofs.logs.owner.Reads as owner-reads
-use Rattle.building.proofs.logs.others.Reads as others-reads
 
 abbrev Inv-loop : tie.InvT-loop
 Inv-loop ws₀ t at n x first i₀ k₀ ws i k = Leaving ws₀ t at n x ws i k

@@ -6,9 +6,6 @@ use Prim.Native.Nat.{_-_}
 use native.Mathlib.Omega.{arith}
 use Rattle.building.proofs.logs.others.Statement.{statement}
 use Rattle.building.proofs.logs.others.Tie as tie
-use Rattle.building.proofs.logs.others.Reads as reads
-use Rattle.building.proofs.logs.others.Lts as lts
-use Rattle.building.proofs.logs.holds.Reads as holds-reads
 
 abbrev Inv-loop : tie.InvT-loop
 Inv-loop ws t at n x i₀ i = Others (ownsW t x) at n ws i

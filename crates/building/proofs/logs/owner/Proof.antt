@@ -2,8 +2,6 @@ use borrow.Author.Tests.{eq-eqb, ne-eqb}
 use Rattle.building.specs.Logs.{ownerW}
 use Rattle.building.proofs.logs.owner.Statement.{statement}
 use Rattle.building.proofs.logs.owner.Tie as tie
-use Rattle.building.proofs.logs.owner.Reads as reads
-use Rattle.building.proofs.logs.owner.Lts as lts
 
 returns : tie.Need-returns
 unfolding ownerW

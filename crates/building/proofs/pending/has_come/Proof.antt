@@ -9,8 +9,6 @@ use Rattle.building.proofs.Loops.{Testing, test-start, test-found, test
 use Rattle.building.proofs.Pushes.{come-among}
 use Rattle.building.proofs.pending.has_come.Statement.{statement}
 use Rattle.building.proofs.pending.has_come.Tie as tie
-use Rattle.building.proofs.pending.has_come.Reads as reads
-use Rattle.building.proofs.pending.has_come.Lts as lts
 
 abbrev Inv-loop : tie.InvT-loop
 Inv-loop ws count block found₀ i₀ found i = Testing (eqb block) SEEN ws count found i

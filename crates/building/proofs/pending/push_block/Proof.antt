@@ -3,8 +3,6 @@ use Rattle.building.proofs.Pushes.{block-pushed}
 use borrow.Author.Needs.{needs}
 use Rattle.building.proofs.pending.push_block.Statement.{statement}
 use Rattle.building.proofs.pending.push_block.Tie as tie
-use Rattle.building.proofs.pending.push_block.Reads as reads
-use Rattle.building.proofs.pending.push_block.Lts as lts
 
 add-ws : tie.Need-add-ws
 add-ws c = omega arith

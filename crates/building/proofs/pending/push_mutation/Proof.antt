@@ -6,9 +6,6 @@ use Rattle.building.proofs.Pushes.{mutation-pushed}
 use borrow.Author.Needs.{needs}
 use Rattle.building.proofs.pending.push_mutation.Statement.{statement}
 use Rattle.building.proofs.pending.push_mutation.Tie as tie
-use Rattle.building.proofs.pending.push_mutation.Reads as reads
-use Rattle.building.proofs.pending.push_mutation.Lts as lts
-use Rattle.building.proofs.pending.mutation_word.Reads as mutation-word-reads
 
 mul-at : tie.Need-mul-at
 mul-at c = omega arith

@@ -3,8 +3,6 @@ use Rattle.building.proofs.Pushes.{render-pushed}
 use borrow.Author.Needs.{needs}
 use Rattle.building.proofs.pending.push_render.Statement.{statement}
 use Rattle.building.proofs.pending.push_render.Tie as tie
-use Rattle.building.proofs.pending.push_render.Reads as reads
-use Rattle.building.proofs.pending.push_render.Lts as lts
 
 mul-ws : tie.Need-mul-ws
 mul-ws c = omega arith

@@ -4,8 +4,6 @@ use native.Mathlib.Omega.{arith}
 use Rattle.building.specs.Held.{fourW}
 use Rattle.building.proofs.waiting.move_four.Statement.{statement}
 use Rattle.building.proofs.waiting.move_four.Tie as tie
-use Rattle.building.proofs.waiting.move_four.Reads as reads
-use Rattle.building.proofs.waiting.move_four.Lts as lts
 
 add-p0 : tie.Need-add-p0
 add-p0 c = omega arith

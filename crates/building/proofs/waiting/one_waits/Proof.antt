@@ -6,8 +6,6 @@ use Rattle.building.proofs.Operands.{test-hit, test-miss}
 use native.Mathlib.Omega.{arith}
 use Rattle.building.proofs.waiting.one_waits.Statement.{statement}
 use Rattle.building.proofs.waiting.one_waits.Tie as tie
-use Rattle.building.proofs.waiting.one_waits.Reads as reads
-use Rattle.building.proofs.waiting.one_waits.Lts as lts
 
 abbrev Inv-loop : tie.InvT-loop
 Inv-loop ws at n block found₀ i₀ found i = Testing (eqb block) at ws n found i

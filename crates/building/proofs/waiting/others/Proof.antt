@@ -7,9 +7,6 @@ use Prim.Native.Nat.{_-_}
 use native.Mathlib.Omega.{arith}
 use Rattle.building.proofs.waiting.others.Statement.{statement}
 use Rattle.building.proofs.waiting.others.Tie as tie
-use Rattle.building.proofs.waiting.others.Reads as reads
-use Rattle.building.proofs.waiting.others.Lts as lts
-use Rattle.building.proofs.waiting.one_waits.Reads as one-waits-reads
 
 abbrev Inv-loop : tie.InvT-loop
 Inv-loop ws n block i₀ i = Others (eqb block) PREDS n ws i

@@ -8,9 +8,6 @@ use lib.ListN.{length-set, getD}
 use native.Mathlib.Omega.{arith}
 use Rattle.building.proofs.waiting.stay.Statement.{statement}
 use Rattle.building.proofs.waiting.stay.Tie as tie
-use Rattle.building.proofs.waiting.stay.Reads as reads
-use Rattle.building.proofs.waiting.stay.Lts as lts
-use Rattle.building.proofs.waiting.stay_runs.Reads as stay-runs-reads
 
 abbrev Inv-loop : tie.InvT-loop
 Inv-loop ws₀ from left n block i₀ k₀ ws i k = Moved block i₀ k₀ n ws₀ i k ws

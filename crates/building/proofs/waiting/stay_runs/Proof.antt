@@ -6,10 +6,6 @@ use Prim.Native.Nat.{_-_}
 use native.Mathlib.Omega.{arith}
 use Rattle.building.proofs.waiting.stay_runs.Statement.{statement}
 use Rattle.building.proofs.waiting.stay_runs.Tie as tie
-use Rattle.building.proofs.waiting.stay_runs.Reads as reads
-use Rattle.building.proofs.waiting.stay_runs.Lts as lts
-use Rattle.building.proofs.waiting.move_four.Reads as move-four-reads
-use Rattle.building.proofs.waiting.one_waits.Reads as one-waits-reads
 
 abbrev Inv-loop : tie.InvT-loop
 Inv-loop ws₀ from left n block i₀ k₀ ws i k = Moved block from left n ws₀ i k ws

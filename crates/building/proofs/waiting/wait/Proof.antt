@@ -6,9 +6,6 @@ use Prim.Native.Nat.{_+_}
 use borrow.Author.Needs.{needs}
 use Rattle.building.proofs.waiting.wait.Statement.{statement}
 use Rattle.building.proofs.waiting.wait.Tie as tie
-use Rattle.building.proofs.waiting.wait.Reads as reads
-use Rattle.building.proofs.waiting.wait.Lts as lts
-use Rattle.building.proofs.logs.pack.Reads as pack-reads
 
 pack-requires : tie.Need-pack-requires
 pack-requires c κs = search needs

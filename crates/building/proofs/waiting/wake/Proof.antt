@@ -5,11 +5,6 @@ use Prim.Native.Nat.{_-_, _+_}
 use native.Mathlib.Omega.{arith}
 use Rattle.building.proofs.waiting.wake.Statement.{statement}
 use Rattle.building.proofs.waiting.wake.Tie as tie
-use Rattle.building.proofs.waiting.wake.Reads as reads
-use Rattle.building.proofs.waiting.wake.Lts as lts
-use Rattle.building.proofs.graph.store.Reads as store-reads
-use Rattle.building.proofs.waiting.others.Reads as others-reads
-use Rattle.building.proofs.waiting.stay.Reads as stay-reads
 
 abbrev Inv-loop : tie.InvT-loop
 Inv-loop ws₀ block n edges₀ entries₀ nodes₀ first i₀ left₀ ws edges entries nodes i left = Waking ws₀ block n edges₀ entries₀ nodes₀ ws edges entries nodes i left

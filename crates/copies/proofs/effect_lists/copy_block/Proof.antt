@@ -2,11 +2,6 @@ use Rattle.copies.proofs.Blocks.{copies-block}
 use borrow.Author.Needs.{needs}
 use Rattle.copies.proofs.effect_lists.copy_block.Statement.{statement}
 use Rattle.copies.proofs.effect_lists.copy_block.Tie as tie
-use Rattle.copies.proofs.effect_lists.copy_block.Reads as reads
-use Rattle.copies.proofs.effect_lists.copy_block.Lts as lts
-use Rattle.copies.proofs.effect_lists.copy_instructions.Reads as copy-instructions-reads
-use Rattle.copies.proofs.past.past_phis.Reads as past-phis-reads
-use Rattle.copies.proofs.past.past_terminal.Reads as past-terminal-reads
 
 past-phis-requires : tie.Need-past-phis-requires
 past-phis-requires c κs = search needs

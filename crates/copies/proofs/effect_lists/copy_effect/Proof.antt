@@ -2,10 +2,6 @@ use Rattle.copies.proofs.KindWords.{render-copies, diagnostic-copies, e
 use borrow.Author.Needs.{needs}
 use Rattle.copies.proofs.effect_lists.copy_effect.Statement.{statement}
 use Rattle.copies.proofs.effect_lists.copy_effect.Tie as tie
-use Rattle.copies.proofs.effect_lists.copy_effect.Reads as reads
-use Rattle.copies.proofs.effect_lists.copy_effect.Lts as lts
-use Rattle.copies.proofs.effect_lists.copy_words.Reads as copy-words-reads
-use Rattle.writing.proofs.put.Reads as put-reads
 
 enum-told : tie.Need-enum-told
 enum-told c = search needs

@@ -7,10 +7,6 @@ use native.Mathlib.Omega.{arith}
 use Prim.Native.Nat.{_+_, _*_, _≤_}
 use Rattle.copies.proofs.effect_lists.copy_effects.Statement.{statement}
 use Rattle.copies.proofs.effect_lists.copy_effects.Tie as tie
-use Rattle.copies.proofs.effect_lists.copy_effects.Reads as reads
-use Rattle.copies.proofs.effect_lists.copy_effects.Lts as lts
-use Rattle.copies.proofs.effect_lists.copy_block.Reads as copy-block-reads
-use Rattle.hir.proofs.Cursor.block_number.Reads as block-number-reads
 
 abbrev Inv-loop : tie.InvT-loop
 Inv-loop sheet count n m section answer₀ at left₀ next₀ to₀ answer left next to = NumberLoop (block n m) (blockWords section) sheet left₀ (next₀ .at) answer₀ at left (next .at) answer to × (to + 8388608 * left ≤ at + 2147483648)

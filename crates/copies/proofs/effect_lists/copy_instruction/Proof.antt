@@ -5,10 +5,6 @@ use Rattle.hir.specs.Says.{orderSays}
 use borrow.Author.Needs.{needs}
 use Rattle.copies.proofs.effect_lists.copy_instruction.Statement.{statement}
 use Rattle.copies.proofs.effect_lists.copy_instruction.Tie as tie
-use Rattle.copies.proofs.effect_lists.copy_instruction.Reads as reads
-use Rattle.copies.proofs.effect_lists.copy_instruction.Lts as lts
-use Rattle.copies.proofs.effect_lists.copy_list.Reads as copy-list-reads
-use Rattle.hir.proofs.Cursor.order.Reads as order-reads
 
 order-requires : tie.Need-order-requires
 order-requires c κs = search needs

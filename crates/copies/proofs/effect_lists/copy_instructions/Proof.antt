@@ -12,10 +12,6 @@ use native.Mathlib.Omega.{arith}
 use Prim.Native.Nat.{_+_, _*_, _≤_}
 use Rattle.copies.proofs.effect_lists.copy_instructions.Statement.{statement}
 use Rattle.copies.proofs.effect_lists.copy_instructions.Tie as tie
-use Rattle.copies.proofs.effect_lists.copy_instructions.Reads as reads
-use Rattle.copies.proofs.effect_lists.copy_instructions.Lts as lts
-use Rattle.copies.proofs.effect_lists.copy_instruction.Reads as copy-instruction-reads
-use Rattle.hir.proofs.Cursor.count.Reads as count-reads
 
 abbrev Inv-loop : tie.InvT-loop
 Inv-loop sheet n m section answer₀ at left₀ next₀ to₀ answer left next to = Loop (instruction n m) (instructionWords section) sheet left₀ (next₀ .at) answer₀ at left (next .at) answer to × (to + 8192 * left ≤ at + 8388608)

@@ -10,10 +10,6 @@ use mathlib.Core.Logic.{⊎-elim}
 use native.Mathlib.Omega.{arith}
 use Rattle.copies.proofs.effect_lists.copy_list.Statement.{statement}
 use Rattle.copies.proofs.effect_lists.copy_list.Tie as tie
-use Rattle.copies.proofs.effect_lists.copy_list.Reads as reads
-use Rattle.copies.proofs.effect_lists.copy_list.Lts as lts
-use Rattle.copies.proofs.effect_lists.copy_effect.Reads as copy-effect-reads
-use Rattle.hir.proofs.Cursor.count.Reads as count-reads
 
 abbrev Inv-loop : tie.InvT-loop
 Inv-loop sheet n m section answer₀ at left₀ next₀ to₀ answer left next to = Listing n m section sheet left₀ next₀ answer₀ at left next answer to

@@ -3,9 +3,6 @@ use Prim.Native.Nat.{_-_}
 use native.Mathlib.Omega.{arith}
 use Rattle.copies.proofs.effect_lists.copy_words.Statement.{statement}
 use Rattle.copies.proofs.effect_lists.copy_words.Tie as tie
-use Rattle.copies.proofs.effect_lists.copy_words.Reads as reads
-use Rattle.copies.proofs.effect_lists.copy_words.Lts as lts
-use Rattle.writing.proofs.put.Reads as put-reads
 
 abbrev Inv-loop : tie.InvT-loop
 Inv-loop sheet next answer₀ at to₀ i₀ answer to i = Verbatim sheet next 8 answer₀ at i answer to

@@ -7,10 +7,6 @@ use native.Mathlib.Omega.{arith}
 use borrow.Author.Needs.{needs}
 use Rattle.copies.proofs.functions.append_function_errors.Statement.{statement}
 use Rattle.copies.proofs.functions.append_function_errors.Tie as tie
-use Rattle.copies.proofs.functions.append_function_errors.Reads as reads
-use Rattle.copies.proofs.functions.append_function_errors.Lts as lts
-use Rattle.copies.proofs.functions.copy_diagnostics.Reads as copy-diagnostics-reads
-use Rattle.hir.proofs.Cursor.count.Reads as count-reads
 
 returns : tie.Need-returns
 returns c = appended-none _ _ _ _ (c .if1 .taken) _ _

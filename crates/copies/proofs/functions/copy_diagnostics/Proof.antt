@@ -7,10 +7,6 @@ use native.Mathlib.Omega.{arith}
 use Prim.Native.Nat.{_+_, _≤_}
 use Rattle.copies.proofs.functions.copy_diagnostics.Statement.{statement}
 use Rattle.copies.proofs.functions.copy_diagnostics.Tie as tie
-use Rattle.copies.proofs.functions.copy_diagnostics.Reads as reads
-use Rattle.copies.proofs.functions.copy_diagnostics.Lts as lts
-use Rattle.hir.proofs.Cursor.at_most.Reads as at-most-reads
-use Rattle.writing.proofs.put.Reads as put-reads
 
 abbrev Inv-loop : tie.InvT-loop
 Inv-loop sheet count answer₀ at left₀ next₀ to₀ answer left next to = Loop diagnostic diagnosticWords sheet left₀ (next₀ .at) answer₀ at left (next .at) answer to × (to + left ≤ at + 64)

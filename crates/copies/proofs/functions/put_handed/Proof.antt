@@ -3,9 +3,6 @@ use Prim.Native.Nat.{_-_}
 use native.Mathlib.Omega.{arith}
 use Rattle.copies.proofs.functions.put_handed.Statement.{statement}
 use Rattle.copies.proofs.functions.put_handed.Tie as tie
-use Rattle.copies.proofs.functions.put_handed.Reads as reads
-use Rattle.copies.proofs.functions.put_handed.Lts as lts
-use Rattle.copies.proofs.functions.append_function_errors.Reads as append-function-errors-reads
 
 abbrev Inv-loop : tie.InvT-loop
 Inv-loop sheet ws count hand answer₀ at to₀ i₀ answer to i = Handing sheet ws count hand answer₀ at i answer to

@@ -6,10 +6,6 @@ use native.Mathlib.Omega.{arith}
 use borrow.Author.Needs.{needs}
 use Rattle.copies.proofs.past.past_effects.Statement.{statement}
 use Rattle.copies.proofs.past.past_effects.Tie as tie
-use Rattle.copies.proofs.past.past_effects.Reads as reads
-use Rattle.copies.proofs.past.past_effects.Lts as lts
-use Rattle.copies.proofs.past.past.Reads as past-reads
-use Rattle.hir.proofs.Cursor.count.Reads as count-reads
 
 count-requires : tie.Need-count-requires
 count-requires c κs = search needs

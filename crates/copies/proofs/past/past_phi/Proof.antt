@@ -6,10 +6,6 @@ use native.Mathlib.Omega.{arith}
 use borrow.Author.Needs.{needs}
 use Rattle.copies.proofs.past.past_phi.Statement.{statement}
 use Rattle.copies.proofs.past.past_phi.Tie as tie
-use Rattle.copies.proofs.past.past_phi.Reads as reads
-use Rattle.copies.proofs.past.past_phi.Lts as lts
-use Rattle.copies.proofs.past.past.Reads as past-reads
-use Rattle.hir.proofs.Cursor.count.Reads as count-reads
 
 past-requires : tie.Need-past-requires
 past-requires c κs = search needs

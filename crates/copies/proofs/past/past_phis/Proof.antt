@@ -7,10 +7,6 @@ use Prim.Native.Nat.{ℕ}
 use native.Mathlib.Omega.{arith}
 use Rattle.copies.proofs.past.past_phis.Statement.{statement}
 use Rattle.copies.proofs.past.past_phis.Tie as tie
-use Rattle.copies.proofs.past.past_phis.Reads as reads
-use Rattle.copies.proofs.past.past_phis.Lts as lts
-use Rattle.copies.proofs.past.past_phi.Reads as past-phi-reads
-use Rattle.hir.proofs.Cursor.count.Reads as count-reads
 
 abbrev Inv-loop : tie.InvT-loop
 Inv-loop sheet left₀ next₀ left next = (n : ℕ) → PastLoop (phi n) sheet left₀ (next₀ .at) left (next .at)

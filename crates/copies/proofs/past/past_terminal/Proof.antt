@@ -6,11 +6,6 @@ use Rattle.hir.specs.Says.{kindStepSays}
 use borrow.Author.Needs.{needs}
 use Rattle.copies.proofs.past.past_terminal.Statement.{statement}
 use Rattle.copies.proofs.past.past_terminal.Tie as tie
-use Rattle.copies.proofs.past.past_terminal.Reads as reads
-use Rattle.copies.proofs.past.past_terminal.Lts as lts
-use Rattle.copies.proofs.past.past.Reads as past-reads
-use Rattle.copies.proofs.past.past_effects.Reads as past-effects-reads
-use Rattle.hir.proofs.Cursor.terminal_kind.Reads as terminal-kind-reads
 
 terminal-kind-requires : tie.Need-terminal-kind-requires
 terminal-kind-requires c κs = search needs

@@ -2,13 +2,6 @@ use Rattle.copies.proofs.Creates.{created}
 use borrow.Author.Needs.{needs}
 use Rattle.copies.proofs.returns.put_create_returns.Statement.{statement}
 use Rattle.copies.proofs.returns.put_create_returns.Tie as tie
-use Rattle.copies.proofs.returns.put_create_returns.Reads as reads
-use Rattle.copies.proofs.returns.put_create_returns.Lts as lts
-use Rattle.copies.proofs.put_effect.Reads as put-effect-reads
-use Rattle.copies.proofs.returns.type_at.Reads as type-at-reads
-use Rattle.copies.proofs.returns.value_kind.Reads as value-kind-reads
-use Rattle.hir.proofs.ValueKind.number.Reads as ValueKind-number-reads
-use Rattle.hir.proofs.ValueReason.number.Reads as ValueReason-number-reads
 
 type-at-requires : tie.Need-type-at-requires
 type-at-requires c κs = search needs

@@ -3,9 +3,6 @@ use native.Mathlib.Omega.{arith}
 use borrow.Author.Needs.{needs}
 use Rattle.copies.proofs.returns.type_at.Statement.{statement}
 use Rattle.copies.proofs.returns.type_at.Tie as tie
-use Rattle.copies.proofs.returns.type_at.Reads as reads
-use Rattle.copies.proofs.returns.type_at.Lts as lts
-use Rattle.hir.proofs.parts.type_of.Reads as type-of-reads
 
 cast-word : tie.Need-cast-word
 cast-word c = search needs

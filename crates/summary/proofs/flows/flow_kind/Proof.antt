@@ -1,8 +1,6 @@
 use borrow.Author.Tests.{eq-eqb, ne-eqb}
 use Rattle.summary.proofs.flows.flow_kind.Statement.{statement}
 use Rattle.summary.proofs.flows.flow_kind.Tie as tie
-use Rattle.summary.proofs.flows.flow_kind.Reads as reads
-use Rattle.summary.proofs.flows.flow_kind.Lts as lts
 
 returns : tie.Need-returns
 returns c = rw (eq-eqb _ _ (c .if1 .taken))

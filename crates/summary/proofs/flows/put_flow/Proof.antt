@@ -4,11 +4,6 @@ use Prim.Native.Nat.{ℕ, _/_}
 use borrow.Author.Needs.{needs}
 use Rattle.summary.proofs.flows.put_flow.Statement.{statement}
 use Rattle.summary.proofs.flows.put_flow.Tie as tie
-use Rattle.summary.proofs.flows.put_flow.Reads as reads
-use Rattle.summary.proofs.flows.put_flow.Lts as lts
-use Rattle.aliasing.proofs.field.Reads as field-reads
-use Rattle.copies.proofs.put_effect.Reads as put-effect-reads
-use Rattle.summary.proofs.flows.flow_kind.Reads as flow-kind-reads
 
 returns : tie.Need-returns
 returns c = flow-own _ _ _ _ _ (c .before .before .before .before .before .before .before .pre .0 .0) (c .if1 .taken) _ _

@@ -7,10 +7,6 @@ use mathlib.Core.Path.{_≡_, refl, _∙_}
 use Prim.Native.Nat.{_+_, _*_, _-_, _≤_}
 use Rattle.summary.proofs.flows.put_flows.Statement.{statement}
 use Rattle.summary.proofs.flows.put_flows.Tie as tie
-use Rattle.summary.proofs.flows.put_flows.Reads as reads
-use Rattle.summary.proofs.flows.put_flows.Lts as lts
-use Rattle.summary.proofs.flows.put_flow.Reads as put-flow-reads
-use Rattle.summary.proofs.tracked.tracked.Reads as tracked-reads
 
 abbrev Inv-loop : tie.InvT-loop
 Inv-loop ws count into index returns answer₀ at to₀ i₀ answer to i = Flowing ws count (placeIs into) index (returns .0) answer₀ at i answer to × (to + 8 * (count - i) ≤ at + 8 * count) × (length answer ≡ length answer₀)

@@ -6,10 +6,6 @@ use mathlib.Core.List.{[], _∷_}
 use Prim.Native.Nat.{ℕ, _-_}
 use Rattle.summary.proofs.ranges.put_ranges.Statement.{statement}
 use Rattle.summary.proofs.ranges.put_ranges.Tie as tie
-use Rattle.summary.proofs.ranges.put_ranges.Reads as reads
-use Rattle.summary.proofs.ranges.put_ranges.Lts as lts
-use Rattle.aliasing.proofs.field.Reads as field-reads
-use Rattle.writing.proofs.put.Reads as put-reads
 
 abbrev Inv-loop : tie.InvT-loop
 Inv-loop sheet n ws answer₀ at first from words count to₀ i₀ answer to i = Starting sheet from n ws answer₀ to₀ i answer to

@@ -6,10 +6,6 @@ use mathlib.Core.Path.{_≡_, refl, _∙_}
 use Prim.Native.Nat.{_+_, _*_, _-_, _≤_}
 use Rattle.summary.proofs.records.collect_effects.Statement.{statement}
 use Rattle.summary.proofs.records.collect_effects.Tie as tie
-use Rattle.summary.proofs.records.collect_effects.Reads as reads
-use Rattle.summary.proofs.records.collect_effects.Lts as lts
-use Rattle.summary.proofs.records.collect_param_effects.Reads as collect-param-effects-reads
-use Rattle.summary.proofs.tracked.tracked.Reads as tracked-reads
 
 abbrev Inv-loop : tie.InvT-loop
 Inv-loop ws first count answer₀ at to₀ i₀ answer to i = Collecting ws first count answer₀ at i answer to × (to + 16 * (count - i) ≤ at + 16 * count) × (length answer ≡ length answer₀)

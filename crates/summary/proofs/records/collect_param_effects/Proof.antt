@@ -3,11 +3,6 @@ use native.Mathlib.Omega.{arith}
 use borrow.Author.Needs.{needs}
 use Rattle.summary.proofs.records.collect_param_effects.Statement.{statement}
 use Rattle.summary.proofs.records.collect_param_effects.Tie as tie
-use Rattle.summary.proofs.records.collect_param_effects.Reads as reads
-use Rattle.summary.proofs.records.collect_param_effects.Lts as lts
-use Rattle.aliasing.proofs.field.Reads as field-reads
-use Rattle.summary.proofs.records.put_record.Reads as put-record-reads
-use Rattle.summary.proofs.records.reason_word.Reads as reason-word-reads
 
 cast-x : tie.Need-cast-x
 cast-x c = search needs

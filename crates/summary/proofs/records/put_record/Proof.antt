@@ -2,14 +2,10 @@ use Rattle.summary.proofs.Collecting.{level-none, level-conditional, le
 use Rattle.writing.proofs.Writing.{wrote-as, wrote-none}
 use Rattle.model.specs.Answer.{effectWords}
 use Rattle.model.specs.Lists.{gather}
-use mathlib.Core.List.{List}
 use mathlib.Core.Path.{_∙_, sym, ap}
 use borrow.Author.Needs.{needs}
 use Rattle.summary.proofs.records.put_record.Statement.{statement}
 use Rattle.summary.proofs.records.put_record.Tie as tie
-use Rattle.summary.proofs.records.put_record.Reads as reads
-use Rattle.summary.proofs.records.put_record.Lts as lts
-use Rattle.copies.proofs.put_effect.Reads as put-effect-reads
 
 returns : tie.Need-returns
 returns c = wrote-as (wrote-none _ _) (sym (ap (gather effectWords) (level-none _ _ _ _ _ (c .if1 .taken))))

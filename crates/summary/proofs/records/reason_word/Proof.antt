@@ -1,11 +1,6 @@
 use Rattle.summary.proofs.Collecting.{reason-none, reason-some}
-use Prim.Native.Nat.{ℕ}
-use mathlib.Core.Path.{ap, sym}
-use borrow.Author.Needs.{needs}
 use Rattle.summary.proofs.records.reason_word.Statement.{statement}
 use Rattle.summary.proofs.records.reason_word.Tie as tie
-use Rattle.summary.proofs.records.reason_word.Reads as reads
-use Rattle.summary.proofs.records.reason_word.Lts as lts
 
 returns : tie.Need-returns
 returns c = reason-none _ (c .if1 .taken)

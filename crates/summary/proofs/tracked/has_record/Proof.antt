@@ -6,9 +6,6 @@ use lib.Dec.{eqb}
 use borrow.Author.Needs.{needs}
 use Rattle.summary.proofs.tracked.has_record.Statement.{statement}
 use Rattle.summary.proofs.tracked.has_record.Tie as tie
-use Rattle.summary.proofs.tracked.has_record.Reads as reads
-use Rattle.summary.proofs.tracked.has_record.Lts as lts
-use Rattle.aliasing.proofs.field.Reads as field-reads
 
 field-requires : tie.Need-field-requires
 field-requires c κs = search needs

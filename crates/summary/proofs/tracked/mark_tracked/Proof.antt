@@ -2,14 +2,9 @@ use Rattle.summary.proofs.Marking.{mark-below}
 use Rattle.summary.proofs.Places.{is-below}
 use Rattle.summary.proofs.Marking.{Marking, marking-start, marking-turn, marking-end}
 use native.Mathlib.Omega.{arith}
-use Prim.Native.Nat.{_+_, _-_, _≤_}
+use Prim.Native.Nat.{_-_, _≤_}
 use Rattle.summary.proofs.tracked.mark_tracked.Statement.{statement}
 use Rattle.summary.proofs.tracked.mark_tracked.Tie as tie
-use Rattle.summary.proofs.tracked.mark_tracked.Reads as reads
-use Rattle.summary.proofs.tracked.mark_tracked.Lts as lts
-use Rattle.summary.proofs.tracked.marked.Reads as marked-reads
-use Rattle.summary.proofs.tracked.track.Reads as track-reads
-use Rattle.summary.proofs.tracked.tracked.Reads as tracked-reads
 
 abbrev Inv-loop : tie.InvT-loop
 Inv-loop ws₀ count i₀ ws i = Marking ws₀ ws i × (i ≤ count)

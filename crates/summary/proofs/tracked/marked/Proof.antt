@@ -2,9 +2,6 @@ use Rattle.summary.proofs.Marking.{mark-yes, mark-no}
 use borrow.Author.Needs.{needs}
 use Rattle.summary.proofs.tracked.marked.Statement.{statement}
 use Rattle.summary.proofs.tracked.marked.Tie as tie
-use Rattle.summary.proofs.tracked.marked.Reads as reads
-use Rattle.summary.proofs.tracked.marked.Lts as lts
-use Rattle.summary.proofs.tracked.has_record.Reads as has-record-reads
 
 cast-has-record : tie.Need-cast-has-record
 cast-has-record c = search needs

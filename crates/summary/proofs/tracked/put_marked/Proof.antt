@@ -6,12 +6,6 @@ use mathlib.Core.Path.{_≡_, refl, _∙_}
 use Prim.Native.Nat.{_+_, _*_, _-_, _≤_}
 use Rattle.summary.proofs.tracked.put_marked.Statement.{statement}
 use Rattle.summary.proofs.tracked.put_marked.Tie as tie
-use Rattle.summary.proofs.tracked.put_marked.Reads as reads
-use Rattle.summary.proofs.tracked.put_marked.Lts as lts
-use Rattle.copies.proofs.put_place.Reads as put-place-reads
-use Rattle.summary.proofs.tracked.marked.Reads as marked-reads
-use Rattle.summary.proofs.tracked.tracked.Reads as tracked-reads
-use Rattle.writing.proofs.put.Reads as put-reads
 
 abbrev Inv-loop : tie.InvT-loop
 Inv-loop ws first count answer₀ at to₀ i₀ answer to i = Putting ws first count answer₀ to₀ i answer to × (to + 3 * (count - i) ≤ at + 1 + 3 * count) × (length answer ≡ length answer₀)

@@ -7,9 +7,6 @@ use native.Mathlib.Omega.{arith}
 use borrow.Author.Needs.{needs}
 use Rattle.summary.proofs.tracked.track.Statement.{statement}
 use Rattle.summary.proofs.tracked.track.Tie as tie
-use Rattle.summary.proofs.tracked.track.Reads as reads
-use Rattle.summary.proofs.tracked.track.Lts as lts
-use Rattle.hir.proofs.places.traits_word.Reads as traits-word-reads
 
 traits-word-requires : tie.Need-traits-word-requires
 traits-word-requires c κs = search needs

@@ -2,10 +2,6 @@ use Rattle.summary.specs.Tracked.{trackedAt, placeOf}
 use borrow.Author.Needs.{needs}
 use Rattle.summary.proofs.tracked.tracked.Statement.{statement}
 use Rattle.summary.proofs.tracked.tracked.Tie as tie
-use Rattle.summary.proofs.tracked.tracked.Reads as reads
-use Rattle.summary.proofs.tracked.tracked.Lts as lts
-use Rattle.hir.proofs.places.effect_of.Reads as effect-of-reads
-use Rattle.hir.proofs.places.reactive_of.Reads as reactive-of-reads
 
 mul-w : tie.Need-mul-w
 mul-w c = search needs

@@ -10,9 +10,6 @@ use mathlib.Core.Path.{_≡_, refl, _∙_}
 use Prim.Native.Nat.{ℕ, _+_, _*_, _-_, _≤_}
 use Rattle.summary.proofs.walks.put_real.Statement.{statement}
 use Rattle.summary.proofs.walks.put_real.Tie as tie
-use Rattle.summary.proofs.walks.put_real.Reads as reads
-use Rattle.summary.proofs.walks.put_real.Lts as lts
-use Rattle.writing.proofs.put.Reads as put-reads
 
 abbrev Inv-loop : tie.InvT-loop
 Inv-loop ws count answer₀ at to₀ i₀ answer to i = Leaves (gather countWords (tab count (λ (j : ℕ). getD ws (MUTATIONS + 3 * j + 2) 0))) (gather countWords (drop i (tab count (λ (j : ℕ). getD ws (MUTATIONS + 3 * j + 2) 0)))) answer₀ at answer to × (to + (count - i) ≤ at + count) × (length answer ≡ length answer₀)

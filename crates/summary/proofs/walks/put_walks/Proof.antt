@@ -3,11 +3,6 @@ use native.Mathlib.Omega.{arith}
 use borrow.Author.Needs.{needs}
 use Rattle.summary.proofs.walks.put_walks.Statement.{statement}
 use Rattle.summary.proofs.walks.put_walks.Tie as tie
-use Rattle.summary.proofs.walks.put_walks.Reads as reads
-use Rattle.summary.proofs.walks.put_walks.Lts as lts
-use Rattle.summary.proofs.walks.put_real.Reads as put-real-reads
-use Rattle.summary.proofs.walks.put_simulated.Reads as put-simulated-reads
-use Rattle.writing.proofs.put.Reads as put-reads
 
 add-put : tie.Need-add-put
 add-put c = search needs
