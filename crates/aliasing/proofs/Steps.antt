@@ -15,9 +15,9 @@ use Rattle.model.specs.Graph.{Graph, Node, nodeAt}
 use Rattle.model.specs.Mutation.{level}
 use Rattle.model.specs.State.{Record, noRecord, hasRecord, recordsErrors, touch, functionOf, State, accepts}
 use Rattle.model.specs.Walks.{Item, Walk, pushes, remember, skipped, missed, accept, step}
-use Rattle.rows.specs.Rows.{rowsOf, limit, used, value, rowF, rowB, Good, Kept}
+use Rattle.rows.specs.Rows.{rowsOf, limit, value, rowF, rowB, Good, Kept}
 use Rattle.rows.specs.Graph.{valueOf, ownNode, graphOfRows}
-use Rattle.rows.proofs.Rows.{used-below, limit-at, value-at, value-beyond, rows-length}
+use Rattle.rows.proofs.Rows.{limit-at, value-at, value-beyond, rows-length}
 use Rattle.rows.proofs.Graph.{row-there, row-missing}
 use Rattle.rows.proofs.Parts.{drop-more}
 use Rattle.pushes.specs.Pushes.{pushedW, Pushed, Room, deg}
@@ -96,7 +96,7 @@ shows-to {base} {ws} {top} {hand} w v s p = subst (Shows base ws top hand) (sym 
 pub record Accepting (m : Mutation) (base : ℕ) (ws : List ℕ) (top hand transitive kind h : ℕ) (ws₂ : List ℕ) : Type 0 where
   pub room : Room ws₂ (top - 1) (deg (rowsOf ws₂) (placeAt ws top))
   -- its rows have bounds
-  pub below : placeAt ws top < used (rowsOf ws₂)
+  pub below : placeAt ws top < limit (rowsOf ws₂)
   pub stepped : (ws₃ : List ℕ) (r : ℕ) → Pushed ws₂ (top - 1) (pushedW (rowsOf ws₂) (placeAt ws top) (directionAt ws top) (m .index) transitive kind) ws₃ r → Stepped m base ws top hand ws₃ r h
 
 -- whether it is entered, and the words then
@@ -310,8 +310,8 @@ module _ (m : Mutation) (base : ℕ) (ws : List ℕ) (top hand : ℕ) (ready : R
           room = omega (arith, falls-by, ready .fits, ap (λ (g : List ℕ). deg g (placeAt ws top)) rows₂);
         }
 
-        step-used : (getD marked (3200 + placeAt ws top) 0 ≡ 0 → ⊥) → placeAt ws top < used (rowsOf ws₂)
-        step-used there = subst (λ (g : List ℕ). placeAt ws top < used g) (sym rows₂) (used-below (rowsOf ws) (placeAt ws top) x-below (λ z. there (value-kept ∙ z)))
+        step-below : placeAt ws top < limit (rowsOf ws₂)
+        step-below = subst (λ (g : List ℕ). placeAt ws top < limit g) (sym rows₂) under
 
         module _ (there : getD marked (3200 + placeAt ws top) 0 ≡ 0 → ⊥) (ws₃ : List ℕ) (r : ℕ)
             (p : Pushed ws₂ (top - 1) (pushedW (rowsOf ws₂) (placeAt ws top) (directionAt ws top) (m .index) (transitiveAt ws top) (kindAt ws top)) ws₃ r) where
@@ -431,7 +431,7 @@ module _ (m : Mutation) (base : ℕ) (ws : List ℕ) (top hand : ℕ) (ready : R
       passed = λ e. step-missing (value-same ∙ eqb-true (getD ws (3200 + placeAt ws top) 0) 0 (not-false _ e));
       accepted = λ e wsH h ph ws₂ is₂.
           let there : getD marked (3200 + placeAt ws top) 0 ≡ 0 → ⊥ = λ z. eqb-false (getD ws (3200 + placeAt ws top) 0) 0 (not-true _ e) (sym value-same ∙ z) in
-          record { room = step-room wsH h ph ws₂ is₂; below = step-used wsH h ph ws₂ is₂ there; stepped = step-accepted wsH h ph ws₂ is₂ there };
+          record { room = step-room wsH h ph ws₂ is₂; below = step-below wsH h ph ws₂ is₂; stepped = step-accepted wsH h ph ws₂ is₂ there };
     }
       where
         value-same : getD marked (3200 + placeAt ws top) 0 ≡ getD ws (3200 + placeAt ws top) 0

@@ -8,12 +8,12 @@ use mathlib.Core.Path.{_≡_, sym, ap, subst, _∙_}
 use lib.ListN.{length, getD, set, take, length-set}
 use lib.Seq.{slice, take-take, take-set-le, drop-set-lt, getD-set-same}
 use Rattle.rows.specs.Layout.{LEAST, VALUE, FBOUND, FEDGE, BBOUND, BENTRY, NODES, QUEUE, EDGES, ENTRIES}
-use Rattle.rows.specs.Rows.{rowsOf, limit, values, value, used, fb, bb, rowF, rowB, Good}
+use Rattle.rows.specs.Rows.{rowsOf, limit, values, value, fb, bb, rowF, rowB, Good}
 use Rattle.rows.specs.Sort.{sel, low, Lay, logOf, Sorted}
 use Rattle.rows.specs.Graph.{nodeOf, graphOfRows}
 use Rattle.rows.proofs.Parts.{slice-take, slice-before, slice-after, drop-more, drop-word, take-word, kept-at}
 use Rattle.rows.proofs.Counting.{kept-log, log-length, low-suc, low-mono, low-le, low-zero, low-all}
-use Rattle.rows.proofs.Rows.{limit-at, value-at, value-beyond, used-few, used-above, used-under, f-word, b-word, fb-at, bb-at, fb-behind, bb-behind, rowF-at, rowB-at, keys₀, keys₁}
+use Rattle.rows.proofs.Rows.{limit-at, value-at, value-beyond, f-word, b-word, fb-at, bb-at, fb-behind, bb-behind, rowF-at, rowB-at, keys₀, keys₁}
 use Rattle.rows.proofs.Tables.{tab-same}
 use Rattle.rows.proofs.Graph.{node-same, node-none}
 use Rattle.building.specs.declared.Held.{Held}
@@ -114,16 +114,6 @@ module _ (ws : List ℕ) (h : Held) (room : Room 0 0 ws h) where
           go (yes p) = value-at ws₂ long x q (omega (arith, p, limit-is)) ∙ take-word FBOUND (VALUE + x) ws ws₂ (omega (arith, q)) nodes ∙ sym (value-word ws (h .nodes) x p)
           go (no p) = value-beyond (rowsOf ws₂) x (omega (arith, p, limit-is)) ∙ sym (Vs-above x (omega (arith, p)) q)
 
-      -- the rows end no later than the bounds that were laid
-      abbrev U : ℕ
-      U = used (rowsOf ws₂)
-
-      U-few : U ≤ h .nodes
-      U-few = used-under (rowsOf ws₂) (h .nodes) (λ x k q. value-is x q ∙ Vs-above x k q)
-
-      no-value : (x : ℕ) → U ≤ x → x < 512 → getD Vs x 0 ≡ 0
-      no-value x k q = sym (value-is x q) ∙ used-above (rowsOf ws₂) x k q
-
       f-bound : (k : ℕ) → k ≤ h .nodes → getD ws₂ (FBOUND + k) 0 + low 0 k E ≡ h .edges
       unfolding E
       f-bound k q = omega (arith, kept-at (s₂ .kept) (FBOUND + k) (omega (arith, few-k)), s₁ .bounds k q)
@@ -138,18 +128,18 @@ module _ (ws : List ℕ) (h : Held) (room : Room 0 0 ws h) where
       b-all = omega (arith, b-bound 0 (omega arith), low-zero 1 N)
 
       fb-is : (k : ℕ) → fb (rowsOf ws₂) k ≡ low 0 k E
-      fb-is k = go (decLt U k)
+      fb-is k = go (decLt (h .nodes) k)
         where
-          go : Dec (U < k) → fb (rowsOf ws₂) k ≡ low 0 k E
-          go (yes p) = fb-behind ws₂ long k p ∙ f-all ∙ sym (low-up 0 U k E (omega (arith, p)) (E-under U (used-few (rowsOf ws₂)) no-value ∙ sym E-length) ∙ E-length)
-          go (no p) = omega (arith, fb-at ws₂ long k (omega (arith, p)), f-all, f-bound k (omega (arith, p, U-few)))
+          go : Dec (h .nodes < k) → fb (rowsOf ws₂) k ≡ low 0 k E
+          go (yes p) = fb-behind ws₂ long k (omega (arith, p, limit-is)) ∙ f-all ∙ sym (low-up 0 (h .nodes) k E (omega (arith, p)) (E-under (h .nodes) few-k Vs-above ∙ sym E-length) ∙ E-length)
+          go (no p) = omega (arith, fb-at ws₂ long k (omega (arith, p, few-k)) (omega (arith, p, limit-is)), f-all, f-bound k (omega (arith, p)))
 
       bb-is : (k : ℕ) → bb (rowsOf ws₂) k ≡ low 1 k N
-      bb-is k = go (decLt (4 * U) k)
+      bb-is k = go (decLt (4 * h .nodes) k)
         where
-          go : Dec (4 * U < k) → bb (rowsOf ws₂) k ≡ low 1 k N
-          go (yes p) = bb-behind ws₂ long k p ∙ b-all ∙ sym (low-up 1 (4 * U) k N (omega (arith, p)) (N-under U (used-few (rowsOf ws₂)) no-value ∙ sym N-length) ∙ N-length)
-          go (no p) = omega (arith, bb-at ws₂ long k (omega (arith, p)), b-all, b-bound k (omega (arith, p, U-few)))
+          go : Dec (4 * h .nodes < k) → bb (rowsOf ws₂) k ≡ low 1 k N
+          go (yes p) = bb-behind ws₂ long k (omega (arith, p, limit-is)) ∙ b-all ∙ sym (low-up 1 (4 * h .nodes) k N (omega (arith, p)) (N-under (h .nodes) few-k Vs-above ∙ sym N-length) ∙ N-length)
+          go (no p) = omega (arith, bb-at ws₂ long k (omega (arith, p, few-k)) (omega (arith, p, limit-is)), b-all, b-bound k (omega (arith, p)))
 
       next : (t k : ℕ) (l : List ℕ) → low t (k + 1) l ≡ low t (suc k) l
       next t k l = ap (λ (j : ℕ). low t j l) (add-one k)
@@ -157,10 +147,12 @@ module _ (ws : List ℕ) (h : Held) (room : Room 0 0 ws h) where
       good : Good (rowsOf ws₂)
       good = record {
         few = omega (arith, limit-is, few-k);
-        f-in = λ k q. omega (arith, f-word ws₂ long 0 (omega arith), f-all, f-word ws₂ long k (omega (arith, U-few, few-k)), f-bound k (omega (arith, U-few)));
+        f-in = λ k q. omega (arith, f-word ws₂ long 0 (omega arith), f-all, f-word ws₂ long k (omega (arith, q, limit-is, few-k)), f-bound k (omega (arith, q, limit-is)));
+        f-end = omega (arith, ap (λ (n : ℕ). getD (rowsOf ws₂) (512 + n) 0) limit-is, f-word ws₂ long (h .nodes) few-k, f-bound (h .nodes) (omega arith), E-under (h .nodes) few-k Vs-above);
         f-up = λ k q. omega (arith, fb-is k, fb-is (k + 1), next 0 k E, low-suc 0 k E);
         f-top = λ k q. omega (arith, fb-is k, low-le 0 k E, E-length, few-e);
-        b-in = λ k q. omega (arith, b-word ws₂ long 0 (omega arith), b-all, b-word ws₂ long k (omega (arith, U-few, few-k)), b-bound k (omega (arith, U-few)));
+        b-in = λ k q. omega (arith, b-word ws₂ long 0 (omega arith), b-all, b-word ws₂ long k (omega (arith, q, limit-is, few-k)), b-bound k (omega (arith, q, limit-is)));
+        b-end = omega (arith, ap (λ (n : ℕ). getD (rowsOf ws₂) (2049 + 4 * n) 0) limit-is, b-word ws₂ long (4 * h .nodes) (omega (arith, few-k)), b-bound (4 * h .nodes) (omega arith), N-under (h .nodes) few-k Vs-above);
         b-up = λ k q. omega (arith, bb-is k, bb-is (k + 1), next 1 k N, low-suc 1 k N);
         b-top = λ k q. omega (arith, bb-is k, low-le 1 k N, N-length, few-n);
       }

@@ -2,20 +2,20 @@
 use Prim.Native.Nat.{ℕ, _+_, _-_, _*_, _≤_, _<_}
 use native.Mathlib.Omega.{arith}
 use mathlib.Core.Bool.{true, false}
-use mathlib.Core.List.{List, [], _++_, append-assoc}
+use mathlib.Core.List.{List, [], _∷_, _++_, append-assoc}
 use mathlib.Core.Path.{_≡_, refl, sym, ap, subst, _∙_}
 use lib.ListN.{length, getD, take, drop, length-append}
 use lib.Seq.{slice, sets, sets-eq, length-sets, length-take-le, take-at, drop-append-le}
 use borrow.Author.Tests.{eq-eqb, ne-eqb}
-use Rattle.rows.specs.Rows.{rowsOf, used, value, rowF, rowB, Good, Kept}
+use Rattle.rows.specs.Rows.{rowsOf, limit, value, rowF, rowB, Good, Kept}
 use Rattle.pushes.specs.Pushes.{Room, Pushed, wordsF, wordsB, deg, forwardW, entriesW, blockedW, aliasesW, capturesW, pushedW}
 use Rattle.rows.proofs.Parts.{slice-take, take-sets, drop-sets, sets-append}
-use Rattle.rows.proofs.Rows.{rows-length, value-at, used-few, used-limit}
-use Rattle.pushes.proofs.Sizes.{deg-is, forward-le, rowF-length, list-le, aliases-le}
+use Rattle.rows.proofs.Rows.{rows-length, value-at, fb-beyond, bb-beyond}
+use Rattle.pushes.proofs.Sizes.{deg-is, forward-le, rowF-length, list-le, aliases-le, pushed-le}
 
 -- the value of an identifier whose rows have bounds
-pub value-used : (ws : List ℕ) → 16384 ≤ length ws → (x : ℕ) → x < used (rowsOf ws) → value (rowsOf ws) x ≡ getD ws (3200 + x) 0
-value-used ws size x u = value-at ws size x (omega (arith, u, used-few (rowsOf ws))) (omega (arith, u, used-limit (rowsOf ws)))
+pub value-bounded : (ws : List ℕ) → 16384 ≤ length ws → Good (rowsOf ws) → (x : ℕ) → x < limit (rowsOf ws) → value (rowsOf ws) x ≡ getD ws (3200 + x) 0
+value-bounded ws size good x u = value-at ws size x (omega (arith, u, good .few)) u
 
 pub pushed-then : {ws : List ℕ} {top : ℕ} {a ws₁ : List ℕ} {t₁ : ℕ} {b ws₂ : List ℕ} {t₂ : ℕ} → Pushed ws top a ws₁ t₁ → Pushed ws₁ t₁ b ws₂ t₂ → Pushed ws top (a ++ b) ws₂ t₂
 pushed-then {ws} {top} {a} {ws₁} {t₁} {b} {ws₂} {t₂} p q = record {
@@ -36,8 +36,8 @@ pub pushed-graph : {ws : List ℕ} {top : ℕ} {vs ws′ : List ℕ} {r : ℕ} �
 unfolding rowsOf
 pushed-graph {ws} {top} {vs} {ws′} p h = slice-take 8528 3200 8528 ws′ ws (omega arith) (pushed-below p h)
 
-pub pushed-used : {ws : List ℕ} {top : ℕ} {vs ws′ : List ℕ} {r : ℕ} → Pushed ws top vs ws′ r → 8528 ≤ top → used (rowsOf ws′) ≡ used (rowsOf ws)
-pushed-used p h = ap used (pushed-graph p h)
+pub pushed-limit : {ws : List ℕ} {top : ℕ} {vs ws′ : List ℕ} {r : ℕ} → Pushed ws top vs ws′ r → 8528 ≤ top → limit (rowsOf ws′) ≡ limit (rowsOf ws)
+pushed-limit p h = ap limit (pushed-graph p h)
 
 -- the part of the words that the push makes longer
 pub pushed-part : (base : ℕ) {ws : List ℕ} {top : ℕ} {vs ws′ : List ℕ} {r : ℕ} → Pushed ws top vs ws′ r → base ≤ top → r ≤ length ws → slice base r ws′ ≡ slice base top ws ++ vs
@@ -105,8 +105,8 @@ module _ (ws : List ℕ) (top x direction index transitive kind : ℕ) (room : R
   room-edges = room-less _ _ (omega (arith, is)) room
 
   module _ (ws₁ : List ℕ) (t₁ : ℕ) (p₁ : Pushed ws top (forwardW index transitive kind (rowF (rowsOf ws) x)) ws₁ t₁) where
-    pub used-created : used (rowsOf ws₁) ≡ used (rowsOf ws)
-    used-created = pushed-used p₁ (room .low)
+    pub limit-created : limit (rowsOf ws₁) ≡ limit (rowsOf ws)
+    limit-created = pushed-limit p₁ (room .low)
 
     pub room-created : Room ws₁ t₁ (wordsB (rowsOf ws₁) (4 * x))
     room-created = room-then (λ g. wordsB g (4 * x)) (wordsF (rowsOf ws) x) (room-less _ _ (omega (arith, is)) room) p₁ F-le
@@ -118,8 +118,8 @@ module _ (ws : List ℕ) (top x direction index transitive kind : ℕ) (room : R
       two-le : length (forwardW index transitive kind (rowF (rowsOf ws) x) ++ entriesW index 1 kind (rowB (rowsOf ws) (4 * x))) ≤ wordsF (rowsOf ws) x + wordsB (rowsOf ws) (4 * x)
       two-le = omega (arith, F-le, list-le (rowsOf ws) size (room .good) index 1 kind (4 * x) (omega arith), length-append (forwardW index transitive kind (rowF (rowsOf ws) x)) (entriesW index 1 kind (rowB (rowsOf ws) (4 * x))))
 
-      pub used-aliases : used (rowsOf ws₂) ≡ used (rowsOf ws)
-      used-aliases = pushed-used two (room .low)
+      pub limit-aliases : limit (rowsOf ws₂) ≡ limit (rowsOf ws)
+      limit-aliases = pushed-limit two (room .low)
 
       pub room-aliases : Room ws₂ t₂ (wordsB (rowsOf ws₂) (4 * x + 1) + wordsB (rowsOf ws₂) (4 * x + 2))
       room-aliases =
@@ -129,8 +129,8 @@ module _ (ws : List ℕ) (top x direction index transitive kind : ℕ) (room : R
         three : Pushed ws top ((forwardW index transitive kind (rowF (rowsOf ws) x) ++ entriesW index 1 kind (rowB (rowsOf ws) (4 * x))) ++ aliasesW (rowsOf ws) x direction index transitive kind) ws₃ t₃
         three = pushed-on (λ g. aliasesW g x direction index transitive kind) (room .low) two p₃
 
-        pub used-captures : used (rowsOf ws₃) ≡ used (rowsOf ws)
-        used-captures = pushed-used three (room .low)
+        pub limit-captures : limit (rowsOf ws₃) ≡ limit (rowsOf ws)
+        limit-captures = pushed-limit three (room .low)
 
         pub room-captures : Room ws₃ t₃ (wordsB (rowsOf ws₃) (4 * x + 3))
         room-captures =
@@ -145,3 +145,26 @@ module _ (ws : List ℕ) (top x direction index transitive kind : ℕ) (room : R
             (append-assoc (forwardW index transitive kind (rowF (rowsOf ws) x) ++ entriesW index 1 kind (rowB (rowsOf ws) (4 * x))) (aliasesW (rowsOf ws) x direction index transitive kind) (capturesW (rowsOf ws) x index transitive kind)
             ∙ append-assoc (forwardW index transitive kind (rowF (rowsOf ws) x)) (entriesW index 1 kind (rowB (rowsOf ws) (4 * x))) (aliasesW (rowsOf ws) x direction index transitive kind ++ capturesW (rowsOf ws) x index transitive kind))
             (pushed-on (λ g. capturesW g x index transitive kind) (room .low) three p₄)
+
+-- ---- rows without bounds push nothing
+none-pushed : (ws : List ℕ) (top : ℕ) (vs : List ℕ) → length vs ≤ 0 → Pushed ws top vs ws top
+none-pushed ws top [] h = pushed-none ws top
+none-pushed ws top (v ∷ vs) h = absurd (omega (arith, h))
+
+module _ (ws : List ℕ) (size : 16384 ≤ length ws) (good : Good (rowsOf ws)) (top : ℕ) where
+  pub list-beyond : (k index transitive kind : ℕ) → k < 2048 → 4 * limit (rowsOf ws) ≤ k → Pushed ws top (entriesW index transitive kind (rowB (rowsOf ws) k)) ws top
+  list-beyond k index transitive kind h far =
+      none-pushed ws top (entriesW index transitive kind (rowB (rowsOf ws) k))
+      (omega (arith, list-le (rowsOf ws) (rows-length ws size) good index transitive kind k h, bb-beyond (rowsOf ws) good k far, bb-beyond (rowsOf ws) good (k + 1) (omega (arith, far))))
+
+  pub all-beyond : (x direction index transitive kind : ℕ) → x < 512 → limit (rowsOf ws) ≤ x → Pushed ws top (pushedW (rowsOf ws) x direction index transitive kind) ws top
+  all-beyond x direction index transitive kind h far =
+      none-pushed ws top (pushedW (rowsOf ws) x direction index transitive kind)
+      (omega (
+        arith,
+        pushed-le (rowsOf ws) (rows-length ws size) good x direction index transitive kind h,
+        fb-beyond (rowsOf ws) good x far,
+        fb-beyond (rowsOf ws) good (x + 1) (omega (arith, far)),
+        bb-beyond (rowsOf ws) good (4 * x) (omega (arith, far)),
+        bb-beyond (rowsOf ws) good (4 * x + 4) (omega (arith, far)),
+      ))

@@ -9,11 +9,11 @@ use lib.Seq.{slice}
 use lib.Dec.{ltb}
 use Rattle.model.specs.Lists.{pick}
 use Rattle.rows.specs.Layout.{VALUE, BBOUND, BENTRY}
-use Rattle.rows.specs.Rows.{rowsOf, used, value, bb, rowF, rowB, Good}
+use Rattle.rows.specs.Rows.{rowsOf, limit, value, bb, rowF, rowB, Good}
 use Rattle.rows.proofs.Parts.{slice-split}
 use Rattle.rows.proofs.Rows.{Bounds, four-bounds, entries-at, rows-length}
 use Rattle.pushes.specs.Pushes.{Room, Pushed, deg, wordsF, wordsB, entryW, forwardW, entriesW, blockedW, aliasesW, capturesW, pushedW}
-use Rattle.pushes.proofs.Pushes.{value-used, pushed-none, pushed-on, pushed-graph, pushed-used, room-then, F-le, room-captures, used-aliases, all-pushed, aliases-open, aliases-shut, captures-open}
+use Rattle.pushes.proofs.Pushes.{value-bounded, pushed-none, pushed-on, pushed-graph, pushed-limit, room-then, F-le, room-captures, limit-aliases, all-pushed, aliases-open, aliases-shut, captures-open}
 
 -- what two lists push one after the other
 pub entries-append : (index transitive kind : ℕ) (a b : List ℕ) → entriesW index transitive kind (a ++ b) ≡ entriesW index transitive kind a ++ entriesW index transitive kind b
@@ -72,13 +72,13 @@ module _ (g : List ℕ) (size : length g ≡ 5328) (good : Good g) where
       ∙ ap (λ (l : List ℕ). aliasesW g x direction index 1 0 ++ l) (captures-open g x index 1 0 refl))
 
 -- ---- the pushes of `push_whole`, the forward edges first
-module _ (ws : List ℕ) (top x direction index : ℕ) (room : Room ws top (deg (rowsOf ws) x)) (h : x < 512) (u : x < used (rowsOf ws))
+module _ (ws : List ℕ) (top x direction index : ℕ) (room : Room ws top (deg (rowsOf ws) x)) (h : x < 512) (u : x < limit (rowsOf ws))
     (ws₁ : List ℕ) (t₁ : ℕ) (p₁ : Pushed ws top (forwardW index 1 0 (rowF (rowsOf ws) x)) ws₁ t₁) where
   pub run-room : Room ws₁ t₁ (bb (rowsOf ws₁) (4 * x + 4) - bb (rowsOf ws₁) (4 * x))
   run-room = room-then (λ g. bb g (4 * x + 4) - bb g (4 * x)) (wordsF (rowsOf ws) x) room p₁ (F-le ws top x direction index 1 0 room h)
 
   pub run-bounds : Bounds ws₁ BBOUND (BBOUND + 4 * x) (BBOUND + 4 * x + 4) (bb (rowsOf ws₁) (4 * x)) (bb (rowsOf ws₁) (4 * x + 4))
-  run-bounds = four-bounds ws₁ (run-room .size) (run-room .good) x (omega (arith, u, pushed-used p₁ (room .low)))
+  run-bounds = four-bounds ws₁ (run-room .size) (run-room .good) x (omega (arith, u, pushed-limit p₁ (room .low)))
 
   -- the run lies below the queue, which has room for it
   pub run-fits : (lo hi : ℕ) → lo ≡ bb (rowsOf ws₁) (4 * x) → hi ≡ bb (rowsOf ws₁) (4 * x + 4) → lo ≤ hi → hi ≤ 1024
@@ -89,7 +89,7 @@ module _ (ws : List ℕ) (top x direction index : ℕ) (room : Room ws top (deg 
       (omega arith, (omega (arith, run-room .low), (omega (arith, n, m, run-room .room, run-room .size), (omega arith, omega arith))))
 
   test-is : (b : Bool) → blockedW (getD ws₁ (VALUE + x) 0) direction ≡ b → blockedW (value (rowsOf ws₁) x) direction ≡ b
-  test-is b e = ap (λ (v : ℕ). blockedW v direction) (value-used ws₁ (run-room .size) x (omega (arith, u, pushed-used p₁ (room .low)))) ∙ e
+  test-is b e = ap (λ (v : ℕ). blockedW v direction) (value-bounded ws₁ (run-room .size) (run-room .good) x (omega (arith, u, pushed-limit p₁ (room .low)))) ∙ e
 
   -- where the node looks back: one run
   pub run-pushed : blockedW (getD ws₁ (VALUE + x) 0) direction ≡ false → (lo hi : ℕ) → lo ≡ bb (rowsOf ws₁) (4 * x) → hi ≡ bb (rowsOf ws₁) (4 * x + 4) → (ws₂ : List ℕ) (t₂ : ℕ)
@@ -113,8 +113,8 @@ module _ (ws : List ℕ) (top x direction index : ℕ) (room : Room ws top (deg 
     pub shut-room : Room ws₂ t₂ (wordsB (rowsOf ws₂) (4 * x + 3))
     shut-room = room-captures ws top x direction index 1 0 room h ws₁ t₁ p₁ ws₂ t₂ p₂ ws₂ t₂ no-aliases
 
-    pub shut-used : used (rowsOf ws₂) ≡ used (rowsOf ws)
-    shut-used = used-aliases ws top x direction index 1 0 room h ws₁ t₁ p₁ ws₂ t₂ p₂
+    pub shut-limit : limit (rowsOf ws₂) ≡ limit (rowsOf ws)
+    shut-limit = limit-aliases ws top x direction index 1 0 room h ws₁ t₁ p₁ ws₂ t₂ p₂
 
     pub shut-pushed : (ws₃ : List ℕ) (t₃ : ℕ) → Pushed ws₂ t₂ (entriesW index 1 0 (rowB (rowsOf ws₂) (4 * x + 3))) ws₃ t₃ → Pushed ws top (pushedW (rowsOf ws) x direction index 1 0) ws₃ t₃
     shut-pushed ws₃ t₃ p₃ =

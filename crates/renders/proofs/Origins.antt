@@ -10,12 +10,12 @@ use Rattle.model.specs.Lists.{pick, consIf}
 use Rattle.model.specs.Graph.{Entry}
 use Rattle.model.specs.Walks.{belowIndex}
 use Rattle.model.specs.Renders.{origins, renderPushes}
-use Rattle.rows.specs.Rows.{rowsOf, used, value, rowF, rowB, Good}
+use Rattle.rows.specs.Rows.{rowsOf, value, rowF, rowB, Good}
 use Rattle.rows.specs.Graph.{entryRow, ownNode}
 use Rattle.rows.proofs.Rows.{rows-length}
 use Rattle.pushes.specs.Pushes.{entryW, entriesW, Pushed, Room, wordsF, wordsB, deg}
 use Rattle.pushes.proofs.Sizes.{deg-is, list-le}
-use Rattle.pushes.proofs.Pushes.{room-then, room-less, pushed-used, pushed-on}
+use Rattle.pushes.proofs.Pushes.{room-then, room-less, pushed-on}
 use Rattle.renders.specs.Renders.{originsW, placesOf}
 
 -- ---- which they are
@@ -76,9 +76,6 @@ module _ (ws : List ℕ) (top x index : ℕ) (room : Room ws top (deg (rowsOf ws
   room-created = room-less _ _ (omega (arith, is)) room
 
   module _ (ws₁ : List ℕ) (t₁ : ℕ) (p₁ : Pushed ws top (entriesW index 0 0 (rowB (rowsOf ws) (4 * x))) ws₁ t₁) where
-    pub used-aliases : used (rowsOf ws₁) ≡ used (rowsOf ws)
-    used-aliases = pushed-used p₁ (room .low)
-
     pub room-aliases : Room ws₁ t₁ (wordsB (rowsOf ws₁) (4 * x + 1))
     room-aliases =
         room-then (λ g. wordsB g (4 * x + 1)) (wordsB (rowsOf ws) (4 * x)) (room-less _ _ (omega (arith, is)) room) p₁
@@ -87,9 +84,6 @@ module _ (ws : List ℕ) (top x index : ℕ) (room : Room ws top (deg (rowsOf ws
     module _ (ws₂ : List ℕ) (t₂ : ℕ) (p₂ : Pushed ws₁ t₁ (entriesW index 0 0 (rowB (rowsOf ws₁) (4 * x + 1))) ws₂ t₂) where
       two : Pushed ws top (entriesW index 0 0 (rowB (rowsOf ws) (4 * x)) ++ entriesW index 0 0 (rowB (rowsOf ws) (4 * x + 1))) ws₂ t₂
       two = pushed-on (λ g. entriesW index 0 0 (rowB g (4 * x + 1))) (room .low) p₁ p₂
-
-      pub used-captures : used (rowsOf ws₂) ≡ used (rowsOf ws)
-      used-captures = pushed-used two (room .low)
 
       pub room-captures : Room ws₂ t₂ (wordsB (rowsOf ws₂) (4 * x + 3))
       room-captures =

@@ -12,12 +12,12 @@ use lib.Dec.{eqb}
 use Rattle.model.specs.Graph.{Node, nodeAt}
 use Rattle.model.specs.State.{noRecord, hasRecord, functionOf, State}
 use Rattle.model.specs.Renders.{RenderWalk, renderPushes, handOver, passBy, renderNode, renderStep}
-use Rattle.rows.specs.Rows.{rowsOf, used, value, rowF, rowB, Good, Kept}
+use Rattle.rows.specs.Rows.{rowsOf, limit, value, rowF, rowB, Good, Kept}
 use Rattle.rows.specs.Graph.{valueOf, ownNode, graphOfRows}
-use Rattle.rows.proofs.Rows.{used-below, limit-at, value-at, value-beyond, rows-length}
+use Rattle.rows.proofs.Rows.{node-below, limit-at, value-at, value-beyond, rows-length}
 use Rattle.rows.proofs.Parts.{drop-more}
 use Rattle.pushes.specs.Pushes.{Pushed, Room, deg}
-use Rattle.pushes.proofs.Pushes.{value-used, pushed-part, pushed-kept}
+use Rattle.pushes.proofs.Pushes.{value-bounded, pushed-part, pushed-kept}
 use Rattle.aliasing.specs.State.{fieldAt, nodesOf, seenOf, recordsOf, endsOf, stateOf}
 use Rattle.aliasing.specs.Accepts.{functionW}
 use Rattle.aliasing.specs.Potential.{phi}
@@ -164,8 +164,8 @@ module _ (index : ℕ) (ws : List ℕ) (top hand : ℕ) (ready : Ready ws top ha
     bare : passesW v u ≡ false → (value (rowsOf ws) (placeAt ws top) ≡ 0 → ⊥) × (not (eqb (fieldAt (nodesOf ws) 0 (placeAt ws top) % 16) 0) ≡ false)
     bare passed = passes-false (value (rowsOf ws) (placeAt ws top)) (fieldAt (nodesOf ws) 0 (placeAt ws top)) (sym passes-is ∙ passed)
 
-    has-node : passesW v u ≡ false → placeAt ws top < used (rowsOf ws)
-    has-node passed = used-below (rowsOf ws) (placeAt ws top) x-below (bare passed .0)
+    has-node : passesW v u ≡ false → placeAt ws top < limit (rowsOf ws)
+    has-node passed = node-below (rowsOf ws) (placeAt ws top) (bare passed .0)
 
     -- ---- rendered: the function handed over, the entries pushed
     module _ (wsH : List ℕ) (h : ℕ) (ph : Pushed marked hand (functionW (getD marked (3200 + placeAt ws top) 0)) wsH h) where
@@ -188,10 +188,6 @@ module _ (index : ℕ) (ws : List ℕ) (top hand : ℕ) (ready : Ready ws top ha
         good = subst Good (sym rows₁) (ready .good);
         room = omega (arith, falls-by, ready .fits, ap (λ (g : List ℕ). deg g (placeAt ws top)) rows₁);
       }
-
-      -- its rows have bounds
-      pub step-used : passesW v u ≡ false → placeAt ws top < used (rowsOf wsH)
-      step-used passed = subst (λ (g : List ℕ). placeAt ws top < used g) (sym rows₁) (has-node passed)
 
       module _ (passed : passesW v u ≡ false)
           (ws₂ : List ℕ) (r : ℕ) (p : Pushed wsH (top - 1) (originsW (rowsOf wsH) (placeAt ws top) index) ws₂ r) where
@@ -225,7 +221,7 @@ module _ (index : ℕ) (ws : List ℕ) (top hand : ℕ) (ready : Ready ws top ha
             ∙ ap (λ (q : List ℕ). q ++ pushed) (slice-below kept-hand 8528 (top - 1) (omega (arith, ready .fits)) ∙ slice-above mark 8528 (top - 1) (omega arith) (omega arith))
 
         value-kept : getD marked (3200 + placeAt ws top) 0 ≡ value (rowsOf ws) (placeAt ws top)
-        value-kept = word-kept (3200 + placeAt ws top) (λ e. omega (arith, e)) ∙ sym (value-used ws (ready .size) (placeAt ws top) (has-node passed))
+        value-kept = word-kept (3200 + placeAt ws top) (λ e. omega (arith, e)) ∙ sym (value-bounded ws (ready .size) (ready .good) (placeAt ws top) (has-node passed))
 
         handed₂ : slice 13315 h ws₂ ≡ slice 13315 hand ws ++ functionOf (valueOf (value (rowsOf ws) (placeAt ws top)))
         handed₂ =

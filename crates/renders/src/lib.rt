@@ -3,7 +3,7 @@ ghost use mathlib.Core.Path.{_≡_};
 ghost use Prim.Native.Nat.{_+_, _*_, _≤_, _<_};
 ghost use lib.ListN.{length};
 ghost use Rattle.rows.specs.Layout.{LEAST, QUEUE};
-ghost use Rattle.rows.specs.Rows.{Indexed, rowsOf, used, value};
+ghost use Rattle.rows.specs.Rows.{Indexed, rowsOf, value};
 ghost use Rattle.pushes.specs.Pushes.{Pushed, Room, deg};
 ghost use Rattle.renders.specs.Renders.{passesW, originsW, Ready, Stepped, Walked, Rendered};
 use aliasing::Taken;
@@ -49,7 +49,7 @@ fn passes_by(v: u32, w: u32) -> bool
 // Created-from, aliases and captures of node x.
 fn push_origins(ws: &mut [u32], x: usize, index: u32, top: usize) -> usize
     requires { ⌜ Room (now ws) top (deg (rowsOf (now ws)) x) ⌝ }
-    requires { ⌜ (x < 512) × (x < used (rowsOf (now ws))) ⌝ }
+    requires { ⌜ x < 512 ⌝ }
     ensures { λ r. ⌜ Pushed (now (ws .entry)) top (originsW (rowsOf (now (ws .entry))) x index) (now (ws .exit)) r ⌝ }
 {
     let a = push_list(ws, 4 * x, index, 0, 0, top);

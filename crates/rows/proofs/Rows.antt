@@ -1,67 +1,21 @@
 -- The rows, as the code reads them.
-use Prim.Native.Nat.{ℕ, zero, suc, _+_, _-_, _*_, _≤_, _<_}
+use Prim.Native.Nat.{ℕ, _+_, _-_, _*_, _≤_, _<_}
 use native.Mathlib.Omega.{arith}
 use native.Mathlib.Nat.{add-assoc}
-use native.Mathlib.Decide.{decLt, ℕ-discrete}
+use native.Mathlib.Decide.{decLt}
 use mathlib.Core.List.{List}
 use mathlib.Core.Path.{_≡_, sym, ap, _∙_}
 use lib.ListN.{length, getD, take, length-take, List·getD-eq-default}
 use lib.Seq.{slice, length-slice, getD-take}
-use borrow.Author.Tests.{eq-eqb, ne-eqb, lt-ltb, le-ltb}
+use lib.Dec.{ltb}
+use Rattle.model.specs.Lists.{pick}
+use borrow.Author.Tests.{lt-ltb, le-ltb}
 use Rattle.rows.specs.Layout.{LEAST, VALUE, FBOUND, FEDGE, BBOUND, BENTRY, NODES, QUEUE}
-use Rattle.rows.specs.Rows.{rowsOf, limit, values, value, usedOf, used, fb, bb, rowF, rowB, Good}
+use Rattle.rows.specs.Rows.{rowsOf, limit, values, value, fb, bb, rowF, rowB, Good}
 use Rattle.rows.specs.Sort.{keyW}
 use Rattle.rows.proofs.Parts.{slice-at, slice-slice}
 
 -- ---- the identifiers that have a node
-of-some : (g : List ℕ) (k : ℕ) → (getD g k 0 ≡ 0 → ⊥) → usedOf g (suc k) ≡ suc k
-unfolding usedOf
-of-some g k e = rw (ne-eqb (getD g k 0) 0 e)
-
-of-none : (g : List ℕ) (k : ℕ) → getD g k 0 ≡ 0 → usedOf g (suc k) ≡ usedOf g k
-unfolding usedOf
-of-none g k e = rw (eq-eqb (getD g k 0) 0 e)
-
--- no more than m, if none has a node from m on
-of-under : (g : List ℕ) (m k : ℕ) → ((x : ℕ) → m ≤ x → x < k → getD g x 0 ≡ 0) → usedOf g k ≤ m
-unfolding usedOf
-of-under g m zero none = omega arith
-of-under g m (suc k) none = go (of-under g m k (λ x h q. none x h (omega arith))) (ℕ-discrete (getD g k 0) 0) (decLt k m)
-  where
-    go : usedOf g k ≤ m → Dec (getD g k 0 ≡ 0) → Dec (k < m) → usedOf g (suc k) ≤ m
-    go ih (yes e) d = omega (arith, ih, of-none g k e)
-    go ih (no e) (yes d) = omega (arith, of-some g k e)
-    go ih (no e) (no d) = absurd (e (none k (omega (arith, d)) (omega arith)))
-
--- from there on none has a node
-of-above : (g : List ℕ) (k x : ℕ) → usedOf g k ≤ x → x < k → getD g x 0 ≡ 0
-of-above g zero x h q = absurd (omega arith)
-of-above g (suc k) x h q = go (of-above g k x) (ℕ-discrete (getD g k 0) 0) (ℕ-discrete x k)
-  where
-    go : (usedOf g k ≤ x → x < k → getD g x 0 ≡ 0) → Dec (getD g k 0 ≡ 0) → Dec (x ≡ k) → getD g x 0 ≡ 0
-    go ih (no e) d = absurd (omega (arith, h, q, of-some g k e))
-    go ih (yes e) (yes d) = ap (λ (i : ℕ). getD g i 0) d ∙ e
-    go ih (yes e) (no d) = ih (omega (arith, h, of-none g k e)) (omega (arith, q, d))
-
-pub used-under : (g : List ℕ) (m : ℕ) → ((x : ℕ) → m ≤ x → x < 512 → value g x ≡ 0) → used g ≤ m
-unfolding used value
-used-under g m none = of-under (values g) m 512 none
-
-pub used-few : (g : List ℕ) → used g ≤ 512
-used-few g = used-under g 512 (λ x h q. absurd (omega arith))
-
-pub used-above : (g : List ℕ) (x : ℕ) → used g ≤ x → x < 512 → value g x ≡ 0
-unfolding used value
-used-above g x h q = of-above (values g) 512 x h q
-
--- who has a node is below
-pub used-below : (g : List ℕ) (x : ℕ) → x < 512 → (value g x ≡ 0 → ⊥) → x < used g
-used-below g x h e = go (decLt x (used g))
-  where
-    go : Dec (x < used g) → x < used g
-    go (yes p) = p
-    go (no p) = absurd (e (used-above g x (omega (arith, p)) h))
-
 -- from the limit on none has a node
 pub value-beyond : (g : List ℕ) (x : ℕ) → limit g ≤ x → value g x ≡ 0
 unfolding value values
@@ -71,8 +25,13 @@ pub value-there : (g : List ℕ) (x : ℕ) → x < limit g → value g x ≡ get
 unfolding value values
 value-there g x h = getD-take (limit g) g x 0 h
 
-pub used-limit : (g : List ℕ) → used g ≤ limit g
-used-limit g = used-under g (limit g) (λ x h q. value-beyond g x h)
+-- who has a node is below the limit
+pub node-below : (g : List ℕ) (x : ℕ) → (value g x ≡ 0 → ⊥) → x < limit g
+node-below g x e = go (decLt x (limit g))
+  where
+    go : Dec (x < limit g) → x < limit g
+    go (yes p) = p
+    go (no p) = absurd (e (value-beyond g x (omega (arith, p))))
 
 -- ---- the graph, as the code reads it
 module _ (ws : List ℕ) (size : LEAST ≤ length ws) where
@@ -92,22 +51,22 @@ module _ (ws : List ℕ) (size : LEAST ≤ length ws) where
   unfolding rowsOf
   b-word k h = slice-at VALUE QUEUE (2049 + k) ws (omega arith) ∙ ap (λ (n : ℕ). getD ws n 0) (omega arith)
 
-  pub fb-at : (k : ℕ) → k ≤ used (rowsOf ws) → fb (rowsOf ws) k ≡ getD ws FBOUND 0 - getD ws (FBOUND + k) 0
+  pub fb-at : (k : ℕ) → k ≤ 512 → k ≤ limit (rowsOf ws) → fb (rowsOf ws) k ≡ getD ws FBOUND 0 - getD ws (FBOUND + k) 0
   unfolding fb
-  fb-at k h = rw (le-ltb (used (rowsOf ws)) k h) (omega (arith, f-word 0 (omega arith), f-word k (omega (arith, used-few (rowsOf ws)))))
+  fb-at k q h = rw (le-ltb (limit (rowsOf ws)) k h) (omega (arith, f-word 0 (omega arith), f-word k q))
 
-  pub bb-at : (k : ℕ) → k ≤ 4 * used (rowsOf ws) → bb (rowsOf ws) k ≡ getD ws BBOUND 0 - getD ws (BBOUND + k) 0
+  pub bb-at : (k : ℕ) → k ≤ 2048 → k ≤ 4 * limit (rowsOf ws) → bb (rowsOf ws) k ≡ getD ws BBOUND 0 - getD ws (BBOUND + k) 0
   unfolding bb
-  bb-at k h = rw (le-ltb (4 * used (rowsOf ws)) k h) (omega (arith, b-word 0 (omega arith), b-word k (omega (arith, used-few (rowsOf ws)))))
+  bb-at k q h = rw (le-ltb (4 * limit (rowsOf ws)) k h) (omega (arith, b-word 0 (omega arith), b-word k q))
 
-  -- behind the last node
-  pub fb-behind : (k : ℕ) → used (rowsOf ws) < k → fb (rowsOf ws) k ≡ getD ws FBOUND 0
+  -- behind the limit
+  pub fb-behind : (k : ℕ) → limit (rowsOf ws) < k → fb (rowsOf ws) k ≡ getD ws FBOUND 0
   unfolding fb
-  fb-behind k h = rw (lt-ltb (used (rowsOf ws)) k h) (omega (arith, f-word 0 (omega arith)))
+  fb-behind k h = rw (lt-ltb (limit (rowsOf ws)) k h) (omega (arith, f-word 0 (omega arith)))
 
-  pub bb-behind : (k : ℕ) → 4 * used (rowsOf ws) < k → bb (rowsOf ws) k ≡ getD ws BBOUND 0
+  pub bb-behind : (k : ℕ) → 4 * limit (rowsOf ws) < k → bb (rowsOf ws) k ≡ getD ws BBOUND 0
   unfolding bb
-  bb-behind k h = rw (lt-ltb (4 * used (rowsOf ws)) k h) (omega (arith, b-word 0 (omega arith)))
+  bb-behind k h = rw (lt-ltb (4 * limit (rowsOf ws)) k h) (omega (arith, b-word 0 (omega arith)))
 
   pub rowF-at : (x lo hi : ℕ) → lo ≡ fb (rowsOf ws) x → hi ≡ fb (rowsOf ws) (x + 1) → hi ≤ 1024 → slice (FEDGE + lo) (FEDGE + hi) ws ≡ rowF (rowsOf ws) x
   unfolding rowF rowsOf
@@ -143,38 +102,38 @@ pub record Bounds (ws : List ℕ) (o i j b b′ : ℕ) : Type 0 where
   pub few : b′ ≤ 1024
 
 module _ (ws : List ℕ) (size : LEAST ≤ length ws) (good : Good (rowsOf ws)) (k : ℕ) where
-  pub list-bounds : k < 4 * used (rowsOf ws) → Bounds ws BBOUND (BBOUND + k) (BBOUND + k + 1) (bb (rowsOf ws) k) (bb (rowsOf ws) (k + 1))
+  pub list-bounds : k < 4 * limit (rowsOf ws) → Bounds ws BBOUND (BBOUND + k) (BBOUND + k + 1) (bb (rowsOf ws) k) (bb (rowsOf ws) (k + 1))
   list-bounds h =
-      let few = used-few (rowsOf ws) in
+      let few = good .few in
       let all = b-word ws size 0 (omega arith) in
       let n : getD ws (BBOUND + k + 1) 0 ≡ getD ws (BBOUND + (k + 1)) 0 = ap (λ (i : ℕ). getD ws i 0) (add-assoc BBOUND k 1) in
       record {
         in-lo = omega (arith, all, b-word ws size k (omega (arith, few)), good .b-in k (omega arith));
         in-hi = omega (arith, all, n, b-word ws size (k + 1) (omega (arith, few)), good .b-in (k + 1) (omega arith));
-        is-lo = sym (bb-at ws size k (omega arith));
-        is-hi = omega (arith, n, bb-at ws size (k + 1) (omega arith));
+        is-lo = sym (bb-at ws size k (omega (arith, few)) (omega arith));
+        is-hi = omega (arith, n, bb-at ws size (k + 1) (omega (arith, few)) (omega arith));
         up = good .b-up k (omega (arith, few));
         few = good .b-top (k + 1) (omega (arith, few));
       }
 
-  pub edge-bounds : k < used (rowsOf ws) → Bounds ws FBOUND (FBOUND + k) (FBOUND + k + 1) (fb (rowsOf ws) k) (fb (rowsOf ws) (k + 1))
+  pub edge-bounds : k < limit (rowsOf ws) → Bounds ws FBOUND (FBOUND + k) (FBOUND + k + 1) (fb (rowsOf ws) k) (fb (rowsOf ws) (k + 1))
   edge-bounds h =
-      let few = used-few (rowsOf ws) in
+      let few = good .few in
       let all = f-word ws size 0 (omega arith) in
       let n : getD ws (FBOUND + k + 1) 0 ≡ getD ws (FBOUND + (k + 1)) 0 = ap (λ (i : ℕ). getD ws i 0) (add-assoc FBOUND k 1) in
       record {
         in-lo = omega (arith, all, f-word ws size k (omega (arith, few)), good .f-in k (omega arith));
         in-hi = omega (arith, all, n, f-word ws size (k + 1) (omega (arith, few)), good .f-in (k + 1) (omega arith));
-        is-lo = sym (fb-at ws size k (omega arith));
-        is-hi = omega (arith, n, fb-at ws size (k + 1) (omega arith));
+        is-lo = sym (fb-at ws size k (omega (arith, few)) (omega arith));
+        is-hi = omega (arith, n, fb-at ws size (k + 1) (omega (arith, few)) (omega arith));
         up = good .f-up k (omega (arith, few));
         few = good .f-top (k + 1) (omega (arith, few));
       }
 
 -- the four lists of x together
-pub four-bounds : (ws : List ℕ) → LEAST ≤ length ws → Good (rowsOf ws) → (x : ℕ) → x < used (rowsOf ws) → Bounds ws BBOUND (BBOUND + 4 * x) (BBOUND + 4 * x + 4) (bb (rowsOf ws) (4 * x)) (bb (rowsOf ws) (4 * x + 4))
+pub four-bounds : (ws : List ℕ) → LEAST ≤ length ws → Good (rowsOf ws) → (x : ℕ) → x < limit (rowsOf ws) → Bounds ws BBOUND (BBOUND + 4 * x) (BBOUND + 4 * x + 4) (bb (rowsOf ws) (4 * x)) (bb (rowsOf ws) (4 * x + 4))
 four-bounds ws size good x h =
-    let few = used-few (rowsOf ws) in
+    let few = good .few in
     let first = list-bounds ws size good (4 * x) (omega arith) in
     let last = list-bounds ws size good (4 * x + 3) (omega arith) in
     let n : getD ws (BBOUND + (4 * x + 3) + 1) 0 ≡ getD ws (BBOUND + 4 * x + 4) 0 = ap (λ (i : ℕ). getD ws i 0) (omega arith) in
@@ -189,6 +148,24 @@ four-bounds ws size good x h =
       up = omega (arith, first .up, good .b-up (4 * x + 1) (omega (arith, few)), good .b-up (4 * x + 2) (omega (arith, few)), last .up);
       few = omega (arith, last .few);
     }
+
+-- ---- rows from the limit on begin where the last one ends
+module _ (g : List ℕ) (good : Good g) where
+  pub fb-beyond : (k : ℕ) → limit g ≤ k → fb g k ≡ getD g 512 0
+  unfolding fb
+  fb-beyond k h = go (decLt (limit g) k)
+    where
+      go : Dec (limit g < k) → getD g 512 0 - pick (ltb (limit g) k) 0 (getD g (512 + k) 0) ≡ getD g 512 0
+      go (yes p) = rw (lt-ltb (limit g) k p) (omega arith)
+      go (no p) = let e : k ≡ limit g = omega (arith, h, p) in rw (le-ltb (limit g) k (omega (arith, p))) (omega (arith, ap (λ (i : ℕ). getD g (512 + i) 0) e, good .f-end))
+
+  pub bb-beyond : (k : ℕ) → 4 * limit g ≤ k → bb g k ≡ getD g 2049 0
+  unfolding bb
+  bb-beyond k h = go (decLt (4 * limit g) k)
+    where
+      go : Dec (4 * limit g < k) → getD g 2049 0 - pick (ltb (4 * limit g) k) 0 (getD g (2049 + k) 0) ≡ getD g 2049 0
+      go (yes p) = rw (lt-ltb (4 * limit g) k p) (omega arith)
+      go (no p) = let e : k ≡ 4 * limit g = omega (arith, h, p) in rw (le-ltb (4 * limit g) k (omega (arith, p))) (omega (arith, ap (λ (i : ℕ). getD g (2049 + i) 0) e, good .b-end))
 
 pub rows-length : (ws : List ℕ) → LEAST ≤ length ws → length (rowsOf ws) ≡ 5328
 unfolding rowsOf

@@ -66,7 +66,7 @@ accepts c =
 push-all-requires : tie.Need-push-all-requires
 push-all-requires c κs =
     let b3 = c .before .before .before in
-    (accepts b3 .room, (omega arith, (omega arith, (omega arith, accepts b3 .below))))
+    (accepts b3 .room, (omega arith, (omega arith, omega arith)))
 
 returns-2 : tie.Need-returns-2
 returns-2 c =

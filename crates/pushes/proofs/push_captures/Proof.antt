@@ -9,14 +9,14 @@ use borrow.Author.Needs.{needs}
 use Rattle.pushes.proofs.push_captures.Statement.{statement}
 use Rattle.pushes.proofs.push_captures.Tie as tie
 
-mul-push-list : tie.Need-mul-push-list
-mul-push-list c = search needs
+mul-push-row : tie.Need-mul-push-row
+mul-push-row c = search needs
 
-add-push-list : tie.Need-add-push-list
-add-push-list c = search needs
+add-push-row : tie.Need-add-push-row
+add-push-row c = search needs
 
-push-list-requires : tie.Need-push-list-requires
-push-list-requires c κs =
+push-row-requires : tie.Need-push-row-requires
+push-row-requires c κs =
     let s = c .before .before .before in
     (s .pre .0, (omega (arith, s .pre), (s .pre .1 .1 .0, (s .pre .1 .1 .1 .0, omega (arith, s .pre)))))
 
@@ -28,7 +28,7 @@ returns c =
     let b4 = c .before .before .before .before in
     let b5 = b4 .before in
     let s = b5 .before in
-    let a = s .args in subst (λ (vs : List ℕ). Pushed (a .ws .now) (a .top) vs (c .before .before .push-list .last .0) (c .before .before .push-list .result)) (captures-open (rowsOf (a .ws .now)) (a .x) (a .index) (a .transitive) (a .kind) (b4 .if1 .taken)) (c .before .before .push-list .ensures)
+    let a = s .args in subst (λ (vs : List ℕ). Pushed (a .ws .now) (a .top) vs (c .before .before .push-row .last .0) (c .before .before .push-row .result)) (captures-open (rowsOf (a .ws .now)) (a .x) (a .index) (a .transitive) (a .kind) (b4 .if1 .taken)) (c .before .before .push-row .ensures)
 
 returns-2 : tie.Need-returns-2
 returns-2 c =
@@ -40,4 +40,4 @@ returns-2 c =
 pub push-captures-spec : {M : Type 1} → statement M
 push-captures-spec =
     tie.close
-    (tie.spec mul-push-list add-push-list push-list-requires same-length returns returns-2)
+    (tie.spec mul-push-row add-push-row push-row-requires same-length returns returns-2)

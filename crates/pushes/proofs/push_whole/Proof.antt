@@ -1,8 +1,8 @@
 use Prim.Native.Nat.{ℕ, _-_}
 use native.Mathlib.Omega.{arith}
 use mathlib.Core.Path.{sym, _∙_}
-use Rattle.pushes.proofs.Pushes.{room-edges, room-created, used-created}
-use Rattle.pushes.proofs.Whole.{run-room, run-bounds, run-fits, run-pushed, shut-room, shut-used, shut-pushed}
+use Rattle.pushes.proofs.Pushes.{room-edges, room-created, limit-created}
+use Rattle.pushes.proofs.Whole.{run-room, run-bounds, run-fits, run-pushed, shut-room, shut-limit, shut-pushed}
 use borrow.Author.Needs.{needs}
 use Rattle.pushes.proofs.push_whole.Statement.{statement}
 use Rattle.pushes.proofs.push_whole.Tie as tie
@@ -25,32 +25,32 @@ slice-read-blocked c =
 blocked-requires : tie.Need-blocked-requires
 blocked-requires c κs = search needs
 
-mul-push-list : tie.Need-mul-push-list
-mul-push-list c =
+mul-push-row : tie.Need-mul-push-row
+mul-push-row c =
     let b9 = c .before .before .before .before .before .before .before .before .before in
     omega (arith, b9 .pre)
 
-push-list-requires : tie.Need-push-list-requires
-push-list-requires c κs =
+push-row-requires : tie.Need-push-row-requires
+push-row-requires c κs =
     let b6 = c .before .before .before .before .before .before in
     let b9 = b6 .before .before .before in
-    (room-created (b9 .args .ws .now) (b9 .args .top) (b9 .args .x) (b9 .args .direction) (b9 .args .index) 1 0 (b9 .pre .0) (b9 .pre .1 .0) (b6 .push-edges .last .0) (b6 .push-edges .result) (b6 .push-edges .ensures), (omega (arith, b9 .pre), (omega arith, (omega arith, omega (arith, b9 .pre, used-created (b9 .args .ws .now) (b9 .args .top) (b9 .args .x) (b9 .args .direction) (b9 .args .index) 1 0 (b9 .pre .0) (b9 .pre .1 .0) (b6 .push-edges .last .0) (b6 .push-edges .result) (b6 .push-edges .ensures))))))
+    (room-created (b9 .args .ws .now) (b9 .args .top) (b9 .args .x) (b9 .args .direction) (b9 .args .index) 1 0 (b9 .pre .0) (b9 .pre .1 .0) (b6 .push-edges .last .0) (b6 .push-edges .result) (b6 .push-edges .ensures), (omega (arith, b9 .pre), (omega arith, (omega arith, omega (arith, b9 .pre, limit-created (b9 .args .ws .now) (b9 .args .top) (b9 .args .x) (b9 .args .direction) (b9 .args .index) 1 0 (b9 .pre .0) (b9 .pre .1 .0) (b6 .push-edges .last .0) (b6 .push-edges .result) (b6 .push-edges .ensures))))))
 
-mul-push-list-2 : tie.Need-mul-push-list-2
-mul-push-list-2 c = omega arith
+mul-push-row-2 : tie.Need-mul-push-row-2
+mul-push-row-2 c = omega arith
 
-add-push-list : tie.Need-add-push-list
-add-push-list c = omega arith
+add-push-row : tie.Need-add-push-row
+add-push-row c = omega arith
 
-push-list-requires-2 : tie.Need-push-list-requires-2
-push-list-requires-2 c κs =
+push-row-requires-2 : tie.Need-push-row-requires-2
+push-row-requires-2 c κs =
     let b3 = c .before .before .before in
     let b5 = b3 .before .before in
     let b6 = b5 .before in
     let b10 = b6 .before .before .before .before in
     let b13 = b10 .before .before .before in (
       shut-room (b13 .args .ws .now) (b13 .args .top) (b13 .args .x) (b13 .args .direction) (b13 .args .index) (b13 .pre .0) (b13 .pre .1 .0) (b13 .pre .1 .1) (b10 .push-edges .last .0) (b10 .push-edges .result) (b10 .push-edges .ensures) (sym (b6 .blocked .ensures)
-          ∙ b5 .if1 .taken) (b3 .push-list .last .0) (b3 .push-list .result) (b3 .push-list .ensures),
+          ∙ b5 .if1 .taken) (b3 .push-row .last .0) (b3 .push-row .result) (b3 .push-row .ensures),
       (
         omega (arith, b13 .pre),
         (
@@ -60,8 +60,8 @@ push-list-requires-2 c κs =
             omega (
               arith,
               b13 .pre,
-              shut-used (b13 .args .ws .now) (b13 .args .top) (b13 .args .x) (b13 .args .direction) (b13 .args .index) (b13 .pre .0) (b13 .pre .1 .0) (b13 .pre .1 .1) (b10 .push-edges .last .0) (b10 .push-edges .result) (b10 .push-edges .ensures) (sym (b6 .blocked .ensures)
-                  ∙ b5 .if1 .taken) (b3 .push-list .last .0) (b3 .push-list .result) (b3 .push-list .ensures),
+              shut-limit (b13 .args .ws .now) (b13 .args .top) (b13 .args .x) (b13 .args .direction) (b13 .args .index) (b13 .pre .0) (b13 .pre .1 .0) (b13 .pre .1 .1) (b10 .push-edges .last .0) (b10 .push-edges .result) (b10 .push-edges .ensures) (sym (b6 .blocked .ensures)
+                  ∙ b5 .if1 .taken) (b3 .push-row .last .0) (b3 .push-row .result) (b3 .push-row .ensures),
             ),
           ),
         ),
@@ -79,7 +79,7 @@ returns c =
     let b13 = b9 .before .before .before .before in
     let b16 = b13 .before .before .before in
     shut-pushed (b16 .args .ws .now) (b16 .args .top) (b16 .args .x) (b16 .args .direction) (b16 .args .index) (b16 .pre .0) (b16 .pre .1 .0) (b16 .pre .1 .1) (b13 .push-edges .last .0) (b13 .push-edges .result) (b13 .push-edges .ensures) (sym (b9 .blocked .ensures)
-    ∙ b8 .if1 .taken) (b6 .push-list .last .0) (b6 .push-list .result) (b6 .push-list .ensures) (c .before .before .push-list2 .last .0) (c .before .before .push-list2 .result) (c .before .before .push-list2 .ensures)
+    ∙ b8 .if1 .taken) (b6 .push-row .last .0) (b6 .push-row .result) (b6 .push-row .ensures) (c .before .before .push-row2 .last .0) (c .before .before .push-row2 .result) (c .before .before .push-row2 .ensures)
 
 slice-read-wide : tie.Need-slice-read-wide
 slice-read-wide c = omega arith
@@ -179,11 +179,11 @@ push-whole-spec =
     mul-blocked
     slice-read-blocked
     blocked-requires
-    mul-push-list
-    push-list-requires
-    mul-push-list-2
-    add-push-list
-    push-list-requires-2
+    mul-push-row
+    push-row-requires
+    mul-push-row-2
+    add-push-row
+    push-row-requires-2
     same-length
     returns
     slice-read-wide
