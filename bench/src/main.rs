@@ -337,49 +337,84 @@ fn doublings(bench: &mut Bench) {
     println!();
 }
 
-/// The whole call beside clearing and one reading: the same sheet with one word more is read
-/// whole, refused 7, and both buffers are cleared.
-fn tiny(bench: &mut Bench, asked: &mut Asked) {
+/// A tiny sheet, and the same with one word more, which is read whole and refused 7.
+struct Tiny {
+    name: String,
+    words: Vec<u32>,
+    more: Vec<u32>,
+    whole: Times,
+    read: Times,
+    wrapped: Times,
+}
+
+impl Tiny {
+    fn new(name: &str, words: Vec<u32>) -> Tiny {
+        let more = [&words[..], &[0]].concat();
+        let [whole, read, wrapped] = [(); 3].map(|()| Times::default());
+        Tiny { name: name.to_string(), words, more, whole, read, wrapped }
+    }
+
+    fn all() -> Vec<Tiny> {
+        let case_1 = CASE_1.split_whitespace().filter_map(|w| w.parse().ok()).collect();
+        let mut random = Random::new(8);
+        let panels = [3, 5, 7, 10, 20]
+            .map(|n| Tiny::new(&format!("panel of {n}"), shapes::panel(&mut random, n).words()));
+        let mut sheets = vec![
+            Tiny::new("smallest", shapes::smallest().words()),
+            Tiny::new("bench case 1", case_1),
+        ];
+        sheets.extend(panels);
+        sheets
+    }
+
+    fn time(&mut self, bench: &mut Bench, service: &mut Service) {
+        bench.ours.lend(first_lent(self.words.len()));
+        for _ in 0..bench.rounds.max(1_001) {
+            self.whole.0.push(time(|| bench.ours.call(&self.words)).0);
+            self.read.0.push(time(|| bench.ours.call(&self.more)).0);
+            self.wrapped.0.push(time(|| service.infer(&self.words).is_ok()).0);
+        }
+    }
+
+    fn ratio(&self) -> f64 {
+        self.whole.median() / self.read.median()
+    }
+}
+
+/// Tiny sheets are timed between the other parts of the run too, so that a machine that is slower
+/// for a while does not decide.
+fn time_tiny(bench: &mut Bench, sheets: &mut [Tiny]) {
+    let mut service = Service::new();
+    for sheet in sheets {
+        sheet.time(bench, &mut service);
+    }
+}
+
+/// The whole call beside clearing and one reading.
+fn tiny(sheets: &[Tiny], asked: &mut Asked) {
     println!("## Tiny sheets\n");
+    println!(
+        "Timed at the beginning, between the other parts and at the end of the run; medians of \
+         all.\n"
+    );
     println!(
         "| sheet | words | whole call µs | clearing and one reading µs | ratio | through `Service` µs |"
     );
     println!("|---|---|---|---|---|---|");
-    let case_1: Vec<u32> = CASE_1.split_whitespace().filter_map(|w| w.parse().ok()).collect();
-    let mut random = Random::new(8);
-    let mut sheets = vec![
-        ("smallest".to_string(), shapes::smallest().words()),
-        ("bench case 1".to_string(), case_1),
-    ];
-    for n in [3, 5, 7, 10, 20] {
-        sheets.push((format!("panel of {n}"), shapes::panel(&mut random, n).words()));
-    }
-    let mut service = Service::new();
-    let mut largest: f64 = 0.0;
-    for (name, words) in &sheets {
-        let more = [&words[..], &[0]].concat();
-        bench.ours.lend(first_lent(words.len()));
-        let [mut whole, mut read, mut wrapped] = [(); 3].map(|()| Times::default());
-        for _ in 0..bench.rounds.max(1_001) {
-            whole.0.push(time(|| bench.ours.call(words)).0);
-            read.0.push(time(|| bench.ours.call(&more)).0);
-            wrapped.0.push(time(|| service.infer(words).is_ok()).0);
-        }
-        let r = whole.median() / read.median();
-        // Small panels begin at 10 identifiers; what is tiny is below. The count is word 3.
-        if words[3] < 10 {
-            largest = largest.max(r);
-        }
+    for sheet in sheets {
         println!(
-            "| {name} | {} | {} | {} | {} | {} |",
-            words.len(),
-            micro(whole.median()),
-            micro(read.median()),
-            ratio(r),
-            micro(wrapped.median()),
+            "| {} | {} | {} | {} | {} | {} |",
+            sheet.name,
+            sheet.words.len(),
+            micro(sheet.whole.median()),
+            micro(sheet.read.median()),
+            ratio(sheet.ratio()),
+            micro(sheet.wrapped.median()),
         );
     }
     println!();
+    // Small panels begin at 10 identifiers; what is tiny is below. The count is word 3.
+    let largest = sheets.iter().filter(|s| s.words[3] < 10).map(Tiny::ratio).fold(0.0, f64::max);
     let holds = if largest <= 1.3 { "holds" } else { "does not hold on all" };
     asked.others.push(format!(
         "- Tiny sheets, under 10 identifiers: the whole call within 1.3 times clearing and one \
@@ -430,11 +465,16 @@ fn main() {
         first_lent(0),
     );
     println!("{}", load("begins"));
+    let mut sheets = Tiny::all();
     clearing(&mut bench);
-    tiny(&mut bench, &mut asked);
+    time_tiny(&mut bench, &mut sheets);
     corpora(&mut bench, &mut asked);
+    time_tiny(&mut bench, &mut sheets);
     worst(&mut bench, &mut asked);
+    time_tiny(&mut bench, &mut sheets);
     doublings(&mut bench);
+    time_tiny(&mut bench, &mut sheets);
+    tiny(&sheets, &mut asked);
     println!("{}", load("ends"));
     println!("## What is asked\n");
     println!(
