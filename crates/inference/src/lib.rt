@@ -143,8 +143,8 @@ fn answer_sheet(sheet: &[u32], workspace: &mut [u32], answer: &mut [u32], copies
         return Outcome::Refused(0);
     };
     let length = put_answer(sheet, workspace, f, b, answer);
-    let words = workspace.len();
-    clear(workspace, 0, words);
+    let lent = workspace.len();
+    clear(workspace, 0, lent);
     let room = answer.len();
     if room < length {
         clear(answer, 0, room);

@@ -33,6 +33,8 @@ pub mod Got
 pub mod InRange
 pub mod Distinct
 pub mod WhenRead
+pub mod Refusing
+pub mod Numbers
 -- the theorems about whole sheets
 pub mod Bound
 pub mod NodeAssertion
@@ -40,6 +42,7 @@ pub mod IndexesBelow
 pub mod Quiet
 pub mod Demand3
 pub mod Buffers
+pub mod CallEnds
 -- what the call builds on: renders and simulated walks, one after another
 pub mod Rendering
 pub mod Simulating

@@ -38,5 +38,7 @@ pub mod Indexes
 pub mod Bound
 pub mod Assertion
 pub mod Quiet
+pub mod Numbers
 pub mod Chain
 pub mod Demand3
+pub mod CallEnds

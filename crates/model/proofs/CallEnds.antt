@@ -1,0 +1,94 @@
+-- The ends that an accepted call leaves in the answer buffer are those of demand 3's run of all mutations, in sheet order.
+use Prim.Native.Nat.{ℕ, zero, suc, _+_, _*_, _-_, _<_}
+use native.Mathlib.Omega.{arith}
+use mathlib.Core.Path.{_≡_, refl, sym, ap, subst, _∙_}
+use mathlib.Core.Bool.{Bool, true, false, true≢false}
+use mathlib.Core.List.{List, [], _∷_, _++_, map, append-assoc}
+use lib.ListN.{length, getD, take, replicate, length-map}
+use lib.Seq.{length-take-le, getD-take}
+use lib.Dec.{ltb}
+use Rattle.model.specs.Limits.{leastWorkspace}
+use Rattle.model.specs.Lists.{pick, gather}
+use Rattle.model.specs.Sheet.{Sheet}
+use Rattle.model.specs.Reading.{Position, Result, got, refused}
+use Rattle.model.specs.Building.{build}
+use Rattle.model.specs.Runs.{after}
+use Rattle.model.specs.Summary.{built}
+use Rattle.model.specs.Answer.{Range, rangeWords, answer, answerWords}
+use Rattle.model.specs.Call.{Outcome, refusal, accepted, read, IsSheet, fits, answered, outcome, answerAfter}
+use Rattle.model.specs.Demand3.{how}
+use Rattle.model.specs.CallEnds.{endAt, CallEnds}
+use Rattle.model.proofs.Demand3.{demand3, answer-ends, last-length}
+
+abbrev isAccepted : Outcome → Bool
+isAccepted (refusal k) = false
+isAccepted (accepted a) = true
+
+abbrev wordsOf : Outcome → List ℕ
+wordsOf (refusal k) = []
+wordsOf (accepted a) = a
+
+module _ (ws : List ℕ) (workspace room : ℕ) (a : List ℕ) where
+  fits-words : (b : List ℕ) → fits room b ≡ accepted a → b ≡ a
+  unfolding fits
+  fits-words b e = go (ltb room (length b)) e
+    where
+      go : (t : Bool) → pick t (refusal 9) (accepted b) ≡ accepted a → b ≡ a
+      go true y = absurd (true≢false (sym (ap isAccepted y)))
+      go false y = ap wordsOf y
+
+  answered-sheet : (r : Result Sheet) → read ws ≡ r → answered room r ≡ accepted a → (s : Sheet) × IsSheet ws s × (answerWords (answer s) ≡ a)
+  unfolding answered
+  answered-sheet (got s c) h e = (s, (c, h), fits-words (answerWords (answer s)) e)
+  answered-sheet (refused k) h e = absurd (true≢false (sym (ap isAccepted e)))
+
+  -- the sheet of an accepted call, whose answer it is
+  pub accepted-sheet : outcome ws workspace room ≡ accepted a → (s : Sheet) × IsSheet ws s × (answerWords (answer s) ≡ a)
+  unfolding outcome
+  accepted-sheet e = go (ltb workspace leastWorkspace) e
+    where
+      go : (t : Bool) → pick t (refusal 1) (answered room (read ws)) ≡ accepted a → (s : Sheet) × IsSheet ws s × (answerWords (answer s) ≡ a)
+      go true y = absurd (true≢false (sym (ap isAccepted y)))
+      go false y = answered-sheet (read ws) refl y
+
+-- the ends stand at every second word
+range-end : (l : List Range) (rest : List ℕ) (x : ℕ) → x < length l → getD (gather rangeWords l ++ rest) (2 * x + 1) 0 ≡ getD (map (λ (r : Range). r .end) l) x 0
+range-end [] rest x h = absurd (omega (arith, h))
+range-end (r ∷ l) rest zero h = refl
+range-end (r ∷ l) rest (suc x) h =
+    let p : 2 * suc x + 1 ≡ suc (suc (2 * x + 1)) = omega arith in
+    ap (λ (k : ℕ). getD (r .start ∷ r .end ∷ (gather rangeWords l ++ rest)) k 0) p ∙ range-end l rest x (omega (arith, h))
+
+module _ (s : Sheet) where
+  abbrev lastEnds : List ℕ
+  lastEnds = after (how s) (build s .mutations) (built s) .ends
+
+  ranges-length : length (answer s .ranges) ≡ length (s .identifiers)
+  ranges-length =
+      sym (length-map (answer s .ranges) (λ (r : Range). r .end)) ∙ ap (λ (l : List ℕ). length l) (answer-ends s)
+      ∙ length-take-le (length (s .identifiers)) lastEnds (last-length s)
+
+  answer-end : (rest : List ℕ) (x : ℕ) → x < length (s .identifiers) → getD (answerWords (answer s) ++ rest) (endAt x) 0 ≡ getD lastEnds x 0
+  unfolding answerWords
+  answer-end rest x h =
+      let p : endAt x ≡ suc (2 * x + 1) = omega arith in
+      let more : List ℕ = answerWords (answer s) ++ rest in
+      ap (λ (k : ℕ). getD more k 0) p
+      ∙ ap (λ (l : List ℕ). getD l (2 * x + 1) 0) (append-assoc (gather rangeWords (answer s .ranges)) _ rest)
+      ∙ range-end (answer s .ranges) _ x (omega (arith, h, ranges-length))
+      ∙ ap (λ (l : List ℕ). getD l x 0) (answer-ends s)
+      ∙ getD-take (length (s .identifiers)) lastEnds x 0 h
+
+-- whatever is lent: the ends in the buffer of an accepted call
+pub call-ends : (ws : List ℕ) (workspace room : ℕ) (a : List ℕ) → outcome ws workspace room ≡ accepted a → CallEnds ws (answerAfter room (outcome ws workspace room))
+unfolding answerAfter
+call-ends ws workspace room a e =
+    let w = accepted-sheet ws workspace room a e in
+    let s : Sheet = w .0 in
+    let rest : List ℕ = replicate (room - length a) 0 in
+    record {
+      sheet = s;
+      read = w .1;
+      claim = demand3 s (build s .mutations);
+      ends = λ x h. ap (λ (o : Outcome). getD (answerAfter room o) (endAt x) 0) e ∙ ap (λ (l : List ℕ). getD (l ++ rest) (endAt x) 0) (sym (w .2)) ∙ answer-end s rest x h;
+    }

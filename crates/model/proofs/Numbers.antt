@@ -1,0 +1,79 @@
+-- Every call is accepted, or refused with a number from 1 to 9; the reading refuses with 3 to 6 alone; and 0 is told of accepted calls alone.
+use Prim.Native.Nat.{ℕ}
+use native.Mathlib.Omega.{arith}
+use mathlib.Core.Path.{_≡_, refl}
+use mathlib.Core.Bool.{Bool, true, false}
+use mathlib.Core.List.{List}
+use lib.ListN.{length}
+use lib.Dec.{ltb}
+use Rattle.model.specs.Limits.{leastWorkspace, mostSheet}
+use Rattle.model.specs.Lists.{pick}
+use Rattle.model.specs.Sheet.{Sheet}
+use Rattle.model.specs.Reading.{Position, Result, got, refused}
+use Rattle.model.specs.Sections.{sheet}
+use Rattle.model.specs.Totals.{totals, over, judged}
+use Rattle.model.specs.Answer.{answer, answerWords}
+use Rattle.model.specs.Call.{Outcome, refusal, accepted, ended, read, fits, answered, outcome, numberOf}
+use Rattle.model.specs.Numbers.{IsNumber, FromReading, Numbered}
+use Rattle.model.proofs.Refusing.{sheet-refuses}
+
+pub reading-numbers : (ws : List ℕ) (c : Position) (k : ℕ) → sheet ws c ≡ refused k → FromReading k
+reading-numbers ws c k e = sheet-refuses FromReading (omega arith, omega arith) (omega arith, omega arith) (omega arith, omega arith) (omega arith, omega arith) ws c k e
+
+-- what was read, or a refusal with one of the numbers
+abbrev NumberedRead : Result Sheet → Type 0
+NumberedRead (got s c) = Unit {0}
+NumberedRead (refused k) = IsNumber k
+
+sheet-numbered : (ws : List ℕ) (r : Result Sheet) → sheet ws 0 ≡ r → NumberedRead r
+sheet-numbered ws (got s c) e = tt
+sheet-numbered ws (refused k) e = let h : FromReading k = reading-numbers ws 0 k e in (omega (arith, h .0), omega (arith, h .1))
+
+ended-numbered : (r : Result Sheet) (l : ℕ) → NumberedRead r → NumberedRead (ended r l)
+unfolding ended
+ended-numbered (got s c) l h = go (ltb c l)
+  where
+    go : (b : Bool) → NumberedRead (pick b (refused 7) (got s c))
+    go true = (omega arith, omega arith)
+    go false = tt
+ended-numbered (refused k) l h = h
+
+judged-numbered : (r : Result Sheet) → NumberedRead r → NumberedRead (judged r)
+unfolding judged
+judged-numbered (got s c) h = go (over (totals s))
+  where
+    go : (b : Bool) → NumberedRead (pick b (refused 8) (got s c))
+    go true = (omega arith, omega arith)
+    go false = tt
+judged-numbered (refused k) h = h
+
+read-numbered : (ws : List ℕ) → NumberedRead (read ws)
+unfolding read
+read-numbered ws = go (ltb mostSheet (length ws))
+  where
+    go : (b : Bool) → NumberedRead (pick b (refused 2) (judged (ended (sheet ws 0) (length ws))))
+    go true = (omega arith, omega arith)
+    go false = judged-numbered (ended (sheet ws 0) (length ws)) (ended-numbered (sheet ws 0) (length ws) (sheet-numbered ws (sheet ws 0) refl))
+
+answered-numbered : (room : ℕ) (r : Result Sheet) → NumberedRead r → Numbered (answered room r)
+unfolding answered fits
+answered-numbered room (got s c) h = go (ltb room (length (answerWords (answer s))))
+  where
+    go : (b : Bool) → Numbered (pick b (refusal 9) (accepted (answerWords (answer s))))
+    go true = (omega arith, omega arith)
+    go false = tt
+answered-numbered room (refused k) h = h
+
+-- for all words and lengths
+pub outcome-numbered : (ws : List ℕ) (workspace room : ℕ) → Numbered (outcome ws workspace room)
+unfolding outcome
+outcome-numbered ws workspace room = go (ltb workspace leastWorkspace)
+  where
+    go : (b : Bool) → Numbered (pick b (refusal 1) (answered room (read ws)))
+    go true = (omega arith, omega arith)
+    go false = answered-numbered room (read ws) (read-numbered ws)
+
+-- a call of which 0 is told was accepted
+pub zero-accepted : (o : Outcome) → Numbered o → numberOf o ≡ 0 → (a : List ℕ) × (o ≡ accepted a)
+zero-accepted (refusal k) h e = absurd (omega (arith, h .0, e))
+zero-accepted (accepted a) h e = (a, refl)
