@@ -9,8 +9,8 @@ use Rattle.model.specs.Sheet.{EffectKind, Freeze, Mutate, MutateConditionally, 
 use Rattle.model.specs.Effects.{kinds, kindOf, rowOf}
 use Rattle.model.specs.Reading.{Position, Result, got, refused, andThen}
 use Rattle.model.specs.Sections.{effect}
-use Rattle.effects.specs.Fits.{effectKind}
-use Rattle.effects.proofs.LimitTable.{None, none-below}
+use Rattle.hir.specs.EffectFits.{effectKind}
+use Rattle.hir.proofs.LimitTable.{None, none-below}
 use Rattle.blocks.specs.Judging.{Told, mapResult, judge, tellKind, tellEffect}
 
 -- a number above 17 has the first kind, as in the definitions

@@ -5,7 +5,7 @@ ghost use Rattle.hir.specs.Numbers.{kindSays};
 ghost use Rattle.blocks.specs.Judging.{bump, withRelation, withMutation, withRender, withDiagnosis, tellKind};
 ghost use Rattle.blocks.specs.Says.{totalsAre};
 use crate::Totals;
-use effects::Role;
+use hir::effects::Role;
 use hir::EffectKind;
 
 // One more, but no more than `stop`.
@@ -95,7 +95,7 @@ impl Totals {
             }
             return self;
         }
-        let role = effects::role_of(kind);
+        let role = hir::effects::role_of(kind);
         match role {
             Role::Relation => self.relation(),
             Role::Mutation => self.mutation(),

@@ -49,7 +49,7 @@ fn effects(start: Cursor, s: &[u32], n: u32, m: u32, terminal: bool, totals: Tot
     }
     let mut t = totals;
     while 0 < left {
-        match effects::effect_kind(c, s, n, m) {
+        match hir::effects::effect_kind(c, s, n, m) {
             WordStep::Got(number, d2) => {
                 let kind = counts::kind_of(number);
                 t = t.effect(kind, terminal);

@@ -18,7 +18,7 @@ use Rattle.model.specs.Answer.{placeWords, effectWords}
 use Rattle.model.proofs.Got.{got-value, got-next, not-both, bind-got}
 use Rattle.hir.proofs.Ranges.{at-most-reads}
 use Rattle.hir.proofs.TraitsLaws.{traits-back}
-use Rattle.effects.proofs.LimitTable.{number-right}
+use Rattle.hir.proofs.LimitTable.{number-right}
 use Rattle.copies.proofs.Loops.{slice-next, slice-none}
 use Rattle.copies.proofs.Positions.{word-takes}
 

@@ -5,3 +5,6 @@ pub mod Ranges
 pub mod TraitsLaws
 pub mod WordLaws
 pub mod RunLaws
+pub mod EffectTable
+pub mod Fits
+pub mod LimitTable

@@ -3,6 +3,7 @@ ghost use mathlib.Core.Path.{_≡_};
 ghost use lib.Dec.{eqb};
 ghost use Rattle.hir.specs.Numbers.{effectNumber, kindNumber, terminalNumber, valueNumber, reasonNumber};
 
+pub mod effects;
 pub mod parts;
 pub mod places;
 pub mod runs;

@@ -1,9 +1,9 @@
 use native.Mathlib.Omega.{arith}
 use native.Mathlib.Nat.{not-le-of-lt}
-use Rattle.effects.proofs.LimitTable.{limits-at, none-below}
+use Rattle.hir.proofs.LimitTable.{limits-at, none-below}
 use borrow.Author.Needs.{needs}
-use Rattle.effects.proofs.word_of.Statement.{statement}
-use Rattle.effects.proofs.word_of.Tie as tie
+use Rattle.hir.proofs.effects.word_of.Statement.{statement}
+use Rattle.hir.proofs.effects.word_of.Tie as tie
 
 array-read-result : tie.Need-array-read-result
 array-read-result c = search needs

@@ -2,12 +2,12 @@ use mathlib.Core.Path.{ap, sym, _∙_}
 use Rattle.model.specs.Effects.{rowOf}
 use Rattle.model.specs.Sections.{effect}
 use Rattle.model.specs.Sheet.{EffectKind}
-use Rattle.effects.specs.Table.{TableRow, tableRow}
+use Rattle.hir.specs.Table.{TableRow, tableRow}
 use Rattle.hir.specs.Says.{wordSays, placeSays}
 use Rattle.hir.proofs.Answers.{says}
 use borrow.Author.Needs.{needs}
-use Rattle.effects.proofs.effect.Statement.{statement}
-use Rattle.effects.proofs.effect.Tie as tie
+use Rattle.hir.proofs.effects.effect.Statement.{statement}
+use Rattle.hir.proofs.effects.effect.Tie as tie
 
 at-most-requires : tie.Need-at-most-requires
 at-most-requires c κs = search needs

@@ -5,16 +5,16 @@ ghost use lib.ListN.{length};
 ghost use Rattle.model.specs.Effects.{rowOf};
 ghost use Rattle.model.specs.Lists.{pick};
 ghost use Rattle.model.specs.Sections.{extra, effect};
 ghost use Rattle.hir.specs.Numbers.{kindSays};
 ghost use Rattle.hir.specs.Says.{wordSays, effectSays};
-ghost use Rattle.effects.specs.Table.{roleSays, rowSays, tableRow, limitsIn, limitsOf};
-ghost use Rattle.effects.specs.Fits.{effectKind, placeFits, effectFits};
-use hir::AliasingEffect;
-use hir::Cursor;
-use hir::EffectKind;
-use hir::EffectStep;
-use hir::PlaceStep;
-use hir::WordStep;
+ghost use Rattle.hir.specs.Table.{roleSays, rowSays, tableRow, limitsIn, limitsOf};
+ghost use Rattle.hir.specs.EffectFits.{effectKind, placeFits, effectFits};
+use crate::AliasingEffect;
+use crate::Cursor;
+use crate::EffectKind;
+use crate::EffectStep;
+use crate::PlaceStep;
+use crate::WordStep;
 
 // What an effect of an instruction is for.
 pub enum Role {

@@ -14,10 +14,10 @@ use Rattle.model.specs.Traits.{effectOf, reactiveOf}
 use Rattle.model.specs.Effects.{kindOf, rowOf}
 use Rattle.model.specs.Reading.{Position, got, atMost, below}
 use Rattle.model.specs.Sections.{place, unused, extra, effect}
 use Rattle.hir.specs.Says.{placeOrUnused}
 use Rattle.hir.proofs.WordLaws.{and-left, and-right, word-got, at-most-got, below-got}
-use Rattle.effects.specs.Fits.{effectKind, placeFits, effectFits}
-use Rattle.effects.proofs.LimitTable.{number-right}
+use Rattle.hir.specs.EffectFits.{effectKind, placeFits, effectFits}
+use Rattle.hir.proofs.LimitTable.{number-right}
 
 -- the place that three words say
 abbrev placed : Bool → List ℕ → Position → Place

@@ -1,13 +1,13 @@
 use native.Mathlib.Omega.{arith}
 use mathlib.Core.Path.{_∙_, sym}
 use Rattle.hir.specs.Says.{effectSays}
 use Rattle.hir.proofs.Answers.{says}
 use Rattle.hir.proofs.EffectKinds.{number-same}
-use Rattle.effects.specs.Fits.{effectKind}
-use Rattle.effects.proofs.Fits.{kind-got}
+use Rattle.hir.specs.EffectFits.{effectKind}
+use Rattle.hir.proofs.Fits.{kind-got}
 use borrow.Author.Needs.{needs}
-use Rattle.effects.proofs.effect_kind.Statement.{statement}
-use Rattle.effects.proofs.effect_kind.Tie as tie
+use Rattle.hir.proofs.effects.effect_kind.Statement.{statement}
+use Rattle.hir.proofs.effects.effect_kind.Tie as tie
 
 effect-fits-requires : tie.Need-effect-fits-requires
 effect-fits-requires c κs = search needs

@@ -1,9 +1,9 @@
 use borrow.Author.Tests.{eq-eqb, ne-eqb}
 use Rattle.model.specs.Sections.{extra}
 use Rattle.hir.proofs.EffectKinds.{number-same}
 use borrow.Author.Needs.{needs}
-use Rattle.effects.proofs.extra.Statement.{statement}
-use Rattle.effects.proofs.extra.Tie as tie
+use Rattle.hir.proofs.effects.extra.Statement.{statement}
+use Rattle.hir.proofs.effects.extra.Tie as tie
 
 number-requires : tie.Need-number-requires
 number-requires c κs = search needs

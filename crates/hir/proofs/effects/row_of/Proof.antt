@@ -1,8 +1,8 @@
 use native.Mathlib.Omega.{arith}
-use Rattle.effects.proofs.EffectTable.{row-right, row-beyond}
+use Rattle.hir.proofs.EffectTable.{row-right, row-beyond}
 use borrow.Author.Needs.{needs}
-use Rattle.effects.proofs.row_of.Statement.{statement}
-use Rattle.effects.proofs.row_of.Tie as tie
+use Rattle.hir.proofs.effects.row_of.Statement.{statement}
+use Rattle.hir.proofs.effects.row_of.Tie as tie
 
 array-copy-out-result : tie.Need-array-copy-out-result
 array-copy-out-result c = search needs

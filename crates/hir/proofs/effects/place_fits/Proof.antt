@@ -1,7 +1,7 @@
-use Rattle.effects.specs.Fits.{placeFits}
+use Rattle.hir.specs.EffectFits.{placeFits}
 use borrow.Author.Needs.{needs}
-use Rattle.effects.proofs.place_fits.Statement.{statement}
-use Rattle.effects.proofs.place_fits.Tie as tie
+use Rattle.hir.proofs.effects.place_fits.Statement.{statement}
+use Rattle.hir.proofs.effects.place_fits.Tie as tie
 
 pick-requires : tie.Need-pick-requires
 pick-requires c κs = search needs

@@ -8,15 +8,15 @@ use lib.Dec.{T, eqb, eqb→eq}
 use lib.ListN.{getD, List·getD-eq-default}
 use Rattle.model.specs.Sheet.{Freeze}
 use Rattle.model.specs.Effects.{kinds, kindOf, rowOf, Role as ModelRole, relation, mutation, render, diagnosis, nothing}
 use Rattle.hir.specs.Numbers.{kindSays, kindNumber}
-use Rattle.effects.specs.Table.{roleSays, rowSays, tableRow}
+use Rattle.hir.specs.Table.{roleSays, rowSays, tableRow}
 use Rattle.hir.specs.declared.EffectKind.{EffectKind as Kind}
 use Rattle.hir.specs.declared.EffectKind.the-variants.{Freeze as KindFreeze, Mutate as KindMutate, MutateConditionally as KindMutateConditionally, MutateTransitive as KindMutateTransitive, MutateTransitiveConditionally as KindMutateTransitiveConditionally, Capture as KindCapture, Alias as KindAlias, MaybeAlias as KindMaybeAlias, Assign as KindAssign, Create as KindCreate, CreateFrom as KindCreateFrom, ImmutableCapture as KindImmutableCapture, Apply as KindApply, CreateFunction as KindCreateFunction, MutateFrozen as KindMutateFrozen, MutateGlobal as KindMutateGlobal, Impure as KindImpure, Render as KindRender}
-use Rattle.effects.specs.declared.Row.{Row}
-use Rattle.effects.specs.declared.Role.{Role}
-use Rattle.effects.specs.declared.Role.the-variants.{Relation, Mutation, Render, Diagnosis, Nothing}
+use Rattle.hir.specs.declared.effects.Row.{Row}
+use Rattle.hir.specs.declared.effects.Role.{Role}
+use Rattle.hir.specs.declared.effects.Role.the-variants.{Relation, Mutation, Render, Diagnosis, Nothing}
 use Rattle.hir.proofs.Table.{at, both, both-left, both-right}
 use Rattle.hir.proofs.EffectKinds.{kind-of-number}
 
 abbrev row : Kind → ℕ → ℕ → Role → Row
 row k p e r = record { kind = k; places = p; extra = e; role = r }

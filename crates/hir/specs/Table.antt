@@ -2,10 +2,10 @@
 use Prim.Native.Nat.{ℕ, _/_, _%_}
 use Rattle.model.specs.Sheet.{EffectKind}
 use Rattle.model.specs.Effects.{kindOf, rowOf, Role as ModelRole, relation, mutation, render, diagnosis, nothing}
 use Rattle.hir.specs.Numbers.{kindSays}
-use Rattle.effects.specs.declared.Row.{Row}
-use Rattle.effects.specs.declared.Role.{Role}
-use Rattle.effects.specs.declared.Role.the-variants.{Relation, Mutation, Render, Diagnosis, Nothing}
+use Rattle.hir.specs.declared.effects.Row.{Row}
+use Rattle.hir.specs.declared.effects.Role.{Role}
+use Rattle.hir.specs.declared.effects.Role.the-variants.{Relation, Mutation, Render, Diagnosis, Nothing}
 
 -- the role of the same name
 abbrev pub roleSays : Role → ModelRole

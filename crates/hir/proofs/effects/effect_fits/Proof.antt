@@ -1,10 +1,10 @@
 use mathlib.Core.Path.{ap}
 use borrow.Author.Tests.{le-leb, lt-leb}
-use Rattle.effects.specs.Table.{Limits, limitsOf}
-use Rattle.effects.specs.Fits.{effectFits}
+use Rattle.hir.specs.Table.{Limits, limitsOf}
+use Rattle.hir.specs.EffectFits.{effectFits}
 use borrow.Author.Needs.{needs}
-use Rattle.effects.proofs.effect_fits.Statement.{statement}
-use Rattle.effects.proofs.effect_fits.Tie as tie
+use Rattle.hir.proofs.effects.effect_fits.Statement.{statement}
+use Rattle.hir.proofs.effects.effect_fits.Tie as tie
 
 mul-number : tie.Need-mul-number
 mul-number c = search needs

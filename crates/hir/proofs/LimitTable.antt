@@ -8,8 +8,8 @@ use lib.Dec.{T, eqb, eqb→eq}
 use lib.ListN.{getD}
 use Rattle.model.specs.Sheet.{EffectKind, Freeze}
 use Rattle.model.specs.Effects.{kinds, kindOf, rowOf}
-use Rattle.effects.specs.Table.{limitsIn, limitsOf}
+use Rattle.hir.specs.Table.{limitsIn, limitsOf}
 use Rattle.hir.proofs.Table.{at, both, both-left, both-right}
 
 abbrev limit : ℕ → ℕ → ℕ
 limit places extra = places + 4 * extra

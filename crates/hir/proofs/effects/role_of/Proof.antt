@@ -1,8 +1,8 @@
 use Rattle.model.specs.Effects.{rowOf}
-use Rattle.effects.proofs.EffectTable.{of-kind}
+use Rattle.hir.proofs.EffectTable.{of-kind}
 use borrow.Author.Needs.{needs}
-use Rattle.effects.proofs.role_of.Statement.{statement}
-use Rattle.effects.proofs.role_of.Tie as tie
+use Rattle.hir.proofs.effects.role_of.Statement.{statement}
+use Rattle.hir.proofs.effects.role_of.Tie as tie
 
 enum-told : tie.Need-enum-told
 enum-told c = search needs

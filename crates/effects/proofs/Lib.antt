@@ -1,3 +1,0 @@
-pub mod EffectTable
-pub mod Fits
-pub mod LimitTable
