@@ -6,7 +6,7 @@ use mathlib.Core.List.{List}
 use Rattle.model.specs.Sheet.{Sheet}
 use Rattle.model.specs.Reading.{Result, got, refused}
 use Rattle.model.specs.Call.{read, IsSheet}
-use Rattle.blocks.specs.Judging.{Told}
+use Rattle.reading.specs.Judging.{Told}
 use Rattle.reading.specs.Whole.{told, Judgement, refusal, acceptance, judgementOf}
 
 abbrev isAcceptance : Judgement → Bool

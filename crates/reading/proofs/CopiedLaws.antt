@@ -13,7 +13,7 @@ use Rattle.model.specs.Totals.{instructionEffects, withRole, totals}
 use Rattle.model.specs.Summary.{copied}
 use Rattle.model.specs.Call.{read, IsSheet}
 use Rattle.model.proofs.Stored.{tally-append}
-use Rattle.blocks.specs.Judging.{Told}
+use Rattle.reading.specs.Judging.{Told}
 use Rattle.reading.specs.Whole.{diagnoses, told, acceptance, judgementOf}
 use Rattle.reading.proofs.Accepted.{accepted-told}
 

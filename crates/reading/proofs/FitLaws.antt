@@ -15,8 +15,8 @@ use Rattle.model.specs.Reading.{Position, got, Read, times}
 use Rattle.model.specs.Sections.{typeOf, identifier, diagnostic}
 use Rattle.hir.specs.Fits.{Test, allFit}
 use Rattle.hir.proofs.WordLaws.{and-left, and-right, at-most-got}
-use Rattle.blocks.specs.Judging.{judge}
-use Rattle.blocks.proofs.JudgeLaws.{judge-got, times-next, times-done}
+use Rattle.reading.specs.Judging.{judge}
+use Rattle.reading.proofs.JudgeLaws.{judge-got, times-next, times-done}
 use Rattle.reading.specs.Whole.{skip}
 use Rattle.reading.specs.Fits.{identifierFits, diagnosticFits}
 

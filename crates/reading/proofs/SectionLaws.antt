@@ -9,8 +9,8 @@ use Rattle.model.specs.Sheet.{Diagnostic, InnerFunction}
 use Rattle.model.specs.Reading.{Position, Result, got, refused, Read, andThen, _>>=_, pure, count, times, counted}
 use Rattle.model.specs.Sections.{diagnostic, innerFunction}
 use Rattle.model.proofs.ReadLaws.{times-length}
-use Rattle.blocks.specs.Judging.{mapResult, judge}
-use Rattle.blocks.proofs.JudgeLaws.{got-judged, refused-judged}
+use Rattle.reading.specs.Judging.{mapResult, judge}
+use Rattle.reading.proofs.JudgeLaws.{got-judged, refused-judged}
 use Rattle.reading.specs.Whole.{lengthOf, skip}
 
 module _ {A : Type 0} (most : ℕ) (f : Read A) (ws : List ℕ) (c : Position) where

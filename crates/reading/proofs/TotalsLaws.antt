@@ -13,7 +13,7 @@ use Rattle.model.specs.Sheet.{Effect, Operand, Phi, Instruction, Terminal, Othe
 use Rattle.model.specs.Effects.{Role, relation, mutation, render, diagnosis, nothing, rowOf, isAlias, isRelation, isMutation, isRender, isDiagnosis}
 use Rattle.model.specs.Totals.{withRole, aliasesIn, terminalRelations, blockRelations, totals, over}
 use Rattle.model.proofs.WhenRead.{not-over}
-use Rattle.blocks.specs.Judging.{bump, relationStop, mutationStop, renderStop, Told, withRelation, withMutation, withRender, withDiagnosis, tellRole, tellKind, tellEffect, tellOperand, tellPhi, tellInstruction, tellTerminal, tellBlock, noTotals}
+use Rattle.reading.specs.Judging.{bump, relationStop, mutationStop, renderStop, Told, withRelation, withMutation, withRender, withDiagnosis, tellRole, tellKind, tellEffect, tellOperand, tellPhi, tellInstruction, tellTerminal, tellBlock, noTotals}
 use Rattle.reading.specs.Whole.{tellSheet, totalsOf, diagnoses, told}
 
 -- a number, stopped

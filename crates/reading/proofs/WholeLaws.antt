@@ -6,7 +6,7 @@ use lib.ListN.{length}
 use Rattle.model.specs.Limits.{mostIdentifiers, mostFunctions, mostParams, mostContext, returnsCount, mostBlocks}
 use Rattle.model.specs.Reading.{Position, Result, got, refused, _>>=_, pure, count, fixed, numbered, counted}
 use Rattle.model.specs.Sections.{flags, identifier, innerFunction, place, block, sheet}
-use Rattle.blocks.specs.Judging.{judge, noTotals, blocksOf}
+use Rattle.reading.specs.Judging.{judge, noTotals, blocksOf}
 use Rattle.reading.specs.Whole.{lengthOf, heading, placeLists, judgedSheet, tellSheet}
 
 -- what was read, or refused

@@ -1,3 +1,7 @@
+pub mod Empty
+pub mod Judging
+pub mod Operands
+pub mod TotalsSays
 pub mod Whole
 pub mod Says
 pub mod Fits

@@ -1,6 +1,6 @@
 -- What the answers of the code say.
 use Rattle.model.specs.Reading.{Result, got, refused}
-use Rattle.blocks.specs.Says.{totalsAre}
+use Rattle.reading.specs.TotalsSays.{totalsAre}
 use Rattle.reading.specs.Whole.{Heading as TheHeading, Judgement, refusal, acceptance}
 use Rattle.reading.specs.declared.CursorStep.{CursorStep}
 use Rattle.reading.specs.declared.CursorStep.the-variants.{Got as GotCursor, Refused as NoCursor}

@@ -10,7 +10,7 @@ use Rattle.model.specs.Effects.{isDiagnosis}
 use Rattle.model.specs.Reading.{Result, got, refused, Read, _>>=_, pure, fixed, counted}
 use Rattle.model.specs.Sections.{flags, identifier, innerFunction, place}
 use Rattle.model.specs.Totals.{withRole, Totals, totals}
-use Rattle.blocks.specs.Judging.{mapResult, judge, Told, tellBlock, noTotals, blocksOf}
+use Rattle.reading.specs.Judging.{mapResult, judge, Told, tellBlock, noTotals, blocksOf}
 
 module _ {A : Type 0} where
   -- a list of which only the length goes on

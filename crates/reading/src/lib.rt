@@ -3,16 +3,20 @@ ghost use mathlib.Core.Path.{_≡_};
 ghost use Rattle.model.specs.Call.{read};
 ghost use Rattle.model.specs.Totals.{over};
 ghost use Rattle.hir.specs.Says.{placeSays};
-ghost use Rattle.blocks.specs.Says.{totalsAre, totalsSays};
+ghost use Rattle.reading.specs.TotalsSays.{totalsAre, totalsSays};
 ghost use Rattle.reading.specs.Whole.{heading, placeLists, judgedSheet, totalsOf, judgementOf};
 ghost use Rattle.reading.specs.Says.{headingSays, verdictSays};
-use blocks::Totals;
-use blocks::TotalsStep;
+use crate::blocks::Totals;
+use crate::blocks::TotalsStep;
 use hir::Cursor;
 use hir::FlagsStep;
 use hir::PlaceStep;
 use hir::WordStep;
 
+pub mod blocks;
+mod counts;
+mod phis;
+mod runs;
 mod sections;
 
 // The position after a part of the sheet, or a refusal.
@@ -89,7 +93,7 @@ pub fn sheet(s: &[u32]) -> TotalsStep
             let n = h.identifiers;
             let m = h.functions;
             match place_lists(c1, s, n) {
-                PlaceStep::Got(_, c2) => blocks::blocks(c2, s, n, m),
+                PlaceStep::Got(_, c2) => crate::blocks::blocks(c2, s, n, m),
                 PlaceStep::Refused(k2) => TotalsStep::Refused(k2),
             }
         }

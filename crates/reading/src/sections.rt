@@ -8,7 +8,7 @@ ghost use Rattle.model.specs.Reading.{times, counted};
 ghost use Rattle.model.specs.Sections.{identifier, diagnostic, innerFunction, place};
 ghost use Rattle.hir.specs.Fits.{allFit};
 ghost use Rattle.hir.specs.Says.{wordSays};
-ghost use Rattle.blocks.specs.Judging.{judge};
+ghost use Rattle.reading.specs.Judging.{judge};
 ghost use Rattle.reading.specs.Whole.{lengthOf, skip};
 ghost use Rattle.reading.specs.Says.{cursorSays};
 ghost use Rattle.reading.specs.Fits.{identifierFits, diagnosticFits};

@@ -1,5 +1,5 @@
 use Rattle.reading.proofs.VerdictLaws.{judged-refused, judged-seven, judged-eight, judged-accepted}
-use Rattle.blocks.specs.Says.{totalsSays}
+use Rattle.reading.specs.TotalsSays.{totalsSays}
 use mathlib.Core.Path.{_∙_, sym}
 use borrow.Author.Tests.{lt-ltb, le-ltb}
 use Rattle.model.specs.Call.{read}

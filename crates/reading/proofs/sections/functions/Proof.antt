@@ -1,9 +1,9 @@
 use Rattle.reading.proofs.SectionLaws.{section-read, section-stopped, count-stopped}
-use Rattle.blocks.proofs.JudgeLaws.{times-next, times-stop, times-done}
+use Rattle.reading.proofs.JudgeLaws.{times-next, times-stop, times-done}
 use Rattle.reading.specs.Says.{cursorSays}
 use Rattle.hir.specs.Says.{wordSays}
 use Rattle.reading.specs.Whole.{skip}
-use Rattle.blocks.specs.Judging.{judge}
+use Rattle.reading.specs.Judging.{judge}
 use Rattle.model.specs.Sections.{innerFunction}
 use Rattle.model.specs.Reading.{times}
 use Rattle.model.specs.Lists.{each}

@@ -1,8 +1,8 @@
 use Rattle.reading.proofs.SectionLaws.{section-read, section-stopped, count-stopped}
-use Rattle.blocks.proofs.JudgeLaws.{judge-got, judge-refused, times-next, times-stop, times-done}
+use Rattle.reading.proofs.JudgeLaws.{judge-got, judge-refused, times-next, times-stop, times-done}
 use Rattle.hir.specs.Says.{wordSays, placeSays}
 use Rattle.reading.specs.Whole.{skip}
-use Rattle.blocks.specs.Judging.{judge}
+use Rattle.reading.specs.Judging.{judge}
 use Rattle.model.specs.Sections.{place}
 use Rattle.model.specs.Reading.{times}
 use Rattle.model.specs.Lists.{each}

@@ -1,4 +1,0 @@
-pub mod JudgeLaws
-pub mod KindLaws
-pub mod BlockLaws
-pub mod OperandLaws

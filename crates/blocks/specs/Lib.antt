@@ -1,4 +1,0 @@
-pub mod Empty
-pub mod Judging
-pub mod Operands
-pub mod Says

@@ -1,0 +1,132 @@
+use Rattle.reading.proofs.JudgeLaws.{times-next, times-stop, times-done, section-got, section-refused}
+use Rattle.reading.proofs.BlockLaws.{empty-run}
+use Rattle.reading.specs.Empty.{emptyFits}
+use Rattle.reading.specs.TotalsSays.{totalsAre, totalsSays}
+use Rattle.reading.specs.Judging.{judge, tellInstruction}
+use Rattle.hir.specs.Says.{wordSays}
+use Rattle.model.specs.Sections.{instruction}
+use Rattle.model.specs.Reading.{times}
+use Rattle.model.specs.Lists.{each}
+use Prim.Native.Nat.{_+_, _*_, _≤_}
+use native.Mathlib.Omega.{arith}
+use mathlib.Core.Path.{_≡_, _∙_, sym, refl}
+use borrow.Author.Needs.{needs}
+use Rattle.hir.proofs.Answers.{says}
+use Rattle.hir.proofs.RunLaws.{run-ends}
+use Rattle.reading.proofs.blocks.instructions.Statement.{statement}
+use Rattle.reading.proofs.blocks.instructions.Tie as tie
+
+abbrev Inv-loop : tie.InvT-loop
+Inv-loop s n m left₀ c₀ t₀ left c t = judge (times left₀ (instruction n m)) (each tellInstruction) (totalsAre t₀) s (c₀ .at)
+    ≡ judge (times left (instruction n m)) (each tellInstruction) (totalsAre t) s (c .at)
+
+abbrev μ-loop : tie.MeasureT-loop
+μ-loop s n m left₀ c₀ t₀ left c t = left
+
+count-requires : tie.Need-count-requires Inv-loop μ-loop
+count-requires c κs = tt
+
+enum-known-count : tie.Need-enum-known-count Inv-loop μ-loop
+enum-known-count c = search needs
+
+enum-known-k1 : tie.Need-enum-known-k1 Inv-loop μ-loop
+enum-known-k1 c = search needs
+
+returns : tie.Need-returns Inv-loop μ-loop
+returns c =
+    let b3 = c .before .before .before in
+    sym (section-refused _ _ _ _ _ _ _ (says wordSays (c .before .k1 .given .1) (b3 .count .ensures)))
+
+loop-holds : tie.Need-loop-holds Inv-loop μ-loop
+loop-holds c = refl
+
+instruction-requires : tie.Need-instruction-requires Inv-loop μ-loop
+instruction-requires c κs = tt
+
+enum-known-u : tie.Need-enum-known-u Inv-loop μ-loop
+enum-known-u c = search needs
+
+sub-empty-instructions : tie.Need-sub-empty-instructions Inv-loop μ-loop
+sub-empty-instructions c = omega arith
+
+empty-instructions-requires : tie.Need-empty-instructions-requires Inv-loop μ-loop
+empty-instructions-requires c κs = tt
+
+sub-left : tie.Need-sub-left Inv-loop μ-loop
+sub-left c = omega arith
+
+sub-left-2 : tie.Need-sub-left-2 Inv-loop μ-loop
+sub-left-2 c = omega (arith, c .empty-instructions .ensures .most)
+
+cast-t20 : tie.Need-cast-t20 Inv-loop μ-loop
+cast-t20 c = omega arith
+
+mul-t21 : tie.Need-mul-t21 Inv-loop μ-loop
+mul-t21 c = omega arith
+
+add-t22 : tie.Need-add-t22 Inv-loop μ-loop
+add-t22 c =
+    let d = c .before .before .before .u .given .0 .1 .0 .at in
+    let r = c .before .empty-instructions .result in
+    let ends : d + 2 * r ≤ 18446744073709551615 =
+    run-ends emptyFits _ r _ d 18446744073709551615 (c .before .empty-instructions .ensures) (omega (arith, c .struct-known .given)) (omega arith) in
+    omega (arith, ends)
+
+loop-less : tie.Need-loop-less Inv-loop μ-loop
+loop-less c = omega (arith, c .before .empty-instructions .ensures .most)
+
+loop-again : tie.Need-loop-again Inv-loop μ-loop
+loop-again c =
+    let b5 = c .before .before .before .before .before in
+    let b6 = b5 .before in
+    b6 .before .loop .inv
+    ∙ times-next _ _ _ _ _ _ _ _ (b6 .loop-test .taken) (says totalsSays (c .before .before .before .u .given .1) (b5 .instruction .ensures))
+    ∙ empty-run _ _ _ _ _ _ _ (c .before .empty-instructions .ensures)
+
+enum-known-k2 : tie.Need-enum-known-k2 Inv-loop μ-loop
+enum-known-k2 c = search needs
+
+returns-2 : tie.Need-returns-2 Inv-loop μ-loop
+returns-2 c =
+    let b3 = c .before .before .before in
+    let b4 = b3 .before in
+    let b5 = b4 .before in
+    let b7 = b5 .before .before in
+    let b9 = b7 .before .before in
+    sym (section-got _ _ _ _ _ _ _ _ (says wordSays (b7 .count2 .given .1) (b9 .count .ensures))
+    ∙ b5 .loop .inv
+    ∙ times-stop _ _ _ _ _ _ _ (b4 .loop-test .taken) (says totalsSays (c .before .k2 .given .1) (b3 .instruction .ensures)))
+
+returns-3 : tie.Need-returns-3 Inv-loop μ-loop
+returns-3 c =
+    let b3 = c .before .before .before in
+    let b5 = b3 .before .before in
+    sym (section-got _ _ _ _ _ _ _ _ (says wordSays (b3 .count2 .given .1) (b5 .count .ensures))
+    ∙ c .before .loop .inv
+    ∙ times-done _ _ _ _ _ _ (c .loop-test .left))
+
+pub instructions-spec : {M : Type 1} → statement M
+instructions-spec =
+    tie.close
+    (tie.spec
+    Inv-loop
+    μ-loop
+    count-requires
+    enum-known-count
+    enum-known-k1
+    returns
+    loop-holds
+    instruction-requires
+    enum-known-u
+    sub-empty-instructions
+    empty-instructions-requires
+    sub-left
+    sub-left-2
+    cast-t20
+    mul-t21
+    add-t22
+    loop-less
+    loop-again
+    enum-known-k2
+    returns-2
+    returns-3)

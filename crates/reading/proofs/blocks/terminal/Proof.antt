@@ -1,0 +1,133 @@
+use Rattle.reading.proofs.BlockLaws.{terminal-got, terminal-kind-refused, terminal-order-refused, other-got, return-got, return-refused, throw-got}
+use Rattle.hir.specs.Says.{kindStepSays, orderSays, placeSays}
+use mathlib.Core.Path.{_∙_, sym}
+use Rattle.hir.proofs.Answers.{says}
+use borrow.Author.Needs.{needs}
+use Rattle.reading.proofs.blocks.terminal.Statement.{statement}
+use Rattle.reading.proofs.blocks.terminal.Tie as tie
+
+terminal-kind-requires : tie.Need-terminal-kind-requires
+terminal-kind-requires c κs = search needs
+
+enum-known-t : tie.Need-enum-known-t
+enum-known-t c = search needs
+
+enum-known-k1 : tie.Need-enum-known-k1
+enum-known-k1 c = search needs
+
+returns : tie.Need-returns
+returns c =
+    let b3 = c .before .before .before in
+    sym (terminal-kind-refused _ _ _ _ _ _ (says kindStepSays (c .before .k1 .given .1) (b3 .terminal-kind .ensures)))
+
+order-requires : tie.Need-order-requires
+order-requires c κs = search needs
+
+enum-known-d2 : tie.Need-enum-known-d2
+enum-known-d2 c = search needs
+
+enum-known-k2 : tie.Need-enum-known-k2
+enum-known-k2 c = search needs
+
+returns-2 : tie.Need-returns-2
+returns-2 c =
+    let b3 = c .before .before .before in
+    let b5 = b3 .before .before in
+    let b7 = b5 .before .before in
+    sym (terminal-order-refused _ _ _ _ _ _ _ _ (says kindStepSays (b5 .t .given .1) (b7 .terminal-kind .ensures)) (says orderSays (c .before .k2 .given .1) (b3 .order .ensures)))
+
+enum-told : tie.Need-enum-told
+enum-told c = search needs
+
+enum-told-2 : tie.Need-enum-told-2
+enum-told-2 c = search needs
+
+place-requires : tie.Need-place-requires
+place-requires c κs = search needs
+
+enum-known-c3 : tie.Need-enum-known-c3
+enum-known-c3 c = search needs
+
+relation-requires : tie.Need-relation-requires
+relation-requires c κs = search needs
+
+effects-requires : tie.Need-effects-requires
+effects-requires c κs = search needs
+
+enum-known-k3 : tie.Need-enum-known-k3
+enum-known-k3 c = search needs
+
+enum-told-3 : tie.Need-enum-told-3
+enum-told-3 c = search needs
+
+effects-requires-2 : tie.Need-effects-requires-2
+effects-requires-2 c κs = search needs
+
+returns-3 : tie.Need-returns-3
+returns-3 c =
+    let b3 = c .before .before .before in
+    let b5 = b3 .before .before in
+    let b7 = b5 .before .before in
+    let b9 = b7 .before .before in
+    sym (terminal-got _ _ _ _ _ _ _ _ _ (rw (c .enum-told .given .1) at (says kindStepSays (b7 .t .given .1) (b9 .terminal-kind .ensures))) (says orderSays (b3 .d2 .given .1) (b5 .order .ensures))
+    ∙ other-got _ _ _ _ _ _)
+
+returns-4 : tie.Need-returns-4
+returns-4 c =
+    let b3 = c .before .before .before in
+    let b5 = b3 .before .before in
+    let b6 = b5 .before in
+    let b9 = b6 .before .before .before in
+    let b11 = b9 .before .before in
+    let b13 = b11 .before .before in
+    let b15 = b13 .before .before in
+    rw (c .before .relation .ensures) at (c .effects .ensures)
+    ∙ sym (terminal-got _ _ _ _ _ _ _ _ _ (rw (b6 .enum-told2 .given .1) at (says kindStepSays (b13 .t .given .1) (b15 .terminal-kind .ensures))) (says orderSays (b9 .d2 .given .1) (b11 .order .ensures))
+    ∙ return-got _ _ _ _ _ _ _ _ (says placeSays (b3 .c3 .given .1) (b5 .place .ensures)))
+
+returns-5 : tie.Need-returns-5
+returns-5 c =
+    let b3 = c .before .before .before in
+    let b4 = b3 .before in
+    let b7 = b4 .before .before .before in
+    let b9 = b7 .before .before in
+    let b11 = b9 .before .before in
+    let b13 = b11 .before .before in
+    sym (terminal-got _ _ _ _ _ _ _ _ _ (rw (b4 .enum-told2 .given .1) at (says kindStepSays (b11 .t .given .1) (b13 .terminal-kind .ensures))) (says orderSays (b7 .d2 .given .1) (b9 .order .ensures))
+    ∙ return-refused _ _ _ _ _ _ _ (says placeSays (c .before .k3 .given .1) (b3 .place .ensures)))
+
+returns-6 : tie.Need-returns-6
+returns-6 c =
+    let b4 = c .before .before .before .before in
+    let b6 = b4 .before .before in
+    let b8 = b6 .before .before in
+    let b10 = b8 .before .before in
+    c .effects2 .ensures
+    ∙ sym (terminal-got _ _ _ _ _ _ _ _ _ (rw (c .before .enum-told3 .given .1) at (says kindStepSays (b8 .t .given .1) (b10 .terminal-kind .ensures))) (says orderSays (b4 .d2 .given .1) (b6 .order .ensures))
+    ∙ throw-got _ _ _ _ _ _)
+
+pub terminal-spec : {M : Type 1} → statement M
+terminal-spec =
+    tie.close
+    (tie.spec
+    terminal-kind-requires
+    enum-known-t
+    enum-known-k1
+    returns
+    order-requires
+    enum-known-d2
+    enum-known-k2
+    returns-2
+    enum-told
+    enum-told-2
+    place-requires
+    enum-known-c3
+    relation-requires
+    effects-requires
+    enum-known-k3
+    enum-told-3
+    effects-requires-2
+    returns-3
+    returns-4
+    returns-5
+    returns-6)
