@@ -1,3 +1,8 @@
+pub mod Sizes
+pub mod Pushing
+pub mod Pushes
+pub mod Whole
+pub mod Items
 pub mod Packed
 pub mod Writes
 pub mod Fields

@@ -7,7 +7,7 @@ use mathlib.Core.Path.{_≡_, refl, ap, _∙_}
 use lib.ListN.{length, getD, set}
 use lib.Seq.{getD-set-same, getD-set-other}
 use Rattle.rows.specs.Rows.{fb, bb, Good}
-use Rattle.pushes.specs.Pushes.{deg}
+use Rattle.aliasing.specs.Pushes.{deg}
 use Rattle.aliasing.specs.Potential.{left, phi}
 
 left-falls : (s k d : ℕ) → s < k → k ≤ 2 → left k d + d ≤ left s d

@@ -17,9 +17,9 @@ use Rattle.model.proofs.Fuel.{run-add, run-rest}
 use Rattle.model.proofs.Potential.{walk-ends, walk-enough}
 use Rattle.rows.specs.Rows.{rowsOf, limit, Indexed}
 use Rattle.rows.specs.Pending.{kindOf}
-use Rattle.pushes.specs.Pushes.{entryW}
-use Rattle.pushes.specs.Items.{itemOf, queueOf}
-use Rattle.pushes.proofs.Items.{item-entry}
+use Rattle.aliasing.specs.Pushes.{entryW}
+use Rattle.aliasing.specs.Items.{itemOf, queueOf}
+use Rattle.aliasing.proofs.Items.{item-entry}
 use Rattle.aliasing.specs.declared.MutationKind.{MutationKind}
 use Rattle.aliasing.specs.declared.MutationKind.the-variants.{Conditional, Definite}
 use Rattle.aliasing.specs.declared.Mutation.{Mutation as CodeMutation}

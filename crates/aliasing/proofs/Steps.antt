@@ -20,11 +20,11 @@ use Rattle.rows.specs.Graph.{valueOf, ownNode, graphOfRows}
 use Rattle.rows.proofs.Rows.{limit-at, value-at, value-beyond, rows-length}
 use Rattle.rows.proofs.Graph.{row-there, row-missing}
 use Rattle.rows.proofs.Parts.{drop-more}
-use Rattle.pushes.specs.Pushes.{pushedW, Pushed, Room, deg}
-use Rattle.pushes.specs.Items.{itemOf, queueOf}
-use Rattle.pushes.proofs.Sizes.{pushed-le}
-use Rattle.pushes.proofs.Pushes.{pushed-part, pushed-kept}
-use Rattle.pushes.proofs.Items.{pushed-items, queue-push}
+use Rattle.aliasing.specs.Pushes.{pushedW, Pushed, Room, deg}
+use Rattle.aliasing.specs.Items.{itemOf, queueOf}
+use Rattle.aliasing.proofs.Sizes.{pushed-le}
+use Rattle.aliasing.proofs.Pushes.{pushed-part, pushed-kept}
+use Rattle.aliasing.proofs.Items.{pushed-items, queue-push}
 use Rattle.aliasing.specs.declared.Mutation.{Mutation}
 use Rattle.aliasing.specs.Says.{modeSays, mutationSays}
 use Rattle.aliasing.specs.State.{nodesOf, seenOf, levels, NoneAbove, recordsOf, endsOf, stateOf, bare}

@@ -1,3 +1,5 @@
+pub mod Pushes
+pub mod Items
 pub mod Says
 pub mod State
 pub mod Accepts

@@ -2,7 +2,7 @@
 use Prim.Native.Nat.{ℕ, zero, suc, _+_}
 use mathlib.Core.List.{List}
 use lib.ListN.{getD}
-use Rattle.pushes.specs.Pushes.{deg}
+use Rattle.aliasing.specs.Pushes.{deg}
 
 -- what an identifier that was accepted at level z, and can push d entries at once, can still push
 abbrev pub left : ℕ → ℕ → ℕ

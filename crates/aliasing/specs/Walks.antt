@@ -11,7 +11,7 @@ use Rattle.model.specs.Size.{edges, entries}
 use Rattle.model.specs.Walks.{Item, Walk, step, run, mutate}
 use Rattle.rows.specs.Layout.{LEAST, SEEN, BASE, VALUE, QUEUE, HANDED, MUTATIONS}
 use Rattle.rows.specs.Rows.{rowsOf, limit, Good, Kept}
-use Rattle.pushes.specs.Items.{queueOf}
+use Rattle.aliasing.specs.Items.{queueOf}
 use Rattle.aliasing.specs.Says.{modeSays, mutationSays}
 use Rattle.aliasing.specs.State.{seenOf, levels, NoneAbove, stateOf, Handing}
 use Rattle.aliasing.specs.Potential.{phi}

@@ -5,7 +5,7 @@ ghost use lib.ListN.{length, getD};
 ghost use Rattle.model.specs.Limits.{mostOrder};
 ghost use Rattle.rows.specs.Layout.{LEAST, SEEN, BASE, MUTATIONS, QUEUE, VALUE};
 ghost use Rattle.rows.specs.Rows.{Indexed};
-ghost use Rattle.pushes.specs.Pushes.{Pushed};
+ghost use Rattle.aliasing.specs.Pushes.{Pushed};
 ghost use Rattle.rows.specs.Pending.{kindOf};
 ghost use Rattle.aliasing.specs.Says.{bit, kindBit, kindSays};
 ghost use Rattle.aliasing.specs.State.{nodesOf, fieldAt, Handing, NoneAbove};
@@ -14,9 +14,9 @@ ghost use Rattle.aliasing.specs.Walks.{Ready, AllConditional, Callable, 
 ghost use Rattle.aliasing.specs.Pending.{Pending, Made, Processed};
 use hir::EvaluationOrder;
 use hir::IdentifierId;
-use pushes::entry;
-use pushes::push_all;
-use pushes::push_whole;
+use crate::pushes::entry;
+use crate::pushes::push_all;
+use crate::pushes::push_whole;
 use rows::BASE;
 use rows::END;
 use rows::HANDED;
@@ -30,6 +30,8 @@ use rows::SEEN;
 use rows::TSPAN;
 use rows::VALUE;
 use rows::clear;
+
+pub mod pushes;
 
 // The original's `MutationKind`.
 pub enum MutationKind {

@@ -13,9 +13,9 @@ use Rattle.model.specs.Renders.{origins, renderPushes}
 use Rattle.rows.specs.Rows.{rowsOf, value, rowF, rowB, Good}
 use Rattle.rows.specs.Graph.{entryRow, ownNode}
 use Rattle.rows.proofs.Rows.{rows-length}
-use Rattle.pushes.specs.Pushes.{entryW, entriesW, Pushed, Room, wordsF, wordsB, deg}
-use Rattle.pushes.proofs.Sizes.{deg-is, list-le}
-use Rattle.pushes.proofs.Pushes.{room-then, room-less, pushed-on}
+use Rattle.aliasing.specs.Pushes.{entryW, entriesW, Pushed, Room, wordsF, wordsB, deg}
+use Rattle.aliasing.proofs.Sizes.{deg-is, list-le}
+use Rattle.aliasing.proofs.Pushes.{room-then, room-less, pushed-on}
 use Rattle.renders.specs.Renders.{originsW, placesOf}
 
 -- ---- which they are

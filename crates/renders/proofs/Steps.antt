@@ -16,8 +16,8 @@ use Rattle.rows.specs.Rows.{rowsOf, limit, value, rowF, rowB, Good, Kept}
 use Rattle.rows.specs.Graph.{valueOf, ownNode, graphOfRows}
 use Rattle.rows.proofs.Rows.{node-below, limit-at, value-at, value-beyond, rows-length}
 use Rattle.rows.proofs.Parts.{drop-more}
-use Rattle.pushes.specs.Pushes.{Pushed, Room, deg}
-use Rattle.pushes.proofs.Pushes.{value-bounded, pushed-part, pushed-kept}
+use Rattle.aliasing.specs.Pushes.{Pushed, Room, deg}
+use Rattle.aliasing.proofs.Pushes.{value-bounded, pushed-part, pushed-kept}
 use Rattle.aliasing.specs.State.{fieldAt, nodesOf, seenOf, recordsOf, endsOf, stateOf}
 use Rattle.aliasing.specs.Accepts.{functionW}
 use Rattle.aliasing.specs.Potential.{phi}

@@ -13,7 +13,7 @@ use Rattle.model.specs.Size.{entries}
 use Rattle.model.specs.Renders.{RenderWalk, renderStep, renderRun, renderWalk}
 use Rattle.rows.specs.Layout.{LEAST, QUEUE, HANDED, MUTATIONS}
 use Rattle.rows.specs.Rows.{rowsOf, rowB, Good}
-use Rattle.pushes.specs.Pushes.{entriesW}
+use Rattle.aliasing.specs.Pushes.{entriesW}
 use Rattle.aliasing.specs.State.{nodesOf, seenOf, stateOf}
 use Rattle.aliasing.specs.Potential.{phi}
 use Rattle.aliasing.specs.Walks.{Aside}

@@ -1,0 +1,170 @@
+-- One push after another, and the four pushes of an accepted node: the room that is left for each, and what they push together.
+use Prim.Native.Nat.{ℕ, _+_, _-_, _*_, _≤_, _<_}
+use native.Mathlib.Omega.{arith}
+use mathlib.Core.Bool.{true, false}
+use mathlib.Core.List.{List, [], _∷_, _++_, append-assoc}
+use mathlib.Core.Path.{_≡_, refl, sym, ap, subst, _∙_}
+use lib.ListN.{length, getD, take, drop, length-append}
+use lib.Seq.{slice, sets, sets-eq, length-sets, length-take-le, take-at, drop-append-le}
+use borrow.Author.Tests.{eq-eqb, ne-eqb}
+use Rattle.rows.specs.Rows.{rowsOf, limit, value, rowF, rowB, Good, Kept}
+use Rattle.aliasing.specs.Pushes.{Room, Pushed, wordsF, wordsB, deg, forwardW, entriesW, blockedW, aliasesW, capturesW, pushedW}
+use Rattle.rows.proofs.Parts.{slice-take, take-sets, drop-sets, sets-append}
+use Rattle.rows.proofs.Rows.{rows-length, value-at, fb-beyond, bb-beyond}
+use Rattle.aliasing.proofs.Sizes.{deg-is, forward-le, rowF-length, list-le, aliases-le, pushed-le}
+
+-- the value of an identifier whose rows have bounds
+pub value-bounded : (ws : List ℕ) → 16384 ≤ length ws → Good (rowsOf ws) → (x : ℕ) → x < limit (rowsOf ws) → value (rowsOf ws) x ≡ getD ws (3200 + x) 0
+value-bounded ws size good x u = value-at ws size x (omega (arith, u, good .few)) u
+
+pub pushed-then : {ws : List ℕ} {top : ℕ} {a ws₁ : List ℕ} {t₁ : ℕ} {b ws₂ : List ℕ} {t₂ : ℕ} → Pushed ws top a ws₁ t₁ → Pushed ws₁ t₁ b ws₂ t₂ → Pushed ws top (a ++ b) ws₂ t₂
+pushed-then {ws} {top} {a} {ws₁} {t₁} {b} {ws₂} {t₂} p q = record {
+  words = q .words ∙ ap (λ (l : List ℕ). sets l t₁ b) (p .words) ∙ ap (λ (t : ℕ). sets (sets ws top a) t b) (p .next) ∙ sets-append a b ws top;
+  next = omega (arith, p .next, q .next, length-append a b);
+}
+
+pub pushed-none : (ws : List ℕ) (top : ℕ) → Pushed ws top [] ws top
+pushed-none ws top = record { words = refl; next = omega arith }
+
+pub pushed-length : {ws : List ℕ} {top : ℕ} {vs ws′ : List ℕ} {r : ℕ} → Pushed ws top vs ws′ r → length ws′ ≡ length ws
+pushed-length {ws} {top} {vs} p = ap length (p .words) ∙ length-sets ws top vs
+
+pub pushed-below : {ws : List ℕ} {top : ℕ} {vs ws′ : List ℕ} {r : ℕ} → Pushed ws top vs ws′ r → 8528 ≤ top → take 8528 ws′ ≡ take 8528 ws
+pushed-below {ws} {top} {vs} p h = ap (take 8528) (p .words) ∙ take-sets 8528 vs ws top h
+
+pub pushed-graph : {ws : List ℕ} {top : ℕ} {vs ws′ : List ℕ} {r : ℕ} → Pushed ws top vs ws′ r → 8528 ≤ top → rowsOf ws′ ≡ rowsOf ws
+unfolding rowsOf
+pushed-graph {ws} {top} {vs} {ws′} p h = slice-take 8528 3200 8528 ws′ ws (omega arith) (pushed-below p h)
+
+pub pushed-limit : {ws : List ℕ} {top : ℕ} {vs ws′ : List ℕ} {r : ℕ} → Pushed ws top vs ws′ r → 8528 ≤ top → limit (rowsOf ws′) ≡ limit (rowsOf ws)
+pushed-limit p h = ap limit (pushed-graph p h)
+
+-- the part of the words that the push makes longer
+pub pushed-part : (base : ℕ) {ws : List ℕ} {top : ℕ} {vs ws′ : List ℕ} {r : ℕ} → Pushed ws top vs ws′ r → base ≤ top → r ≤ length ws → slice base r ws′ ≡ slice base top ws ++ vs
+pushed-part base {ws} {top} {vs} {ws′} {r} p h k =
+    let room : top + length vs ≤ length ws = omega (arith, p .next) in
+    let n : length (take top ws) ≡ top = length-take-le top ws (omega arith) in
+    let w : take r ws′ ≡ take top ws ++ vs =
+    ap (λ (u : ℕ). take u ws′) (p .next) ∙ ap (take (top + length vs)) (p .words ∙ sets-eq vs ws top room)
+    ∙ take-at (take top ws ++ vs) (drop (top + length vs) ws) (top + length vs) (omega (arith, length-append (take top ws) vs)) in
+    ap (drop base) w ∙ drop-append-le base (take top ws) vs (omega arith)
+
+-- the other words stay
+pub pushed-kept : (b e : ℕ) {ws : List ℕ} {top : ℕ} {vs ws′ : List ℕ} {r : ℕ} → Pushed ws top vs ws′ r → b ≤ top → r ≤ e → Kept b e ws ws′
+pushed-kept b e {ws} {top} {vs} {ws′} {r} p h k = record {
+  low = ap (take b) (p .words) ∙ take-sets b vs ws top h;
+  high = ap (drop e) (p .words) ∙ drop-sets e vs ws top (omega (arith, p .next));
+  same = pushed-length p;
+}
+
+pub room-then : (f : List ℕ → ℕ) (a : ℕ) {ws : List ℕ} {top : ℕ} {vs ws′ : List ℕ} {r : ℕ} → Room ws top (a + f (rowsOf ws)) → Pushed ws top vs ws′ r → length vs ≤ a → Room ws′ r (f (rowsOf ws′))
+room-then f a {ws} {top} {vs} {ws′} {r} room p h =
+    let e : rowsOf ws′ ≡ rowsOf ws = pushed-graph p (room .low) in
+    record {
+      size = omega (arith, room .size, pushed-length p);
+      low = omega (arith, room .low, p .next);
+      good = subst Good (sym e) (room .good);
+      room = omega (arith, room .room, p .next, ap f e);
+    }
+
+pub pushed-on : (f : List ℕ → List ℕ) {ws : List ℕ} {top : ℕ} {a ws₁ : List ℕ} {t₁ : ℕ} {ws₂ : List ℕ} {t₂ : ℕ} → 8528 ≤ top → Pushed ws top a ws₁ t₁ → Pushed ws₁ t₁ (f (rowsOf ws₁)) ws₂ t₂ → Pushed ws top (a ++ f (rowsOf ws)) ws₂ t₂
+pushed-on f {ws} {top} {a} {ws₁} {t₁} {ws₂} {t₂} h p q = pushed-then p (subst (λ (g : List ℕ). Pushed ws₁ t₁ (f g) ws₂ t₂) (pushed-graph p h) q)
+
+pub aliases-open : (g : List ℕ) (x direction index transitive kind : ℕ) → blockedW (value g x) direction ≡ false
+    → entriesW index transitive kind (rowB g (4 * x + 1)) ++ entriesW index transitive 0 (rowB g (4 * x + 2)) ≡ aliasesW g x direction index transitive kind
+unfolding aliasesW
+aliases-open g x direction index transitive kind h = rw h
+
+pub aliases-shut : (g : List ℕ) (x direction index transitive kind : ℕ) → blockedW (value g x) direction ≡ true → [] ≡ aliasesW g x direction index transitive kind
+unfolding aliasesW
+aliases-shut g x direction index transitive kind h = rw h
+
+pub captures-open : (g : List ℕ) (x index transitive kind : ℕ) → transitive ≡ 1 → entriesW index transitive kind (rowB g (4 * x + 3)) ≡ capturesW g x index transitive kind
+unfolding capturesW
+captures-open g x index transitive kind h = rw (eq-eqb transitive 1 h)
+
+pub captures-shut : (g : List ℕ) (x index transitive kind : ℕ) → (transitive ≡ 1 → ⊥) → [] ≡ capturesW g x index transitive kind
+unfolding capturesW
+captures-shut g x index transitive kind h = rw (ne-eqb transitive 1 h)
+
+pub room-less : (a b : ℕ) {ws : List ℕ} {top : ℕ} → a ≤ b → Room ws top b → Room ws top a
+room-less a b h room = record { size = room .size; low = room .low; good = room .good; room = omega (arith, room .room) }
+
+-- ---- the four pushes
+module _ (ws : List ℕ) (top x direction index transitive kind : ℕ) (room : Room ws top (deg (rowsOf ws) x)) (h : x < 512) where
+  size : length (rowsOf ws) ≡ 5328
+  size = rows-length ws (room .size)
+
+  is : deg (rowsOf ws) x ≡ (wordsF (rowsOf ws) x + wordsB (rowsOf ws) (4 * x)) + ((wordsB (rowsOf ws) (4 * x + 1) + wordsB (rowsOf ws) (4 * x + 2)) + wordsB (rowsOf ws) (4 * x + 3))
+  is = deg-is (rowsOf ws) x (room .good) h
+
+  pub F-le : length (forwardW index transitive kind (rowF (rowsOf ws) x)) ≤ wordsF (rowsOf ws) x
+  F-le = omega (arith, forward-le index transitive kind (rowF (rowsOf ws) x), rowF-length (rowsOf ws) size (room .good) x h)
+
+  pub room-edges : Room ws top (wordsF (rowsOf ws) x)
+  room-edges = room-less _ _ (omega (arith, is)) room
+
+  module _ (ws₁ : List ℕ) (t₁ : ℕ) (p₁ : Pushed ws top (forwardW index transitive kind (rowF (rowsOf ws) x)) ws₁ t₁) where
+    pub limit-created : limit (rowsOf ws₁) ≡ limit (rowsOf ws)
+    limit-created = pushed-limit p₁ (room .low)
+
+    pub room-created : Room ws₁ t₁ (wordsB (rowsOf ws₁) (4 * x))
+    room-created = room-then (λ g. wordsB g (4 * x)) (wordsF (rowsOf ws) x) (room-less _ _ (omega (arith, is)) room) p₁ F-le
+
+    module _ (ws₂ : List ℕ) (t₂ : ℕ) (p₂ : Pushed ws₁ t₁ (entriesW index 1 kind (rowB (rowsOf ws₁) (4 * x))) ws₂ t₂) where
+      two : Pushed ws top (forwardW index transitive kind (rowF (rowsOf ws) x) ++ entriesW index 1 kind (rowB (rowsOf ws) (4 * x))) ws₂ t₂
+      two = pushed-on (λ g. entriesW index 1 kind (rowB g (4 * x))) (room .low) p₁ p₂
+
+      two-le : length (forwardW index transitive kind (rowF (rowsOf ws) x) ++ entriesW index 1 kind (rowB (rowsOf ws) (4 * x))) ≤ wordsF (rowsOf ws) x + wordsB (rowsOf ws) (4 * x)
+      two-le = omega (arith, F-le, list-le (rowsOf ws) size (room .good) index 1 kind (4 * x) (omega arith), length-append (forwardW index transitive kind (rowF (rowsOf ws) x)) (entriesW index 1 kind (rowB (rowsOf ws) (4 * x))))
+
+      pub limit-aliases : limit (rowsOf ws₂) ≡ limit (rowsOf ws)
+      limit-aliases = pushed-limit two (room .low)
+
+      pub room-aliases : Room ws₂ t₂ (wordsB (rowsOf ws₂) (4 * x + 1) + wordsB (rowsOf ws₂) (4 * x + 2))
+      room-aliases =
+          room-then (λ g. wordsB g (4 * x + 1) + wordsB g (4 * x + 2)) (wordsF (rowsOf ws) x + wordsB (rowsOf ws) (4 * x)) (room-less _ _ (omega (arith, is)) room) two two-le
+
+      module _ (ws₃ : List ℕ) (t₃ : ℕ) (p₃ : Pushed ws₂ t₂ (aliasesW (rowsOf ws₂) x direction index transitive kind) ws₃ t₃) where
+        three : Pushed ws top ((forwardW index transitive kind (rowF (rowsOf ws) x) ++ entriesW index 1 kind (rowB (rowsOf ws) (4 * x))) ++ aliasesW (rowsOf ws) x direction index transitive kind) ws₃ t₃
+        three = pushed-on (λ g. aliasesW g x direction index transitive kind) (room .low) two p₃
+
+        pub limit-captures : limit (rowsOf ws₃) ≡ limit (rowsOf ws)
+        limit-captures = pushed-limit three (room .low)
+
+        pub room-captures : Room ws₃ t₃ (wordsB (rowsOf ws₃) (4 * x + 3))
+        room-captures =
+            room-then (λ g. wordsB g (4 * x + 3)) ((wordsF (rowsOf ws) x + wordsB (rowsOf ws) (4 * x)) + (wordsB (rowsOf ws) (4 * x + 1) + wordsB (rowsOf ws) (4 * x + 2)))
+            (room-less _ _ (omega (arith, is)) room) three
+            (omega (arith, two-le, aliases-le (rowsOf ws) size (room .good) x direction index transitive kind h, length-append (forwardW index transitive kind (rowF (rowsOf ws) x) ++ entriesW index 1 kind (rowB (rowsOf ws) (4 * x))) (aliasesW (rowsOf ws) x direction index transitive kind)))
+
+        pub all-pushed : (ws₄ : List ℕ) (t₄ : ℕ) → Pushed ws₃ t₃ (capturesW (rowsOf ws₃) x index transitive kind) ws₄ t₄ → Pushed ws top (pushedW (rowsOf ws) x direction index transitive kind) ws₄ t₄
+        unfolding pushedW
+        all-pushed ws₄ t₄ p₄ =
+            subst (λ (vs : List ℕ). Pushed ws top vs ws₄ t₄)
+            (append-assoc (forwardW index transitive kind (rowF (rowsOf ws) x) ++ entriesW index 1 kind (rowB (rowsOf ws) (4 * x))) (aliasesW (rowsOf ws) x direction index transitive kind) (capturesW (rowsOf ws) x index transitive kind)
+            ∙ append-assoc (forwardW index transitive kind (rowF (rowsOf ws) x)) (entriesW index 1 kind (rowB (rowsOf ws) (4 * x))) (aliasesW (rowsOf ws) x direction index transitive kind ++ capturesW (rowsOf ws) x index transitive kind))
+            (pushed-on (λ g. capturesW g x index transitive kind) (room .low) three p₄)
+
+-- ---- rows without bounds push nothing
+none-pushed : (ws : List ℕ) (top : ℕ) (vs : List ℕ) → length vs ≤ 0 → Pushed ws top vs ws top
+none-pushed ws top [] h = pushed-none ws top
+none-pushed ws top (v ∷ vs) h = absurd (omega (arith, h))
+
+module _ (ws : List ℕ) (size : 16384 ≤ length ws) (good : Good (rowsOf ws)) (top : ℕ) where
+  pub list-beyond : (k index transitive kind : ℕ) → k < 2048 → 4 * limit (rowsOf ws) ≤ k → Pushed ws top (entriesW index transitive kind (rowB (rowsOf ws) k)) ws top
+  list-beyond k index transitive kind h far =
+      none-pushed ws top (entriesW index transitive kind (rowB (rowsOf ws) k))
+      (omega (arith, list-le (rowsOf ws) (rows-length ws size) good index transitive kind k h, bb-beyond (rowsOf ws) good k far, bb-beyond (rowsOf ws) good (k + 1) (omega (arith, far))))
+
+  pub all-beyond : (x direction index transitive kind : ℕ) → x < 512 → limit (rowsOf ws) ≤ x → Pushed ws top (pushedW (rowsOf ws) x direction index transitive kind) ws top
+  all-beyond x direction index transitive kind h far =
+      none-pushed ws top (pushedW (rowsOf ws) x direction index transitive kind)
+      (omega (
+        arith,
+        pushed-le (rowsOf ws) (rows-length ws size) good x direction index transitive kind h,
+        fb-beyond (rowsOf ws) good x far,
+        fb-beyond (rowsOf ws) good (x + 1) (omega (arith, far)),
+        bb-beyond (rowsOf ws) good (4 * x) (omega (arith, far)),
+        bb-beyond (rowsOf ws) good (4 * x + 4) (omega (arith, far)),
+      ))

@@ -1,0 +1,88 @@
+use Prim.Native.Nat.{ℕ, _+_, _-_, _*_}
+use native.Mathlib.Omega.{arith}
+use mathlib.Core.List.{List}
+use mathlib.Core.Path.{sym, ap, subst, _∙_}
+use Rattle.rows.specs.Rows.{rowB, rowsOf}
+use Rattle.aliasing.specs.Pushes.{entriesW, Pushed, wordsB, blockedW}
+use Rattle.rows.proofs.Rows.{rows-length}
+use Rattle.aliasing.proofs.Pushes.{value-bounded, room-then, room-less, pushed-limit, pushed-on, pushed-none, aliases-open, aliases-shut}
+use Rattle.aliasing.proofs.Sizes.{list-le}
+use borrow.Author.Needs.{needs}
+use Rattle.aliasing.proofs.pushes.push_aliases.Statement.{statement}
+use Rattle.aliasing.proofs.pushes.push_aliases.Tie as tie
+
+add-blocked : tie.Need-add-blocked
+add-blocked c = omega arith
+
+mul-blocked : tie.Need-mul-blocked
+mul-blocked c = omega arith
+
+slice-read-blocked : tie.Need-slice-read-blocked
+slice-read-blocked c = omega arith
+
+blocked-requires : tie.Need-blocked-requires
+blocked-requires c κs = search needs
+
+returns : tie.Need-returns
+returns c =
+    let b3 = c .before .before .before in
+    let s = b3 .before in
+    let g = rowsOf (s .args .ws .now) in subst (λ (vs : List ℕ). Pushed (s .args .ws .now) (s .args .top) vs (s .args .ws .now) (s .args .top)) (aliases-shut g (s .args .x) (s .args .direction) (s .args .index) (s .args .transitive) (s .args .kind) (ap (λ (v : ℕ). blockedW v (s .args .direction)) (value-bounded (s .args .ws .now) (s .pre .0 .size) (s .pre .0 .good) (s .args .x) (s .pre .1 .1 .1 .1)) ∙ sym (c .before .blocked .ensures) ∙ c .if1 .taken)) (pushed-none (s .args .ws .now) (s .args .top))
+
+mul-push-row : tie.Need-mul-push-row
+mul-push-row c = omega arith
+
+add-push-row : tie.Need-add-push-row
+add-push-row c = omega arith
+
+push-row-requires : tie.Need-push-row-requires
+push-row-requires c κs =
+    let b4 = c .before .before .before .before in
+    let s = b4 .before in
+    (room-less _ _ (omega arith) (s .pre .0), (omega (arith, s .pre), (s .pre .1 .1 .0, (s .pre .1 .1 .1 .0, omega (arith, s .pre)))))
+
+mul-push-row-2 : tie.Need-mul-push-row-2
+mul-push-row-2 c = omega arith
+
+add-push-row-2 : tie.Need-add-push-row-2
+add-push-row-2 c = omega arith
+
+push-row-requires-2 : tie.Need-push-row-requires-2
+push-row-requires-2 c κs =
+    let b3 = c .before .before .before in
+    let b8 = b3 .before .before .before .before .before in
+    let s = b8 .before in
+    let a = s .args in
+    let g = rowsOf (a .ws .now) in
+    (room-then (λ g. wordsB g (4 * a .x + 2)) (wordsB g (4 * a .x + 1)) (s .pre .0) (b3 .push-row .ensures) (list-le g (rows-length (a .ws .now) (s .pre .0 .size)) (s .pre .0 .good) (a .index) (a .transitive) (a .kind) (4 * a .x + 1) (omega (arith, s .pre))), (omega (arith, s .pre), (s .pre .1 .1 .0, (omega arith, omega (arith, s .pre, pushed-limit (b3 .push-row .ensures) (s .pre .0 .low))))))
+
+same-length : tie.Need-same-length
+same-length c = omega arith
+
+returns-2 : tie.Need-returns-2
+returns-2 c =
+    let b6 = c .before .before .before .before .before .before in
+    let b8 = b6 .before .before in
+    let b9 = b8 .before in
+    let b11 = b9 .before .before in
+    let s = b11 .before in
+    let a = s .args in
+    let g = rowsOf (a .ws .now) in subst (λ (vs : List ℕ). Pushed (a .ws .now) (a .top) vs (c .before .before .push-row2 .last .0) (c .before .before .push-row2 .result)) (aliases-open g (a .x) (a .direction) (a .index) (a .transitive) (a .kind) (ap (λ (v : ℕ). blockedW v (a .direction)) (value-bounded (a .ws .now) (s .pre .0 .size) (s .pre .0 .good) (a .x) (s .pre .1 .1 .1 .1)) ∙ sym (b9 .blocked .ensures) ∙ b8 .if1 .left)) (pushed-on (λ g. entriesW (a .index) (a .transitive) 0 (rowB g (4 * a .x + 2))) (s .pre .0 .low) (b6 .push-row .ensures) (c .before .before .push-row2 .ensures))
+
+pub push-aliases-spec : {M : Type 1} → statement M
+push-aliases-spec =
+    tie.close
+    (tie.spec
+    add-blocked
+    mul-blocked
+    slice-read-blocked
+    blocked-requires
+    returns
+    mul-push-row
+    add-push-row
+    push-row-requires
+    mul-push-row-2
+    add-push-row-2
+    push-row-requires-2
+    same-length
+    returns-2)

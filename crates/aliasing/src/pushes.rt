@@ -1,0 +1,238 @@
+// What an accepted node pushes onto the walk's queue, which lies in the lent workspace (in the original, inside `mutate`).
+ghost use mathlib.Core.Path.{_≡_};
+ghost use Prim.Native.Nat.{_+_, _-_, _*_, _≤_, _<_};
+ghost use lib.ListN.{length};
+ghost use lib.Seq.{slice};
+ghost use Rattle.rows.specs.Rows.{rowsOf, limit, rowF, rowB};
+ghost use Rattle.aliasing.specs.Pushes.{entryW, edgeLevel, forwardW, entriesW, blockedW, aliasesW, capturesW, pushedW, Pushed, Room, wordsF, wordsB, deg};
+use rows::BBOUND;
+use rows::BENTRY;
+use rows::FBOUND;
+use rows::FEDGE;
+use rows::NODES;
+use rows::VALUE;
+
+fn wide(x: u32) -> usize
+    ensures { λ r. ⌜ r ≡ x ⌝ }
+{
+    x as usize
+}
+
+// An entry of the queue: the identifier, and a bit each for transitive, forwards and Definite.
+pub fn entry(place: u32, transitive: u32, direction: u32, kind: u32) -> u32
+    requires { ⌜ (place < 512) × ((transitive < 2) × ((direction < 2) × (kind < 2))) ⌝ }
+    ensures { λ r. ⌜ r ≡ entryW place transitive direction kind ⌝ }
+{
+    place + 512 * transitive + 1024 * direction + 2048 * kind
+}
+
+// MaybeAlias edges downgrade to conditional mutation.
+fn edge_kind(w: u32, kind: u32) -> u32
+    requires { ⌜ kind < 2 ⌝ }
+    ensures { λ r. ⌜ (r < 2) × (r ≡ edgeLevel w kind) ⌝ }
+{
+    if w / 512 % 4 == 2 { 0 } else { kind }
+}
+
+// Pushes the forward edges that lie from `at` to `end`. It stops at the first whose index is not below.
+fn push_forward(
+    ws: &mut [u32],
+    at: usize,
+    end: usize,
+    index: u32,
+    transitive: u32,
+    kind: u32,
+    top: usize,
+) -> usize
+    requires { ⌜ (at ≤ end) × ((end ≤ top) × ((top + (end - at) ≤ length (now ws)) × ((transitive < 2) × (kind < 2)))) ⌝ }
+    ensures { λ r. ⌜ Pushed (now (ws .entry)) top (forwardW index transitive kind (slice at end (now (ws .entry)))) (now (ws .exit)) r ⌝ }
+{
+    let mut i = at;
+    let mut stop = end;
+    let mut len = top;
+    while i < stop {
+        let w = ws[i];
+        i += 1;
+        if w / 2048 < index {
+            ws[len] = entry(w % 512, transitive, 1, edge_kind(w, kind));
+            len += 1;
+        } else {
+            stop = i;
+        }
+    }
+    len
+}
+
+// Pushes those of the entries from `at` to `end` whose index is below.
+fn push_entries(
+    ws: &mut [u32],
+    at: usize,
+    end: usize,
+    index: u32,
+    transitive: u32,
+    kind: u32,
+    top: usize,
+) -> usize
+    requires { ⌜ (at ≤ end) × ((end ≤ top) × ((top + (end - at) ≤ length (now ws)) × ((transitive < 2) × (kind < 2)))) ⌝ }
+    ensures { λ r. ⌜ Pushed (now (ws .entry)) top (entriesW index transitive kind (slice at end (now (ws .entry)))) (now (ws .exit)) r ⌝ }
+{
+    let mut i = at;
+    let mut len = top;
+    while i < end {
+        let w = ws[i];
+        i += 1;
+        if w / 2048 < index {
+            ws[len] = entry(w % 512, transitive, 0, kind);
+            len += 1;
+        }
+    }
+    len
+}
+
+// One list of entries: list l of node x is row 4 * x + l. A bound counts the words from its row on, so the first counts all. Rows from the limit on have no bounds.
+fn push_row(ws: &mut [u32], k: usize, index: u32, transitive: u32, kind: u32, top: usize) -> usize
+    requires { ⌜ Room (now ws) top (wordsB (rowsOf (now ws)) k) ⌝ }
+    requires { ⌜ (k < 2048) × ((transitive < 2) × ((kind < 2) × (k < 4 * limit (rowsOf (now ws))))) ⌝ }
+    ensures { λ r. ⌜ Pushed (now (ws .entry)) top (entriesW index transitive kind (rowB (rowsOf (now (ws .entry))) k)) (now (ws .exit)) r ⌝ }
+{
+    let all = wide(ws[BBOUND]);
+    let lo = all - wide(ws[BBOUND + k]);
+    let hi = all - wide(ws[BBOUND + k + 1]);
+    push_entries(ws, BENTRY + lo, BENTRY + hi, index, transitive, kind, top)
+}
+
+// The same for any row: one without bounds is empty.
+pub fn push_list(
+    ws: &mut [u32],
+    k: usize,
+    index: u32,
+    transitive: u32,
+    kind: u32,
+    top: usize,
+) -> usize
+    requires { ⌜ Room (now ws) top (wordsB (rowsOf (now ws)) k) ⌝ }
+    requires { ⌜ (k < 2048) × ((transitive < 2) × (kind < 2)) ⌝ }
+    ensures { λ r. ⌜ Pushed (now (ws .entry)) top (entriesW index transitive kind (rowB (rowsOf (now (ws .entry))) k)) (now (ws .exit)) r ⌝ }
+{
+    if ws[NODES] <= (k / 4) as u32 {
+        return top;
+    }
+    push_row(ws, k, index, transitive, kind, top)
+}
+
+// Forward edges: Capture a -> b, Alias a -> b: mutate(a) => mutate(b).
+fn push_edges(ws: &mut [u32], x: usize, index: u32, transitive: u32, kind: u32, top: usize) -> usize
+    requires { ⌜ Room (now ws) top (wordsF (rowsOf (now ws)) x) ⌝ }
+    requires { ⌜ (x < 512) × ((transitive < 2) × ((kind < 2) × (x < limit (rowsOf (now ws))))) ⌝ }
+    ensures { λ r. ⌜ Pushed (now (ws .entry)) top (forwardW index transitive kind (rowF (rowsOf (now (ws .entry))) x)) (now (ws .exit)) r ⌝ }
+{
+    let all = wide(ws[FBOUND]);
+    let lo = all - wide(ws[FBOUND + x]);
+    let hi = all - wide(ws[FBOUND + x + 1]);
+    push_forward(ws, FEDGE + lo, FEDGE + hi, index, transitive, kind, top)
+}
+
+// A phi arrived at forwards.
+fn blocked(v: u32, direction: u32) -> bool
+    ensures { λ r. ⌜ r ≡ blockedW v direction ⌝ }
+{
+    if direction == 1 { v == 2 } else { false }
+}
+
+// Backward alias edges, then MaybeAlias backward edges (downgrade to conditional).
+fn push_aliases(
+    ws: &mut [u32],
+    x: usize,
+    direction: u32,
+    index: u32,
+    transitive: u32,
+    kind: u32,
+    top: usize,
+) -> usize
+    requires { ⌜ Room (now ws) top (wordsB (rowsOf (now ws)) (4 * x + 1) + wordsB (rowsOf (now ws)) (4 * x + 2)) ⌝ }
+    requires { ⌜ (x < 512) × ((transitive < 2) × ((kind < 2) × (x < limit (rowsOf (now ws))))) ⌝ }
+    ensures { λ r. ⌜ Pushed (now (ws .entry)) top (aliasesW (rowsOf (now (ws .entry))) x direction index transitive kind) (now (ws .exit)) r ⌝ }
+{
+    if blocked(ws[VALUE + x], direction) {
+        return top;
+    }
+    let t = push_row(ws, 4 * x + 1, index, transitive, kind, top);
+    push_row(ws, 4 * x + 2, index, transitive, 0, t)
+}
+
+// Only transitive mutations affect captures backward.
+fn push_captures(
+    ws: &mut [u32],
+    x: usize,
+    index: u32,
+    transitive: u32,
+    kind: u32,
+    top: usize,
+) -> usize
+    requires { ⌜ Room (now ws) top (wordsB (rowsOf (now ws)) (4 * x + 3)) ⌝ }
+    requires { ⌜ (x < 512) × ((transitive < 2) × ((kind < 2) × (x < limit (rowsOf (now ws))))) ⌝ }
+    ensures { λ r. ⌜ Pushed (now (ws .entry)) top (capturesW (rowsOf (now (ws .entry))) x index transitive kind) (now (ws .exit)) r ⌝ }
+{
+    if transitive == 1 {
+        push_row(ws, 4 * x + 3, index, transitive, kind, top)
+    } else {
+        top
+    }
+}
+
+// All that node x pushes, in the original's order.
+fn push_node(
+    ws: &mut [u32],
+    x: usize,
+    direction: u32,
+    index: u32,
+    transitive: u32,
+    kind: u32,
+    top: usize,
+) -> usize
+    requires { ⌜ Room (now ws) top (deg (rowsOf (now ws)) x) ⌝ }
+    requires { ⌜ (x < 512) × ((transitive < 2) × ((kind < 2) × (x < limit (rowsOf (now ws))))) ⌝ }
+    ensures { λ r. ⌜ Pushed (now (ws .entry)) top (pushedW (rowsOf (now (ws .entry))) x direction index transitive kind) (now (ws .exit)) r ⌝ }
+{
+    let a = push_edges(ws, x, index, transitive, kind, top);
+    let b = push_row(ws, 4 * x, index, 1, kind, a);
+    let d = push_aliases(ws, x, direction, index, transitive, kind, b);
+    push_captures(ws, x, index, transitive, kind, d)
+}
+
+// The same for any identifier: one whose rows have no bounds pushes nothing.
+pub fn push_all(
+    ws: &mut [u32],
+    x: usize,
+    direction: u32,
+    index: u32,
+    transitive: u32,
+    kind: u32,
+    top: usize,
+) -> usize
+    requires { ⌜ Room (now ws) top (deg (rowsOf (now ws)) x) ⌝ }
+    requires { ⌜ (x < 512) × ((transitive < 2) × (kind < 2)) ⌝ }
+    ensures { λ r. ⌜ Pushed (now (ws .entry)) top (pushedW (rowsOf (now (ws .entry))) x direction index transitive kind) (now (ws .exit)) r ⌝ }
+{
+    if ws[NODES] <= x as u32 {
+        return top;
+    }
+    push_node(ws, x, direction, index, transitive, kind, top)
+}
+
+// All that node x pushes in a transitive walk of kind Conditional: its four lists of entries lie side by side and are pushed alike, but for a phi arrived at forwards.
+pub fn push_whole(ws: &mut [u32], x: usize, direction: u32, index: u32, top: usize) -> usize
+    requires { ⌜ Room (now ws) top (deg (rowsOf (now ws)) x) ⌝ }
+    requires { ⌜ (x < 512) × (x < limit (rowsOf (now ws))) ⌝ }
+    ensures { λ r. ⌜ Pushed (now (ws .entry)) top (pushedW (rowsOf (now (ws .entry))) x direction index 1 0) (now (ws .exit)) r ⌝ }
+{
+    let t1 = push_edges(ws, x, index, 1, 0, top);
+    if blocked(ws[VALUE + x], direction) {
+        let b = push_row(ws, 4 * x, index, 1, 0, t1);
+        return push_row(ws, 4 * x + 3, index, 1, 0, b);
+    }
+    let all = wide(ws[BBOUND]);
+    let lo = all - wide(ws[BBOUND + 4 * x]);
+    let hi = all - wide(ws[BBOUND + 4 * x + 4]);
+    push_entries(ws, BENTRY + lo, BENTRY + hi, index, 1, 0, t1)
+}
