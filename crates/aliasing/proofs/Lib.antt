@@ -1,6 +1,6 @@
 pub mod Sizes
 pub mod Pushing
-pub mod Pushes
+pub mod PushLaws
 pub mod Whole
 pub mod Items
 pub mod Packed

@@ -23,7 +23,7 @@ use Rattle.rows.proofs.Parts.{drop-more}
 use Rattle.aliasing.specs.Pushes.{pushedW, Pushed, Room, deg}
 use Rattle.aliasing.specs.Items.{itemOf, queueOf}
 use Rattle.aliasing.proofs.Sizes.{pushed-le}
-use Rattle.aliasing.proofs.Pushes.{pushed-part, pushed-kept}
+use Rattle.aliasing.proofs.PushLaws.{pushed-part, pushed-kept}
 use Rattle.aliasing.proofs.Items.{pushed-items, queue-push}
 use Rattle.aliasing.specs.declared.Mutation.{Mutation}
 use Rattle.aliasing.specs.Says.{modeSays, mutationSays}

@@ -13,7 +13,7 @@ use Rattle.rows.specs.Rows.{rowsOf, limit, value, bb, rowF, rowB, Good}
 use Rattle.rows.proofs.Parts.{slice-split}
 use Rattle.rows.proofs.Rows.{Bounds, four-bounds, entries-at, rows-length}
 use Rattle.aliasing.specs.Pushes.{Room, Pushed, deg, wordsF, wordsB, entryW, forwardW, entriesW, blockedW, aliasesW, capturesW, pushedW}
-use Rattle.aliasing.proofs.Pushes.{value-bounded, pushed-none, pushed-on, pushed-graph, pushed-limit, room-then, F-le, room-captures, limit-aliases, all-pushed, aliases-open, aliases-shut, captures-open}
+use Rattle.aliasing.proofs.PushLaws.{value-bounded, pushed-none, pushed-on, pushed-graph, pushed-limit, room-then, F-le, room-captures, limit-aliases, all-pushed, aliases-open, aliases-shut, captures-open}
 
 -- what two lists push one after the other
 pub entries-append : (index transitive kind : ℕ) (a b : List ℕ) → entriesW index transitive kind (a ++ b) ≡ entriesW index transitive kind a ++ entriesW index transitive kind b

@@ -15,7 +15,7 @@ use Rattle.rows.specs.Graph.{entryRow, ownNode}
 use Rattle.rows.proofs.Rows.{rows-length}
 use Rattle.aliasing.specs.Pushes.{entryW, entriesW, Pushed, Room, wordsF, wordsB, deg}
 use Rattle.aliasing.proofs.Sizes.{deg-is, list-le}
-use Rattle.aliasing.proofs.Pushes.{room-then, room-less, pushed-on}
+use Rattle.aliasing.proofs.PushLaws.{room-then, room-less, pushed-on}
 use Rattle.renders.specs.Renders.{originsW, placesOf}
 
 -- ---- which they are

@@ -17,7 +17,7 @@ use Rattle.rows.specs.Graph.{valueOf, ownNode, graphOfRows}
 use Rattle.rows.proofs.Rows.{node-below, limit-at, value-at, value-beyond, rows-length}
 use Rattle.rows.proofs.Parts.{drop-more}
 use Rattle.aliasing.specs.Pushes.{Pushed, Room, deg}
-use Rattle.aliasing.proofs.Pushes.{value-bounded, pushed-part, pushed-kept}
+use Rattle.aliasing.proofs.PushLaws.{value-bounded, pushed-part, pushed-kept}
 use Rattle.aliasing.specs.State.{fieldAt, nodesOf, seenOf, recordsOf, endsOf, stateOf}
 use Rattle.aliasing.specs.Accepts.{functionW}
 use Rattle.aliasing.specs.Potential.{phi}

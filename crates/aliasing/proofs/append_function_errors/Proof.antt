@@ -1,4 +1,4 @@
-use Rattle.aliasing.proofs.Pushes.{pushed-none}
+use Rattle.aliasing.proofs.PushLaws.{pushed-none}
 use Rattle.aliasing.specs.Accepts.{functionW}
 use mathlib.Core.Path.{refl}
 use borrow.Author.Tests.{lt-ltb, le-ltb}

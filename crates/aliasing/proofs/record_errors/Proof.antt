@@ -1,4 +1,4 @@
-use Rattle.aliasing.proofs.Pushes.{pushed-none}
+use Rattle.aliasing.proofs.PushLaws.{pushed-none}
 use Rattle.aliasing.specs.Accepts.{handW}
 use borrow.Author.Tests.{eq-eqb, ne-eqb}
 use borrow.Author.Needs.{needs}

@@ -4,7 +4,7 @@ use mathlib.Core.List.{List}
 use mathlib.Core.Path.{subst}
 use Rattle.rows.specs.Rows.{rowsOf}
 use Rattle.aliasing.specs.Pushes.{Pushed}
-use Rattle.aliasing.proofs.Pushes.{pushed-none, captures-open, captures-shut}
+use Rattle.aliasing.proofs.PushLaws.{pushed-none, captures-open, captures-shut}
 use borrow.Author.Needs.{needs}
 use Rattle.aliasing.proofs.pushes.push_captures.Statement.{statement}
 use Rattle.aliasing.proofs.pushes.push_captures.Tie as tie

@@ -1,8 +1,8 @@
-use Rattle.aliasing.proofs.Pushes.{room-edges, limit-created, limit-aliases, limit-captures, room-created, room-aliases, room-captures, all-pushed}
+use Rattle.aliasing.proofs.PushLaws.{room-edges, limit-created, limit-aliases, limit-captures, room-created, room-aliases, room-captures, all-pushed}
 use Prim.Native.Nat.{_-_}
 use native.Mathlib.Omega.{arith}
 use mathlib.Core.Path.{_∙_}
-use Rattle.aliasing.proofs.Pushes.{pushed-length}
+use Rattle.aliasing.proofs.PushLaws.{pushed-length}
 use Rattle.aliasing.proofs.pushes.push_node.Statement.{statement}
 use Rattle.aliasing.proofs.pushes.push_node.Tie as tie
 

@@ -1,7 +1,7 @@
 use Prim.Native.Nat.{ℕ, _-_}
 use native.Mathlib.Omega.{arith}
 use mathlib.Core.Path.{sym, _∙_}
-use Rattle.aliasing.proofs.Pushes.{room-edges, room-created, limit-created}
+use Rattle.aliasing.proofs.PushLaws.{room-edges, room-created, limit-created}
 use Rattle.aliasing.proofs.Whole.{run-room, run-bounds, run-fits, run-pushed, shut-room, shut-limit, shut-pushed}
 use borrow.Author.Needs.{needs}
 use Rattle.aliasing.proofs.pushes.push_whole.Statement.{statement}
