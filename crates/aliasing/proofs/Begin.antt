@@ -5,12 +5,12 @@ use mathlib.Core.List.{List, [], _∷_}
 use mathlib.Core.Path.{_≡_, refl, sym, ap, subst, _∙_}
 use lib.ListN.{length, getD, set, replicate, length-replicate, length-set}
 use lib.Seq.{slice, getD-set-same, getD-set-other}
-use Rattle.rows.specs.Rows.{rowsOf, limit, Good, Indexed, Kept}
-use Rattle.rows.specs.Sort.{clearW}
-use Rattle.rows.proofs.Parts.{slice-sets, drop-more, kept-none, kept-set, kept-then}
-use Rattle.rows.proofs.Clearing.{kept-clear, clear-at}
-use Rattle.rows.proofs.Rows.{limit-at}
-use Rattle.rows.proofs.Graph.{graph-length}
+use Rattle.workspace.specs.Rows.{rowsOf, limit, Good, Indexed, Kept}
+use Rattle.workspace.specs.Sort.{clearW}
+use Rattle.workspace.proofs.Parts.{slice-sets, drop-more, kept-none, kept-set, kept-then}
+use Rattle.workspace.proofs.Clearing.{kept-clear, clear-at}
+use Rattle.workspace.proofs.Rows.{limit-at}
+use Rattle.workspace.proofs.Graph.{graph-length}
 use Rattle.aliasing.specs.State.{nodesOf, seenOf, NoneAbove, Covered, recordsOf, stateOf, Handing}
 use Rattle.aliasing.specs.Potential.{phi}
 use Rattle.aliasing.specs.Walks.{Aside, Unmarked, BaseTaken}

@@ -13,7 +13,7 @@ use Rattle.model.specs.Mutation.{Kind, conditional, level, Mutation}
 use Rattle.model.specs.State.{Mode}
 use Rattle.model.specs.Walks.{Item, Walk, kindOver, stepForward, stepCreated, stepAlias, stepMaybe, untilIndex, belowIndex, looksBack, rule1, rule2, rule3, rule4, pushes, fresh, visit, step}
 use Rattle.model.proofs.Everywhere.{every-append, every-map}
-use Rattle.rows.specs.Pending.{kindOf}
+use Rattle.workspace.specs.Pending.{kindOf}
 use Rattle.aliasing.specs.Items.{itemOf, queueOf}
 use Rattle.aliasing.specs.declared.Mutation.{Mutation as CodeMutation}
 use Rattle.aliasing.specs.Says.{modeSays, mutationSays}

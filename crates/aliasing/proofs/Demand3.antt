@@ -9,8 +9,8 @@ use Rattle.model.specs.Runs.{after}
 use Rattle.model.specs.Summary.{errors, built}
 use Rattle.model.specs.Demand3.{how}
 use Rattle.model.proofs.Demand3.{demand3}
-use Rattle.rows.specs.Layout.{HANDED}
-use Rattle.rows.specs.Pending.{mutationsOf}
+use Rattle.workspace.specs.Layout.{HANDED}
+use Rattle.workspace.specs.Pending.{mutationsOf}
 use Rattle.aliasing.specs.State.{nodesOf, endsOf, stateOf}
 use Rattle.aliasing.specs.Pending.{Processed}
 use Rattle.aliasing.specs.Demand3.{EndsOf}

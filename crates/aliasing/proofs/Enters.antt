@@ -6,7 +6,7 @@ use mathlib.Core.Path.{_≡_}
 use lib.ListN.{getD, set}
 use lib.Dec.{eqb}
 use borrow.Author.Tests.{lt-ltb, le-ltb}
-use Rattle.rows.specs.Layout.{SEEN, VALUE, NODES}
+use Rattle.workspace.specs.Layout.{SEEN, VALUE, NODES}
 use Rattle.aliasing.specs.Accepts.{freshW, enterW, entersW}
 
 module _ (ws : List ℕ) (x level : ℕ) where

@@ -8,8 +8,8 @@ use lib.Seq.{getD-take}
 use lib.Dec.{ltb}
 use borrow.Author.Tests.{lt-ltb, le-ltb}
 use Rattle.model.specs.Lists.{pick}
-use Rattle.rows.specs.Layout.{KEPT, SEEN}
-use Rattle.rows.specs.Rows.{rowsOf, limit}
+use Rattle.workspace.specs.Layout.{KEPT, SEEN}
+use Rattle.workspace.specs.Rows.{rowsOf, limit}
 use Rattle.aliasing.specs.State.{nodesOf, fieldAt, Covered}
 
 pub field-there : (ns : List ℕ) (f x : ℕ) → x < getD ns KEPT 0 → fieldAt ns f x ≡ getD ns (f + x) 0

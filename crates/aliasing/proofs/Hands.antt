@@ -13,10 +13,10 @@ use Rattle.model.specs.Lists.{pick, listIf, isSome, oneIf}
 use Rattle.model.specs.Graph.{Value, object, phi, function}
 use Rattle.model.specs.Mutation.{Mutation}
 use Rattle.model.specs.State.{Info, Record, noRecord, hasRecord, recordsErrors, highest, touch, functionOf}
-use Rattle.rows.specs.Layout.{BASE, HANDED, QUEUE}
-use Rattle.rows.specs.Rows.{rowsOf, Kept}
-use Rattle.rows.specs.Graph.{valueOf}
-use Rattle.rows.proofs.Tables.{tab-at, tab-length}
+use Rattle.workspace.specs.Layout.{BASE, HANDED, QUEUE}
+use Rattle.workspace.specs.Rows.{rowsOf, Kept}
+use Rattle.workspace.specs.Graph.{valueOf}
+use Rattle.workspace.proofs.Tables.{tab-at, tab-length}
 use Rattle.aliasing.specs.declared.Mutation.{Mutation as CodeMutation}
 use Rattle.aliasing.specs.Says.{modeOf, modeSays}
 use Rattle.aliasing.specs.State.{nodesOf, NoneAbove, fieldAt, recordAt, recordsOf, bare, Handing}

@@ -9,9 +9,9 @@ use borrow.Author.Tests.{ne-eqb}
 use Rattle.model.specs.Lists.{pick, consIf, consOrStop, listIf}
 use Rattle.model.specs.Graph.{edgeKind, Entry, Node}
 use Rattle.model.specs.Walks.{backwards, Item, kindOver, stepForward, stepCreated, stepAlias, stepMaybe, untilIndex, belowIndex, looksBack, rule2, rule3, rule4, pushes}
-use Rattle.rows.specs.Rows.{value, rowF, rowB}
-use Rattle.rows.specs.Graph.{relationOf, valueOf, edgeRow, entryRow, ownNode}
-use Rattle.rows.specs.Pending.{kindOf}
+use Rattle.workspace.specs.Rows.{value, rowF, rowB}
+use Rattle.workspace.specs.Graph.{relationOf, valueOf, edgeRow, entryRow, ownNode}
+use Rattle.workspace.specs.Pending.{kindOf}
 use Rattle.aliasing.specs.Pushes.{entryW, edgeLevel, forwardE, forwardW, entriesW, blockedW, aliasesW, capturesW, pushedW}
 use Rattle.aliasing.specs.Items.{directionOf, itemOf, queueOf}
 

@@ -6,8 +6,8 @@ use mathlib.Core.List.{List}
 use mathlib.Core.Path.{_≡_, sym, ap, _∙_}
 use lib.ListN.{length, getD, set, take, length-take, replicate, length-replicate, getD-replicate}
 use lib.Seq.{getD-set-same, getD-set-other, getD-take, ext-getD}
-use Rattle.rows.specs.Rows.{rowsOf, limit, Good}
-use Rattle.rows.proofs.Tables.{tab-length, tab-at, tab-set}
+use Rattle.workspace.specs.Rows.{rowsOf, limit, Good}
+use Rattle.workspace.proofs.Tables.{tab-length, tab-at, tab-set}
 use Rattle.aliasing.specs.State.{seenOf, levels, NoneAbove}
 use Rattle.aliasing.proofs.Parts.{rows-above, mark-kept, mark-seen, seen-length}
 

@@ -7,10 +7,10 @@ use lib.ListN.{getD, replicate, length-replicate, getD-replicate}
 use lib.Seq.{slice-empty, ext-getD}
 use Rattle.model.specs.Graph.{Graph}
 use Rattle.model.specs.State.{noRecord}
-use Rattle.rows.specs.Layout.{RECORD, HANDED}
-use Rattle.rows.specs.Rows.{rowsOf}
-use Rattle.rows.specs.Graph.{tab, graphOfRows}
-use Rattle.rows.proofs.Tables.{tab-length, tab-at}
+use Rattle.workspace.specs.Layout.{RECORD, HANDED}
+use Rattle.workspace.specs.Rows.{rowsOf}
+use Rattle.workspace.specs.Graph.{tab, graphOfRows}
+use Rattle.workspace.proofs.Tables.{tab-length, tab-at}
 use Rattle.aliasing.specs.State.{nodesOf, recordIn, fieldAt, recordAt, recordsOf, endsOf, stateOf}
 use Rattle.aliasing.proofs.Fields.{field-word}
 

@@ -5,8 +5,8 @@ use mathlib.Core.List.{List}
 use mathlib.Core.Path.{_≡_, refl}
 use lib.ListN.{length, getD, set}
 use lib.Seq.{slice, length-slice, length-take-le}
-use Rattle.rows.specs.Rows.{rowsOf, Kept}
-use Rattle.rows.proofs.Parts.{slice-at, slice-take, slice-drop, slice-set-in, take-less, drop-word, kept-none, kept-set, kept-at}
+use Rattle.workspace.specs.Rows.{rowsOf, Kept}
+use Rattle.workspace.proofs.Parts.{slice-at, slice-take, slice-drop, slice-set-in, take-less, drop-word, kept-none, kept-set, kept-at}
 use Rattle.aliasing.specs.declared.Mutation.{Mutation}
 use Rattle.aliasing.specs.State.{nodesOf, seenOf}
 use Rattle.aliasing.specs.Accepts.{acceptW}

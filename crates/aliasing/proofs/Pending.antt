@@ -13,12 +13,12 @@ use Rattle.model.specs.Mutation.{definite, Mutation}
 use Rattle.model.specs.State.{State, Mode, real}
 use Rattle.model.specs.Walks.{Walk, mutate}
 use Rattle.model.specs.Runs.{walksOf, after}
-use Rattle.rows.specs.Rows.{rowsOf, Good, Indexed, Kept}
-use Rattle.rows.specs.Graph.{tab}
-use Rattle.rows.specs.Pending.{kindOf, mutationOf, mutationAt, mutationsOf}
-use Rattle.rows.proofs.Parts.{kept-none, kept-set, drop-more, drop-word}
-use Rattle.rows.proofs.Tables.{tab-same}
-use Rattle.rows.proofs.Pending.{mutations-next, mutations-end, mutations-kept}
+use Rattle.workspace.specs.Rows.{rowsOf, Good, Indexed, Kept}
+use Rattle.workspace.specs.Graph.{tab}
+use Rattle.workspace.specs.Pending.{kindOf, mutationOf, mutationAt, mutationsOf}
+use Rattle.workspace.proofs.Parts.{kept-none, kept-set, drop-more, drop-word}
+use Rattle.workspace.proofs.Tables.{tab-same}
+use Rattle.workspace.proofs.Pending.{mutations-next, mutations-end, mutations-kept}
 use Rattle.aliasing.specs.declared.MutationKind.{MutationKind}
 use Rattle.aliasing.specs.declared.Mutation.{Mutation as CodeMutation}
 use Rattle.aliasing.specs.Says.{kindSays, modeOf, modeSays, mutationSays}

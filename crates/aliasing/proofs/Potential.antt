@@ -6,7 +6,7 @@ use mathlib.Core.List.{List}
 use mathlib.Core.Path.{_≡_, refl, ap, _∙_}
 use lib.ListN.{length, getD, set}
 use lib.Seq.{getD-set-same, getD-set-other}
-use Rattle.rows.specs.Rows.{fb, bb, Good}
+use Rattle.workspace.specs.Rows.{fb, bb, Good}
 use Rattle.aliasing.specs.Pushes.{deg}
 use Rattle.aliasing.specs.Potential.{left, phi}
 

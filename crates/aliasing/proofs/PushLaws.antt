@@ -7,10 +7,10 @@ use mathlib.Core.Path.{_≡_, refl, sym, ap, subst, _∙_}
 use lib.ListN.{length, getD, take, drop, length-append}
 use lib.Seq.{slice, sets, sets-eq, length-sets, length-take-le, take-at, drop-append-le}
 use borrow.Author.Tests.{eq-eqb, ne-eqb}
-use Rattle.rows.specs.Rows.{rowsOf, limit, value, rowF, rowB, Good, Kept}
+use Rattle.workspace.specs.Rows.{rowsOf, limit, value, rowF, rowB, Good, Kept}
 use Rattle.aliasing.specs.Pushes.{Room, Pushed, wordsF, wordsB, deg, forwardW, entriesW, blockedW, aliasesW, capturesW, pushedW}
-use Rattle.rows.proofs.Parts.{slice-take, take-sets, drop-sets, sets-append}
-use Rattle.rows.proofs.Rows.{rows-length, value-at, fb-beyond, bb-beyond}
+use Rattle.workspace.proofs.Parts.{slice-take, take-sets, drop-sets, sets-append}
+use Rattle.workspace.proofs.Rows.{rows-length, value-at, fb-beyond, bb-beyond}
 use Rattle.aliasing.proofs.Sizes.{deg-is, forward-le, rowF-length, list-le, aliases-le, pushed-le}
 
 -- the value of an identifier whose rows have bounds

@@ -13,9 +13,9 @@ use borrow.Author.Tests.{ltb-true, ltb-false, lt-ltb, le-ltb}
 use Rattle.model.specs.Lists.{pick}
 use Rattle.model.specs.Mutation.{level, reasonOf}
 use Rattle.model.specs.State.{Info, noRecord, moves, firstReason, highest, touch, raised}
-use Rattle.rows.specs.Pending.{kindOf}
-use Rattle.rows.specs.Graph.{tab}
-use Rattle.rows.proofs.Tables.{tab-at, tab-set, tab-same}
+use Rattle.workspace.specs.Pending.{kindOf}
+use Rattle.workspace.specs.Graph.{tab}
+use Rattle.workspace.proofs.Tables.{tab-at, tab-set, tab-same}
 use Rattle.aliasing.specs.declared.Mutation.{Mutation as CodeMutation}
 use Rattle.aliasing.specs.Says.{modeOf, modeSays, mutationSays}
 use Rattle.aliasing.specs.State.{infoOf, recordIn, fieldAt, recordAt, recordsOf, endsOf}

@@ -8,7 +8,7 @@ use lib.ListN.{length, length-append}
 use lib.Seq.{length-slice}
 use lib.Dec.{ltb, eqb}
 use Rattle.model.specs.Lists.{pick}
-use Rattle.rows.specs.Rows.{value, fb, bb, rowF, rowB, Good}
+use Rattle.workspace.specs.Rows.{value, fb, bb, rowF, rowB, Good}
 use Rattle.aliasing.specs.Pushes.{forwardW, entriesW, forwardE, entryW, wordsF, wordsB, deg, aliasesW, capturesW, pushedW, blockedW}
 
 pub forward-le : (index transitive kind : ℕ) (row : List ℕ) → length (forwardW index transitive kind row) ≤ length row

@@ -15,8 +15,8 @@ use Rattle.model.specs.State.{State, Mode}
 use Rattle.model.specs.Walks.{Item, Walk, run, startItem, start, walkOf, mutate}
 use Rattle.model.proofs.Fuel.{run-add, run-rest}
 use Rattle.model.proofs.Potential.{walk-ends, walk-enough}
-use Rattle.rows.specs.Rows.{rowsOf, limit, Indexed}
-use Rattle.rows.specs.Pending.{kindOf}
+use Rattle.workspace.specs.Rows.{rowsOf, limit, Indexed}
+use Rattle.workspace.specs.Pending.{kindOf}
 use Rattle.aliasing.specs.Pushes.{entryW}
 use Rattle.aliasing.specs.Items.{itemOf, queueOf}
 use Rattle.aliasing.proofs.Items.{item-entry}

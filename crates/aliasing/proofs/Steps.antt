@@ -15,11 +15,11 @@ use Rattle.model.specs.Graph.{Graph, Node, nodeAt}
 use Rattle.model.specs.Mutation.{level}
 use Rattle.model.specs.State.{Record, noRecord, hasRecord, recordsErrors, touch, functionOf, State, accepts}
 use Rattle.model.specs.Walks.{Item, Walk, pushes, remember, skipped, missed, accept, step}
-use Rattle.rows.specs.Rows.{rowsOf, limit, value, rowF, rowB, Good, Kept}
-use Rattle.rows.specs.Graph.{valueOf, ownNode, graphOfRows}
-use Rattle.rows.proofs.Rows.{limit-at, value-at, value-beyond, rows-length}
-use Rattle.rows.proofs.Graph.{row-there, row-missing}
-use Rattle.rows.proofs.Parts.{drop-more}
+use Rattle.workspace.specs.Rows.{rowsOf, limit, value, rowF, rowB, Good, Kept}
+use Rattle.workspace.specs.Graph.{valueOf, ownNode, graphOfRows}
+use Rattle.workspace.proofs.Rows.{limit-at, value-at, value-beyond, rows-length}
+use Rattle.workspace.proofs.Graph.{row-there, row-missing}
+use Rattle.workspace.proofs.Parts.{drop-more}
 use Rattle.aliasing.specs.Pushes.{pushedW, Pushed, Room, deg}
 use Rattle.aliasing.specs.Items.{itemOf, queueOf}
 use Rattle.aliasing.proofs.Sizes.{pushed-le}

@@ -9,7 +9,7 @@ use Rattle.model.specs.State.{Mode}
 use Rattle.model.specs.Walks.{Walk, step, run}
 use Rattle.model.proofs.Fuel.{run-add}
 use lib.ListN.{length}
-use Rattle.rows.specs.Rows.{rowsOf, Good, Indexed}
+use Rattle.workspace.specs.Rows.{rowsOf, Good, Indexed}
 use Rattle.aliasing.specs.Items.{itemOf, queueOf}
 use Rattle.aliasing.specs.declared.Mutation.{Mutation as CodeMutation}
 use Rattle.aliasing.specs.Says.{modeSays, mutationSays}

@@ -8,10 +8,10 @@ use lib.ListN.{length, getD}
 use lib.Seq.{slice}
 use lib.Dec.{ltb}
 use Rattle.model.specs.Lists.{pick}
-use Rattle.rows.specs.Layout.{VALUE, BBOUND, BENTRY}
-use Rattle.rows.specs.Rows.{rowsOf, limit, value, bb, rowF, rowB, Good}
-use Rattle.rows.proofs.Parts.{slice-split}
-use Rattle.rows.proofs.Rows.{Bounds, four-bounds, entries-at, rows-length}
+use Rattle.workspace.specs.Layout.{VALUE, BBOUND, BENTRY}
+use Rattle.workspace.specs.Rows.{rowsOf, limit, value, bb, rowF, rowB, Good}
+use Rattle.workspace.proofs.Parts.{slice-split}
+use Rattle.workspace.proofs.Rows.{Bounds, four-bounds, entries-at, rows-length}
 use Rattle.aliasing.specs.Pushes.{Room, Pushed, deg, wordsF, wordsB, entryW, forwardW, entriesW, blockedW, aliasesW, capturesW, pushedW}
 use Rattle.aliasing.proofs.PushLaws.{value-bounded, pushed-none, pushed-on, pushed-graph, pushed-limit, room-then, F-le, room-captures, limit-aliases, all-pushed, aliases-open, aliases-shut, captures-open}
 

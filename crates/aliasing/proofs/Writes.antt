@@ -9,7 +9,7 @@ use lib.Seq.{getD-take, getD-set-same, getD-set-other}
 use lib.Dec.{ltb, eqb}
 use borrow.Author.Tests.{ltb-true, eqb-true, lt-ltb, le-ltb, eq-eqb, ne-eqb}
 use Rattle.model.specs.Lists.{pick}
-use Rattle.rows.proofs.Parts.{Local, local-id, local-set, local-then, local-test}
+use Rattle.workspace.proofs.Parts.{Local, local-id, local-set, local-then, local-test}
 use Rattle.aliasing.specs.Accepts.{raiseW, keptWord, spanW, writeW, recordW, acceptW}
 use Rattle.aliasing.specs.declared.Mutation.{Mutation}
 use Rattle.aliasing.proofs.Packed.{kept-transitive, kept-local}

@@ -5,7 +5,7 @@ use mathlib.Core.List.{List, [], _∷_}
 use lib.ListN.{getD, set}
 use lib.Dec.{ltb, eqb}
 use Rattle.model.specs.Lists.{pick}
-use Rattle.rows.specs.Layout.{RECORD, LSPAN, TSPAN, END, SEEN, VALUE, NODES}
+use Rattle.workspace.specs.Layout.{RECORD, LSPAN, TSPAN, END, SEEN, VALUE, NODES}
 use Rattle.aliasing.specs.declared.Mutation.{Mutation}
 
 -- can x have a node, and is its mark no higher than the level? From the limit on no mark is written

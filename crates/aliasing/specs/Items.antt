@@ -3,7 +3,7 @@ use Prim.Native.Nat.{ℕ, zero, suc, _/_, _%_}
 use mathlib.Core.List.{List, [], map, reverseAux}
 use lib.Dec.{eqb}
 use Rattle.model.specs.Walks.{Direction, backwards, forwards, Item}
-use Rattle.rows.specs.Pending.{kindOf}
+use Rattle.workspace.specs.Pending.{kindOf}
 
 -- 0 is backwards
 abbrev pub directionOf : ℕ → Direction

@@ -10,10 +10,10 @@ use Rattle.model.specs.Mutation.{Mutation as ModelMutation}
 use Rattle.model.specs.State.{real}
 use Rattle.model.specs.Walks.{Walk}
 use Rattle.model.specs.Runs.{walksOf, after}
-use Rattle.rows.specs.Layout.{HANDED, MUTATIONS, RENDERS}
-use Rattle.rows.specs.Rows.{rowsOf}
-use Rattle.rows.specs.Graph.{tab}
-use Rattle.rows.specs.Pending.{mutationOf, mutationsOf}
+use Rattle.workspace.specs.Layout.{HANDED, MUTATIONS, RENDERS}
+use Rattle.workspace.specs.Rows.{rowsOf}
+use Rattle.workspace.specs.Graph.{tab}
+use Rattle.workspace.specs.Pending.{mutationOf, mutationsOf}
 use Rattle.aliasing.specs.Says.{modeSays, mutationSays}
 use Rattle.aliasing.specs.State.{Covered, stateOf, Handing}
 use Rattle.aliasing.specs.Walks.{Callable}

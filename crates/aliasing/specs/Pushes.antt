@@ -8,8 +8,8 @@ use lib.ListN.{length}
 use lib.Seq.{sets}
 use lib.Dec.{ltb, eqb}
 use Rattle.model.specs.Lists.{pick}
-use Rattle.rows.specs.Layout.{LEAST, QUEUE, HANDED}
-use Rattle.rows.specs.Rows.{rowsOf, value, fb, bb, rowF, rowB, Good}
+use Rattle.workspace.specs.Layout.{LEAST, QUEUE, HANDED}
+use Rattle.workspace.specs.Rows.{rowsOf, value, fb, bb, rowF, rowB, Good}
 
 -- an entry of the queue
 abbrev pub entryW : ℕ → ℕ → ℕ → ℕ → ℕ

@@ -9,10 +9,10 @@ use lib.Dec.{ltb}
 use Rattle.model.specs.Lists.{pick, tally, oneIf}
 use Rattle.model.specs.Mutation.{reasonOf}
 use Rattle.model.specs.State.{Info, Record, hasRecord, State}
-use Rattle.rows.specs.Layout.{RECORD, LSPAN, TSPAN, KEPT, END, SEEN, BASE, HANDED, MUTATIONS}
-use Rattle.rows.specs.Rows.{rowsOf, limit}
-use Rattle.rows.specs.Graph.{tab, graphOfRows}
-use Rattle.rows.specs.Pending.{kindOf}
+use Rattle.workspace.specs.Layout.{RECORD, LSPAN, TSPAN, KEPT, END, SEEN, BASE, HANDED, MUTATIONS}
+use Rattle.workspace.specs.Rows.{rowsOf, limit}
+use Rattle.workspace.specs.Graph.{tab, graphOfRows}
+use Rattle.workspace.specs.Pending.{kindOf}
 
 -- the fields of the nodes
 unfoldable pub nodesOf : List ℕ → List ℕ

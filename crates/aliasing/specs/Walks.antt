@@ -9,8 +9,8 @@ use Rattle.model.specs.Lists.{Every}
 use Rattle.model.specs.Mutation.{conditional}
 use Rattle.model.specs.Size.{edges, entries}
 use Rattle.model.specs.Walks.{Item, Walk, step, run, mutate}
-use Rattle.rows.specs.Layout.{LEAST, SEEN, BASE, VALUE, QUEUE, HANDED, MUTATIONS}
-use Rattle.rows.specs.Rows.{rowsOf, limit, Good, Kept}
+use Rattle.workspace.specs.Layout.{LEAST, SEEN, BASE, VALUE, QUEUE, HANDED, MUTATIONS}
+use Rattle.workspace.specs.Rows.{rowsOf, limit, Good, Kept}
 use Rattle.aliasing.specs.Items.{queueOf}
 use Rattle.aliasing.specs.Says.{modeSays, mutationSays}
 use Rattle.aliasing.specs.State.{seenOf, levels, NoneAbove, stateOf, Handing}

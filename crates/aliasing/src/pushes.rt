@@ -3,14 +3,14 @@ ghost use mathlib.Core.Path.{_≡_};
 ghost use Prim.Native.Nat.{_+_, _-_, _*_, _≤_, _<_};
 ghost use lib.ListN.{length};
 ghost use lib.Seq.{slice};
-ghost use Rattle.rows.specs.Rows.{rowsOf, limit, rowF, rowB};
+ghost use Rattle.workspace.specs.Rows.{rowsOf, limit, rowF, rowB};
 ghost use Rattle.aliasing.specs.Pushes.{entryW, edgeLevel, forwardW, entriesW, blockedW, aliasesW, capturesW, pushedW, Pushed, Room, wordsF, wordsB, deg};
-use rows::BBOUND;
-use rows::BENTRY;
-use rows::FBOUND;
-use rows::FEDGE;
-use rows::NODES;
-use rows::VALUE;
+use workspace::BBOUND;
+use workspace::BENTRY;
+use workspace::FBOUND;
+use workspace::FEDGE;
+use workspace::NODES;
+use workspace::VALUE;
 
 fn wide(x: u32) -> usize
     ensures { λ r. ⌜ r ≡ x ⌝ }

@@ -10,10 +10,10 @@ use lib.Seq.{slice}
 use Rattle.model.specs.Mutation.{Kind, Reason}
 use Rattle.model.specs.Built.{mutates, comes}
 use Rattle.model.specs.Built.{renders as rendersPlace}
-use Rattle.rows.specs.Layout.{SEEN, VALUE, EDGES, ENTRIES, PREDS, RELATIONS, HANDED, MUTATIONS, RENDERS, FUNCTIONS}
-use Rattle.rows.specs.Pending.{mutationsOf, rendersOf}
-use Rattle.rows.proofs.Parts.{drop-more, take-less, slice-take, slice-drop}
-use Rattle.rows.proofs.Pending.{mutations-kept, renders-kept, mutations-below}
+use Rattle.workspace.specs.Layout.{SEEN, VALUE, EDGES, ENTRIES, PREDS, RELATIONS, HANDED, MUTATIONS, RENDERS, FUNCTIONS}
+use Rattle.workspace.specs.Pending.{mutationsOf, rendersOf}
+use Rattle.workspace.proofs.Parts.{drop-more, take-less, slice-take, slice-drop}
+use Rattle.workspace.proofs.Pending.{mutations-kept, renders-kept, mutations-below}
 use Rattle.building.specs.declared.Held.{Held}
 use Rattle.building.specs.declared.Building.{Building}
 use Rattle.building.specs.Logs.{graphOfLogs, Clean}

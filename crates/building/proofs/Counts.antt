@@ -13,12 +13,12 @@ use lib.Dec.{eqb}
 use Rattle.model.specs.Lists.{pick}
 use Rattle.model.specs.Graph.{Node, Graph}
 use Rattle.model.specs.Size.{nodeEdges, nodeEntries, edges, entries}
-use Rattle.rows.specs.Layout.{EDGES, ENTRIES}
-use Rattle.rows.specs.Sort.{keyW, wordW, sel, cnt, low}
-use Rattle.rows.specs.Graph.{edgeRow, entryRow, nodeOf, tab}
-use Rattle.rows.proofs.Counting.{low-suc, low-zero, low-all}
-use Rattle.rows.proofs.Rows.{keys₀, keys₁}
-use Rattle.rows.proofs.Graph.{node-some, node-none}
+use Rattle.workspace.specs.Layout.{EDGES, ENTRIES}
+use Rattle.workspace.specs.Sort.{keyW, wordW, sel, cnt, low}
+use Rattle.workspace.specs.Graph.{edgeRow, entryRow, nodeOf, tab}
+use Rattle.workspace.proofs.Counting.{low-suc, low-zero, low-all}
+use Rattle.workspace.proofs.Rows.{keys₀, keys₁}
+use Rattle.workspace.proofs.Graph.{node-some, node-none}
 use Rattle.building.specs.declared.Held.{Held}
 use Rattle.building.specs.Logs.{Logs, graphOfLogs, Clean}
 use Rattle.building.specs.Held.{logsOf, graphOf, Room}

@@ -11,16 +11,16 @@ use lib.Seq.{slice, slice-empty, ext-getD}
 use Rattle.model.specs.Graph.{object, create}
 use Rattle.model.specs.Built.{changed}
 use Rattle.model.specs.Building.{noNodes}
-use Rattle.rows.specs.Layout.{LEAST, VALUE, FBOUND, QUEUE, EDGES, ENTRIES, PREDS, MUTATIONS, RENDERS}
-use Rattle.rows.specs.Rows.{Kept}
-use Rattle.rows.specs.Sort.{clearW, sel}
-use Rattle.rows.specs.Graph.{nodeOf, tab}
-use Rattle.rows.specs.Pending.{mutationsOf, rendersOf}
-use Rattle.rows.proofs.Parts.{drop-more, kept-none}
-use Rattle.rows.proofs.Clearing.{kept-clear, clear-at}
-use Rattle.rows.proofs.Tables.{tab-length, tab-at}
-use Rattle.rows.proofs.Graph.{node-none}
-use Rattle.rows.proofs.Pending.{mutations-kept, renders-kept}
+use Rattle.workspace.specs.Layout.{LEAST, VALUE, FBOUND, QUEUE, EDGES, ENTRIES, PREDS, MUTATIONS, RENDERS}
+use Rattle.workspace.specs.Rows.{Kept}
+use Rattle.workspace.specs.Sort.{clearW, sel}
+use Rattle.workspace.specs.Graph.{nodeOf, tab}
+use Rattle.workspace.specs.Pending.{mutationsOf, rendersOf}
+use Rattle.workspace.proofs.Parts.{drop-more, kept-none}
+use Rattle.workspace.proofs.Clearing.{kept-clear, clear-at}
+use Rattle.workspace.proofs.Tables.{tab-length, tab-at}
+use Rattle.workspace.proofs.Graph.{node-none}
+use Rattle.workspace.proofs.Pending.{mutations-kept, renders-kept}
 use Rattle.building.specs.declared.Building.{Building}
 use Rattle.building.specs.Logs.{graphOfLogs, without, Clean}
 use Rattle.building.specs.Held.{valuesOf, logsOf, graphOf, operandsOf, waitingOf, Raises, Left, Laid}

@@ -12,10 +12,10 @@ use lib.Dec.{eqb}
 use borrow.Author.Tests.{ne-eqb}
 use Rattle.model.specs.Lists.{pick, mapOption}
 use Rattle.model.specs.Graph.{Edge, Node, nodeAt, hasNode, newNode, create, edgeKind, enter, withEdge, withEntry, change}
-use Rattle.rows.specs.Sort.{keyW, wordW, sel}
-use Rattle.rows.specs.Graph.{relationOf, valueOf, edgeRow, entryRow, ownNode, nodeOf, tab}
-use Rattle.rows.proofs.Tables.{tab-at, tab-set, tab-same}
-use Rattle.rows.proofs.Graph.{node-same, node-some, node-none}
+use Rattle.workspace.specs.Sort.{keyW, wordW, sel}
+use Rattle.workspace.specs.Graph.{relationOf, valueOf, edgeRow, entryRow, ownNode, nodeOf, tab}
+use Rattle.workspace.proofs.Tables.{tab-at, tab-set, tab-same}
+use Rattle.workspace.proofs.Graph.{node-same, node-some, node-none}
 use Rattle.building.specs.Logs.{Logs, graphOfLogs, without, onceW, createL, edgeL, entryL, edgeG, entryG}
 use Rattle.building.proofs.Words.{sel-hit, sel-miss, sel-own, sel-other, key-edge, key-entry, key-edge-is, key-entry-is, once-own, once-other}
 

@@ -7,15 +7,15 @@ use mathlib.Core.List.{List}
 use mathlib.Core.Path.{_≡_, sym, ap, subst, _∙_}
 use lib.ListN.{length, getD, set, take, length-set}
 use lib.Seq.{slice, take-take, take-set-le, drop-set-lt, getD-set-same}
-use Rattle.rows.specs.Layout.{LEAST, VALUE, FBOUND, FEDGE, BBOUND, BENTRY, NODES, QUEUE, EDGES, ENTRIES}
-use Rattle.rows.specs.Rows.{rowsOf, limit, values, value, fb, bb, rowF, rowB, Good}
-use Rattle.rows.specs.Sort.{sel, low, Lay, logOf, Sorted}
-use Rattle.rows.specs.Graph.{nodeOf, graphOfRows}
-use Rattle.rows.proofs.Parts.{slice-take, slice-before, slice-after, drop-more, drop-word, take-word, kept-at}
-use Rattle.rows.proofs.Counting.{kept-log, log-length, low-suc, low-mono, low-le, low-zero, low-all}
-use Rattle.rows.proofs.Rows.{limit-at, value-at, value-beyond, f-word, b-word, fb-at, bb-at, fb-behind, bb-behind, rowF-at, rowB-at, keys₀, keys₁}
-use Rattle.rows.proofs.Tables.{tab-same}
-use Rattle.rows.proofs.Graph.{node-same, node-none}
+use Rattle.workspace.specs.Layout.{LEAST, VALUE, FBOUND, FEDGE, BBOUND, BENTRY, NODES, QUEUE, EDGES, ENTRIES}
+use Rattle.workspace.specs.Rows.{rowsOf, limit, values, value, fb, bb, rowF, rowB, Good}
+use Rattle.workspace.specs.Sort.{sel, low, Lay, logOf, Sorted}
+use Rattle.workspace.specs.Graph.{nodeOf, graphOfRows}
+use Rattle.workspace.proofs.Parts.{slice-take, slice-before, slice-after, drop-more, drop-word, take-word, kept-at}
+use Rattle.workspace.proofs.Counting.{kept-log, log-length, low-suc, low-mono, low-le, low-zero, low-all}
+use Rattle.workspace.proofs.Rows.{limit-at, value-at, value-beyond, f-word, b-word, fb-at, bb-at, fb-behind, bb-behind, rowF-at, rowB-at, keys₀, keys₁}
+use Rattle.workspace.proofs.Tables.{tab-same}
+use Rattle.workspace.proofs.Graph.{node-same, node-none}
 use Rattle.building.specs.declared.Held.{Held}
 use Rattle.building.specs.Logs.{graphOfLogs, Clean}
 use Rattle.building.specs.Held.{valuesOf, logsOf, graphOf, Room, Laid}

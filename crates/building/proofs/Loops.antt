@@ -9,8 +9,8 @@ use lib.ListN.{length, getD, set, drop}
 use lib.Seq.{slice, slice-cons, slice-empty, length-slice, drop-set-lt, append-snoc}
 use borrow.Author.Tests.{eq-eqb, ne-eqb}
 use Rattle.model.specs.Lists.{pick}
-use Rattle.rows.specs.Rows.{Kept}
-use Rattle.rows.proofs.Parts.{drop-more, drop-word, slice-at, slice-slice, slice-split, slice-push, kept-none, kept-set}
+use Rattle.workspace.specs.Rows.{Kept}
+use Rattle.workspace.proofs.Parts.{drop-more, drop-word, slice-at, slice-slice, slice-split, slice-push, kept-none, kept-set}
 use Rattle.building.specs.Logs.{ownerW, ownsW, without, anyP}
 use Rattle.building.specs.Held.{Others, Left}
 

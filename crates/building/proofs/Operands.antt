@@ -12,8 +12,8 @@ use Rattle.model.specs.Lists.{pick, keep, each, consIf}
 use Rattle.model.specs.Graph.{Graph, intoAliases, relate}
 use Rattle.model.specs.Built.{Waiting}
 use Rattle.model.specs.Building.{waitingFor}
-use Rattle.rows.specs.Layout.{LEAST, VALUE, EDGES, ENTRIES, PREDS, RELATIONS, HANDED}
-use Rattle.rows.proofs.Parts.{drop-more, take-less, drop-word, slice-at, slice-split, slice-take, slice-drop, slice-push, slice-before, slice-after, slice-less}
+use Rattle.workspace.specs.Layout.{LEAST, VALUE, EDGES, ENTRIES, PREDS, RELATIONS, HANDED}
+use Rattle.workspace.proofs.Parts.{drop-more, take-less, drop-word, slice-at, slice-split, slice-take, slice-drop, slice-push, slice-before, slice-after, slice-less}
 use Rattle.building.specs.declared.Held.{Held}
 use Rattle.building.specs.Logs.{packW, graphOfLogs, anyP, Clean}
 use Rattle.building.specs.Held.{logsOf, graphOf, operandOf, operandsOf, waitingOf, Room, Builds, Others, Waits, Moved, Wakes}

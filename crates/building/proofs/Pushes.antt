@@ -10,11 +10,11 @@ use lib.Seq.{slice, slice-empty, getD-set-same, getD-set-other, take-suc, drop-a
 use lib.Dec.{eqb}
 use Rattle.model.specs.Lists.{pick, among}
 use Rattle.model.specs.Mutation.{reasonOf}
-use Rattle.rows.specs.Layout.{LEAST, SEEN, MUTATIONS, RENDERS}
-use Rattle.rows.specs.Rows.{Kept}
-use Rattle.rows.specs.Pending.{kindOf, mutationOf, renderOf, mutationAt, renderAt}
-use Rattle.rows.proofs.Parts.{kept-none, kept-set, take-word}
-use Rattle.rows.proofs.Pending.{mutations-more, renders-more}
+use Rattle.workspace.specs.Layout.{LEAST, SEEN, MUTATIONS, RENDERS}
+use Rattle.workspace.specs.Rows.{Kept}
+use Rattle.workspace.specs.Pending.{kindOf, mutationOf, renderOf, mutationAt, renderAt}
+use Rattle.workspace.proofs.Parts.{kept-none, kept-set, take-word}
+use Rattle.workspace.proofs.Pending.{mutations-more, renders-more}
 use Rattle.building.specs.Logs.{anyP}
 use Rattle.building.specs.Built.{comeOf, PushesMutation, PushesRender, PushesBlock}
 

@@ -7,8 +7,8 @@ use mathlib.Core.Path.{_≡_, sym, ap, subst, _∙_}
 use lib.ListN.{length, getD}
 use lib.Seq.{slice}
 use lib.Dec.{eqb}
-use Rattle.rows.specs.Layout.{LEAST, PREDS, RELATIONS}
-use Rattle.rows.proofs.Parts.{drop-more, drop-word, slice-split, slice-drop, slice-less}
+use Rattle.workspace.specs.Layout.{LEAST, PREDS, RELATIONS}
+use Rattle.workspace.proofs.Parts.{drop-more, drop-word, slice-split, slice-drop, slice-less}
 use Rattle.building.specs.Logs.{anyP}
 use Rattle.building.specs.Held.{downW, fourW, Moved}
 use Rattle.building.proofs.Loops.{none-both, slice-front, none-at}

@@ -11,10 +11,10 @@ use Rattle.model.specs.Graph.{Graph, intoAliases, relate}
 use Rattle.model.specs.Built.{Built, Waiting, changed, related, waits}
 use Rattle.model.specs.Building.{operand, waitingFor, stillWaiting, wake}
 use Rattle.hir.specs.declared.FunctionId.{FunctionId}
-use Rattle.rows.specs.Layout.{SEEN, VALUE, PREDS, HANDED, MUTATIONS, RENDERS, FUNCTIONS}
-use Rattle.rows.specs.Graph.{valueOf}
-use Rattle.rows.proofs.Parts.{drop-more, take-less}
-use Rattle.rows.proofs.Pending.{mutations-kept, renders-kept}
+use Rattle.workspace.specs.Layout.{SEEN, VALUE, PREDS, HANDED, MUTATIONS, RENDERS, FUNCTIONS}
+use Rattle.workspace.specs.Graph.{valueOf}
+use Rattle.workspace.proofs.Parts.{drop-more, take-less}
+use Rattle.workspace.proofs.Pending.{mutations-kept, renders-kept}
 use Rattle.building.specs.declared.Held.{Held}
 use Rattle.building.specs.declared.Building.{Building}
 use Rattle.building.specs.declared.NodeValue.{NodeValue}

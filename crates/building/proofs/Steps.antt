@@ -10,9 +10,9 @@ use lib.Seq.{getD-set-same}
 use Rattle.model.specs.Lists.{isSome, mapOption}
 use Rattle.model.specs.Graph.{Node, Graph, Value, object, hasNode, newNode, change, Relation, intoCreatedFrom, intoAliases, create, withEdge, store, relate, createFrom}
 use Rattle.model.specs.Graph.{assign as assignEffect}
-use Rattle.rows.specs.Graph.{relationOf, nodeOf}
-use Rattle.rows.specs.Sort.{sel}
-use Rattle.rows.proofs.Tables.{tab-length}
+use Rattle.workspace.specs.Graph.{relationOf, nodeOf}
+use Rattle.workspace.specs.Sort.{sel}
+use Rattle.workspace.proofs.Tables.{tab-length}
 use Rattle.building.specs.declared.Held.{Held}
 use Rattle.building.specs.Logs.{packW, edgeG, entryG, graphOfLogs}
 use Rattle.building.specs.Held.{logsOf, graphOf, Room, Builds}

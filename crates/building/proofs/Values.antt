@@ -8,11 +8,11 @@ use mathlib.Core.Path.{_≡_, refl, sym, ap, subst, _∙_}
 use lib.ListN.{length, getD, take, length-take, List·getD-eq-default}
 use lib.Seq.{getD-drop}
 use lib.Dec.{eqb}
-use Rattle.rows.specs.Layout.{LEAST, VALUE, FBOUND}
-use Rattle.rows.specs.Rows.{Kept}
-use Rattle.rows.specs.Sort.{clearW}
-use Rattle.rows.proofs.Parts.{slice-at, kept-none, kept-then, kept-at}
-use Rattle.rows.proofs.Clearing.{kept-clear, clear-at}
+use Rattle.workspace.specs.Layout.{LEAST, VALUE, FBOUND}
+use Rattle.workspace.specs.Rows.{Kept}
+use Rattle.workspace.specs.Sort.{clearW}
+use Rattle.workspace.proofs.Parts.{slice-at, kept-none, kept-then, kept-at}
+use Rattle.workspace.proofs.Clearing.{kept-clear, clear-at}
 use Rattle.building.specs.Held.{valuesOf, hasValue, Raises}
 
 -- ---- a value

@@ -9,8 +9,8 @@ use lib.Dec.{eqb}
 use borrow.Author.Tests.{eq-eqb, ne-eqb}
 use Rattle.model.specs.Lists.{pick}
 use Rattle.model.specs.Graph.{Entry, keepsFrom, enter}
-use Rattle.rows.specs.Sort.{keyW, wordW, sel}
-use Rattle.rows.specs.Graph.{entryRow}
+use Rattle.workspace.specs.Sort.{keyW, wordW, sel}
+use Rattle.workspace.specs.Graph.{entryRow}
 use Rattle.building.specs.Logs.{ownerW, without, anyP, anyW, onceW}
 
 -- ---- a word more

@@ -10,9 +10,9 @@ use lib.Seq.{slice, length-slice, take-set-le, drop-set-lt}
 use lib.Dec.{eqb}
 use borrow.Author.Tests.{eq-eqb, ne-eqb, not-true, not-false}
 use Rattle.model.specs.Graph.{Graph, hasNode, create}
-use Rattle.rows.specs.Layout.{VALUE, FBOUND, EDGES, ENTRIES, PREDS, RELATIONS}
-use Rattle.rows.specs.Graph.{valueOf}
-use Rattle.rows.proofs.Parts.{drop-more, take-less, slice-take, slice-drop, slice-set-in, slice-push, slice-before, slice-after}
+use Rattle.workspace.specs.Layout.{VALUE, FBOUND, EDGES, ENTRIES, PREDS, RELATIONS}
+use Rattle.workspace.specs.Graph.{valueOf}
+use Rattle.workspace.proofs.Parts.{drop-more, take-less, slice-take, slice-drop, slice-set-in, slice-push, slice-before, slice-after}
 use Rattle.building.specs.declared.Held.{Held}
 use Rattle.building.specs.Logs.{Logs, graphOfLogs, ownerW, without, Clean, anyW, onceW, createL, edgeL, entryL, edgeG, entryG}
 use Rattle.building.specs.Held.{valuesOf, hasValue, logsOf, graphOf, operandsOf, waitingOf, Room, Builds, Raises, Left}

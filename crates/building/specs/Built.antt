@@ -11,10 +11,10 @@ use Rattle.model.specs.Mutation.{Mutation, RenderOf}
 use Rattle.model.specs.Built.{Built}
 use Rattle.model.specs.Building.{noNodes}
 use Rattle.model.specs.Size as size
-use Rattle.rows.specs.Layout.{LEAST, SEEN, VALUE, FBOUND, QUEUE, MUTATIONS, RENDERS, FUNCTIONS}
-use Rattle.rows.specs.Rows.{rowsOf, fb, bb, Indexed, Kept}
-use Rattle.rows.specs.Graph.{graphOfRows}
-use Rattle.rows.specs.Pending.{mutationsOf, rendersOf}
+use Rattle.workspace.specs.Layout.{LEAST, SEEN, VALUE, FBOUND, QUEUE, MUTATIONS, RENDERS, FUNCTIONS}
+use Rattle.workspace.specs.Rows.{rowsOf, fb, bb, Indexed, Kept}
+use Rattle.workspace.specs.Graph.{graphOfRows}
+use Rattle.workspace.specs.Pending.{mutationsOf, rendersOf}
 use Rattle.building.specs.declared.Building.{Building}
 use Rattle.building.specs.declared.NodeValue.{NodeValue}
 use Rattle.building.specs.declared.NodeValue.the-variants.{Object, Phi, Function}

@@ -10,9 +10,9 @@ use Rattle.model.specs.Lists.{keep, each}
 use Rattle.model.specs.Graph.{Graph, intoAliases, relate}
 use Rattle.model.specs.Built.{Waiting}
 use Rattle.model.specs.Building.{waitingFor}
-use Rattle.rows.specs.Layout.{LEAST, VALUE, FBOUND, EDGES, ENTRIES, PREDS, RELATIONS, QUEUE, HANDED}
-use Rattle.rows.specs.Rows.{rowsOf, fb, bb, Indexed, Kept}
-use Rattle.rows.specs.Graph.{graphOfRows}
+use Rattle.workspace.specs.Layout.{LEAST, VALUE, FBOUND, EDGES, ENTRIES, PREDS, RELATIONS, QUEUE, HANDED}
+use Rattle.workspace.specs.Rows.{rowsOf, fb, bb, Indexed, Kept}
+use Rattle.workspace.specs.Graph.{graphOfRows}
 use Rattle.building.specs.declared.Held.{Held}
 use Rattle.building.specs.Logs.{Logs, graphOfLogs, without, anyP, Clean}
 

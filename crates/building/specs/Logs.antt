@@ -8,8 +8,8 @@ use lib.ListN.{getD, set}
 use lib.Dec.{eqb}
 use Rattle.model.specs.Lists.{pick}
 use Rattle.model.specs.Graph.{Graph, change, withEdge, withEntry}
-use Rattle.rows.specs.Sort.{sel}
-use Rattle.rows.specs.Graph.{relationOf, nodeOf, tab}
+use Rattle.workspace.specs.Sort.{sel}
+use Rattle.workspace.specs.Graph.{relationOf, nodeOf, tab}
 
 -- a log word
 abbrev pub packW : ℕ → ℕ → ℕ → ℕ → ℕ

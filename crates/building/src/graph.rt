@@ -4,19 +4,19 @@ use crate::logs::add_edge;
 use crate::logs::add_entry;
 use crate::logs::leave;
 use crate::logs::pack;
-use rows::BBOUND;
-use rows::EDGES;
-use rows::ENTRIES;
-use rows::FBOUND;
-use rows::NODES;
-use rows::VALUE;
+use workspace::BBOUND;
+use workspace::EDGES;
+use workspace::ENTRIES;
+use workspace::FBOUND;
+use workspace::NODES;
+use workspace::VALUE;
 ghost use mathlib.Core.Path.{_≡_};
 ghost use Prim.Native.Nat.{_+_, _*_, _≤_, _<_};
 ghost use lib.ListN.{length};
 ghost use Rattle.model.specs.Graph.{create, relate, createFrom};
 ghost use Rattle.model.specs.Graph.{assign as assignEffect};
-ghost use Rattle.rows.specs.Layout.{LEAST};
-ghost use Rattle.rows.specs.Graph.{valueOf, relationOf};
+ghost use Rattle.workspace.specs.Layout.{LEAST};
+ghost use Rattle.workspace.specs.Graph.{valueOf, relationOf};
 ghost use Rattle.building.specs.Held.{hasValue, Raises, Room, Builds, Laid};
 
 // `nodes`, raised above x: the values from it on are cleared, 16 at a time, so that no clearing is done by a masked store.
@@ -29,7 +29,7 @@ pub fn raise(ws: &mut [u32], nodes: usize, x: u32) -> usize
         return nodes;
     }
     let more = (x as usize / 16 + 1) * 16;
-    rows::clear(ws, VALUE + nodes, more - nodes);
+    workspace::clear(ws, VALUE + nodes, more - nodes);
     more
 }
 
@@ -130,6 +130,6 @@ pub fn lay_out(ws: &mut [u32], h: Held)
     let entries = h.entries;
     let nodes = h.nodes;
     ws[NODES] = nodes as u32;
-    rows::sort(ws, 0, FBOUND, nodes, EDGES, edges);
-    rows::sort(ws, 1, BBOUND, 4 * nodes, ENTRIES, entries);
+    workspace::sort(ws, 0, FBOUND, nodes, EDGES, edges);
+    workspace::sort(ws, 1, BBOUND, 4 * nodes, ENTRIES, entries);
 }

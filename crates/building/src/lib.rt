@@ -5,7 +5,7 @@ use hir::EvaluationOrder;
 use hir::FunctionId;
 use hir::IdentifierId;
 use pending::PendingMutation;
-use rows::VALUE;
+use workspace::VALUE;
 ghost use mathlib.Core.Path.{_≡_};
 ghost use Prim.Native.Nat.{ℕ, _+_, _≤_, _<_};
 ghost use lib.ListN.{length};
@@ -17,9 +17,9 @@ ghost use Rattle.model.specs.Graph.{assign as assignEffect};
 ghost use Rattle.model.specs.Built.{changed, related, waits, mutates, comes};
 ghost use Rattle.model.specs.Built.{renders as rendersPlace};
 ghost use Rattle.model.specs.Building.{operand, wake};
-ghost use Rattle.rows.specs.Layout.{LEAST};
-ghost use Rattle.rows.specs.Graph.{valueOf, relationOf};
-ghost use Rattle.rows.specs.Pending.{kindOf};
+ghost use Rattle.workspace.specs.Layout.{LEAST};
+ghost use Rattle.workspace.specs.Graph.{valueOf, relationOf};
+ghost use Rattle.workspace.specs.Pending.{kindOf};
 ghost use Rattle.building.specs.Built.{valueIs, FunctionBelow, placeAt, indexOf, builtOf, Sound, Steps, LaysOut, begun, Starts};
 
 mod graph;
@@ -291,7 +291,7 @@ pub fn start(ws: &mut [u32]) -> Building
     requires { ⌜ LEAST ≤ length (now ws) ⌝ }
     ensures { λ r. ⌜ Starts (now (ws .entry)) (now (ws .exit)) r ⌝ }
 {
-    rows::clear(ws, VALUE, 16);
+    workspace::clear(ws, VALUE, 16);
     begun(16)
 }
 

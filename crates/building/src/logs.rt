@@ -1,14 +1,14 @@
 // The two logs, word by word.
 use crate::Held;
-use rows::EDGES;
-use rows::ENTRIES;
+use workspace::EDGES;
+use workspace::ENTRIES;
 ghost use mathlib.Core.Path.{_≡_};
 ghost use mathlib.Core.Bool.{true};
 ghost use Prim.Native.Nat.{_+_, _*_, _/_, _%_, _≤_, _<_};
 ghost use lib.ListN.{length};
 ghost use lib.Seq.{slice};
 ghost use Rattle.model.specs.Graph.{hasNode};
-ghost use Rattle.rows.specs.Layout.{LEAST, ENTRIES};
+ghost use Rattle.workspace.specs.Layout.{LEAST, ENTRIES};
 ghost use Rattle.building.specs.Logs.{packW, ownerW, ownsW, anyP, anyW, edgeG, entryG};
 ghost use Rattle.building.specs.Held.{graphOf, Room, Builds, Others, Left};
 

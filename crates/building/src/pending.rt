@@ -1,15 +1,15 @@
 // What building leaves for the walks, and the blocks that have come.
-use rows::MUTATIONS;
-use rows::RENDERS;
-use rows::SEEN;
+use workspace::MUTATIONS;
+use workspace::RENDERS;
+use workspace::SEEN;
 ghost use mathlib.Core.Path.{_≡_};
 ghost use Prim.Native.Nat.{_+_, _*_, _≤_, _<_};
 ghost use lib.ListN.{length};
 ghost use lib.Dec.{eqb};
 ghost use Rattle.model.specs.Lists.{among};
 ghost use Rattle.model.specs.Mutation.{reasonOf};
-ghost use Rattle.rows.specs.Layout.{LEAST};
-ghost use Rattle.rows.specs.Pending.{kindOf};
+ghost use Rattle.workspace.specs.Layout.{LEAST};
+ghost use Rattle.workspace.specs.Pending.{kindOf};
 ghost use Rattle.building.specs.Built.{comeOf, PushesMutation, PushesRender, PushesBlock};
 
 // A mutation to come. Its level is 0 for Conditional and 1 for Definite, its reason 0 for none.

@@ -2,14 +2,14 @@
 use crate::Held;
 use crate::graph::store;
 use crate::logs::pack;
-use rows::PREDS;
-use rows::RELATIONS;
+use workspace::PREDS;
+use workspace::RELATIONS;
 ghost use mathlib.Core.Path.{_≡_};
 ghost use Prim.Native.Nat.{_+_, _-_, _≤_, _<_};
 ghost use lib.ListN.{length, getD};
 ghost use lib.Seq.{slice};
 ghost use lib.Dec.{eqb};
-ghost use Rattle.rows.specs.Layout.{LEAST, PREDS};
+ghost use Rattle.workspace.specs.Layout.{LEAST, PREDS};
 ghost use Rattle.building.specs.Logs.{anyP};
 ghost use Rattle.building.specs.Held.{Room, Others, Waits, fourW, Moved, Wakes};
 

@@ -12,7 +12,7 @@ use Rattle.model.specs.Reading.{Position, got, refused, _>>=_, pure, count, tim
 use Rattle.model.specs.Sections.{diagnostic, innerFunction}
 use Rattle.model.specs.Answer.{functionErrors, diagnosticWords}
 use Rattle.model.proofs.Got.{got-value, got-next, bind-got}
-use Rattle.rows.specs.Layout.{FUNCTIONS, HANDED}
+use Rattle.workspace.specs.Layout.{FUNCTIONS, HANDED}
 use Rattle.writing.proofs.Writing.{wrote-none, wrote-as}
 use Rattle.copies.specs.Copies.{Copies}
 use Rattle.copies.specs.Functions.{Functions, Appended, AllAppended}

@@ -15,7 +15,7 @@ use Rattle.model.specs.Effects.{rowOf}
 use Rattle.model.specs.Reading.{Position, got, count}
 use Rattle.model.specs.Sections.{effect, effects}
 use Rattle.model.specs.Answer.{effectWords}
-use Rattle.rows.proofs.Parts.{slice-at}
+use Rattle.workspace.proofs.Parts.{slice-at}
 use Rattle.writing.specs.Wrote.{Wrote}
 use Rattle.writing.proofs.Writing.{wrote-none, wrote-as}
 use Rattle.copies.specs.Copies.{Copies}

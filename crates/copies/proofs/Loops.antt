@@ -7,9 +7,9 @@ use mathlib.Core.List.{List, [], _∷_, _++_}
 use lib.ListN.{length, getD, take, drop, length-append, length-take, drop-of-length-le}
 use lib.Seq.{sets, slice, slice-cons}
 use Rattle.model.specs.Lists.{gather}
-use Rattle.rows.specs.Graph.{tab}
-use Rattle.rows.proofs.Parts.{sets-append}
-use Rattle.rows.proofs.Tables.{tab-drop, tab-end}
+use Rattle.workspace.specs.Graph.{tab}
+use Rattle.workspace.proofs.Parts.{sets-append}
+use Rattle.workspace.proofs.Tables.{tab-drop, tab-end}
 use Rattle.writing.specs.Wrote.{Wrote}
 
 -- `rest` is left of `whole`

@@ -9,7 +9,7 @@ use Rattle.model.specs.Sheet.{InnerFunction, noFunction}
 use Rattle.model.specs.Reading.{Position, got}
 use Rattle.model.specs.Sections.{innerFunction}
 use Rattle.model.specs.Answer.{functionErrors, diagnosticWords}
-use Rattle.rows.specs.Layout.{FUNCTIONS, HANDED}
+use Rattle.workspace.specs.Layout.{FUNCTIONS, HANDED}
 use Rattle.writing.specs.Wrote.{Wrote}
 
 -- each inner function is read at the position in its word

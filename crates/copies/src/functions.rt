@@ -12,8 +12,8 @@ use crate::Copied;
 use hir::Cursor;
 use hir::FunctionId;
 use hir::WordStep;
-use rows::FUNCTIONS;
-use rows::HANDED;
+use workspace::FUNCTIONS;
+use workspace::HANDED;
 use writing::put;
 
 // `count` diagnostics.

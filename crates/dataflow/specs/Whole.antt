@@ -9,7 +9,7 @@ use Rattle.model.specs.Totals.{totals}
 use Rattle.model.specs.Reading.{Position}
 use Rattle.model.specs.Built.{Built, changed}
 use Rattle.model.specs.Building.{firstNodes, build}
-use Rattle.rows.specs.Layout.{SEEN, FUNCTIONS}
+use Rattle.workspace.specs.Layout.{SEEN, FUNCTIONS}
 use Rattle.building.specs.declared.Building.{Building}
 use Rattle.building.specs.Built.{builtOf, Sound}
 use Rattle.instructions.specs.declared.BuildStep.{BuildStep}

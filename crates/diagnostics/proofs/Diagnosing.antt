@@ -22,8 +22,8 @@ use Rattle.model.specs.Answer.{functionErrors, diagnosticWords, section, diagno
 use Rattle.model.proofs.Quiet.{quiet}
 use Rattle.model.proofs.Rendering.{rendered-handed}
 use Rattle.hir.proofs.WordLaws.{and-left}
-use Rattle.rows.specs.Layout.{HANDED}
-use Rattle.rows.specs.Pending.{rendersOf}
+use Rattle.workspace.specs.Layout.{HANDED}
+use Rattle.workspace.specs.Pending.{rendersOf}
 use Rattle.aliasing.specs.State.{stateOf}
 use Rattle.renders.specs.Renders.{Unmoved}
 use Rattle.writing.specs.Wrote.{Wrote}

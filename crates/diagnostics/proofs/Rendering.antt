@@ -15,11 +15,11 @@ use Rattle.model.specs.Runs.{rendered}
 use Rattle.model.specs.Answer.{functionErrors, diagnosticWords}
 use Rattle.model.proofs.Handed.{withHanded}
 use Rattle.model.proofs.Rendering.{handsOver, rendered-handed}
-use Rattle.rows.specs.Layout.{HANDED, MUTATIONS, RENDERS, FUNCTIONS}
-use Rattle.rows.specs.Rows.{rowsOf, Indexed}
-use Rattle.rows.specs.Graph.{tab, graphOfRows}
-use Rattle.rows.specs.Pending.{renderOf, renderAt, rendersOf}
-use Rattle.rows.proofs.Parts.{drop-word}
+use Rattle.workspace.specs.Layout.{HANDED, MUTATIONS, RENDERS, FUNCTIONS}
+use Rattle.workspace.specs.Rows.{rowsOf, Indexed}
+use Rattle.workspace.specs.Graph.{tab, graphOfRows}
+use Rattle.workspace.specs.Pending.{renderOf, renderAt, rendersOf}
+use Rattle.workspace.proofs.Parts.{drop-word}
 use Rattle.aliasing.specs.State.{nodesOf, recordsOf, endsOf, stateOf}
 use Rattle.aliasing.proofs.Walks.{aside-none, aside-then, indexed-after}
 use Rattle.renders.specs.Renders.{Unmoved, Rendered}

@@ -9,8 +9,8 @@ use Rattle.model.specs.Runs.{rendered}
 use Rattle.model.specs.Building.{build}
 use Rattle.model.specs.Summary.{recorded, afterReal}
 use Rattle.model.specs.Answer.{functionErrors, diagnosticWords, section, diagnosed}
-use Rattle.rows.specs.Layout.{HANDED}
-use Rattle.rows.specs.Pending.{rendersOf}
+use Rattle.workspace.specs.Layout.{HANDED}
+use Rattle.workspace.specs.Pending.{rendersOf}
 use Rattle.aliasing.specs.State.{stateOf}
 use Rattle.renders.specs.Renders.{Unmoved}
 use Rattle.writing.specs.Wrote.{Wrote}

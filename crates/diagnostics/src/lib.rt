@@ -1,8 +1,8 @@
 // The section of diagnostics: those recorded while building, then those handed over by mutations and by renders.
 ghost use Prim.Native.Nat.{_+_, _≤_};
 ghost use Rattle.model.specs.Sheet.{Sheet};
-ghost use Rattle.rows.specs.Layout.{MUTATIONS};
-ghost use Rattle.rows.specs.Rows.{Indexed};
+ghost use Rattle.workspace.specs.Layout.{MUTATIONS};
+ghost use Rattle.workspace.specs.Rows.{Indexed};
 ghost use Rattle.writing.specs.Wrote.{farthest};
 ghost use Rattle.function.specs.Function.{Limited, Describes, Stands};
 ghost use Rattle.diagnostics.specs.Diagnosed.{RendersPut, RecordedPut, DiagnosticsPut};
@@ -12,7 +12,7 @@ use copies::functions::put_handed;
 use function::HirFunction;
 use hir::IdentifierId;
 use renders::render;
-use rows::RENDERS;
+use workspace::RENDERS;
 use writing::patch;
 use writing::put;
 

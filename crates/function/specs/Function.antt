@@ -9,7 +9,7 @@ use Rattle.model.specs.Reading.{Position, got, times, numbered}
 use Rattle.model.specs.Sections.{identifier, block}
 use Rattle.model.specs.Summary.{errors, copied}
 use Rattle.hir.specs.Says.{placeIs}
-use Rattle.rows.specs.Layout.{LEAST}
+use Rattle.workspace.specs.Layout.{LEAST}
 use Rattle.copies.specs.Functions.{Functions}
 use Rattle.summary.specs.Tracked.{trackedOf}
 use Rattle.function.specs.declared.HirFunction.{HirFunction}

@@ -3,7 +3,7 @@ use Prim.Native.Nat.{ℕ}
 use native.Mathlib.Omega.{arith}
 use mathlib.Core.List.{List}
 use mathlib.Core.Path.{refl, sym, subst, _∙_}
-use Rattle.rows.specs.Rows.{Good, Indexed}
+use Rattle.workspace.specs.Rows.{Good, Indexed}
 use Rattle.renders.specs.Renders.{Rendered}
 use Rattle.steps.specs.Steps.{Walked}
 use Rattle.graphs.specs.Graphs.{Held}

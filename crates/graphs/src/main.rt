@@ -4,21 +4,21 @@
 ghost use Prim.Native.Nat.{_+_, _≤_, _<_};
 ghost use mathlib.Core.Path.{_≡_};
 ghost use lib.ListN.{length};
-ghost use Rattle.rows.specs.Rows.{Indexed};
+ghost use Rattle.workspace.specs.Rows.{Indexed};
 ghost use Rattle.graphs.specs.Graphs.{Held};
 use files::load_words;
 use hir::IdentifierId;
 use libc::STDIN_FILENO;
 use libc::STDOUT_FILENO;
-use rows::END;
-use rows::HANDED;
-use rows::KEPT;
-use rows::LSPAN;
-use rows::MUTATIONS;
-use rows::RECORD;
-use rows::RENDERS;
-use rows::SEEN;
-use rows::TSPAN;
+use workspace::END;
+use workspace::HANDED;
+use workspace::KEPT;
+use workspace::LSPAN;
+use workspace::MUTATIONS;
+use workspace::RECORD;
+use workspace::RENDERS;
+use workspace::SEEN;
+use workspace::TSPAN;
 
 // How many graphs, walks, renders and differences there were.
 struct Tally {
@@ -287,7 +287,7 @@ fn graph(graph: &[u32], ws: &mut [u32]) -> Tally
         return one_graph(0, 0, 1);
     }
     let identifiers = count_at(graph, ends);
-    rows::clear(ws, RECORD, SEEN);
+    workspace::clear(ws, RECORD, SEEN);
     ws[KEPT] = 512;
     put_ends(graph, ends + 1, identifiers, ws);
     let p = steps::lay_out_steps(&graph[1..ends], ws);

@@ -8,7 +8,7 @@ use lib.Seq.{sets}
 use Rattle.model.specs.Sheet.{Identifier}
 use Rattle.model.specs.Reading.{Position, got, times}
 use Rattle.model.specs.Sections.{identifier}
-use Rattle.rows.specs.Layout.{END}
+use Rattle.workspace.specs.Layout.{END}
 use Rattle.model.proofs.Got.{times-done}
 use Rattle.header.proofs.Turns.{left-step, left-done}
 use Rattle.header.proofs.InPlace.{identifier-end, identifier-takes}

@@ -12,7 +12,7 @@ use Rattle.model.specs.Limits.{mostInnerDiagnostics}
 use Rattle.model.specs.Sheet.{Diagnostic, InnerFunction, noFunction}
 use Rattle.model.specs.Reading.{Position, got, pure, count, times, counted}
 use Rattle.model.specs.Sections.{diagnostic, innerFunction}
-use Rattle.rows.specs.Layout.{FUNCTIONS, SIMULATED}
+use Rattle.workspace.specs.Layout.{FUNCTIONS, SIMULATED}
 use Rattle.model.proofs.Got.{got-value, got-next, bind-got}
 use Rattle.header.proofs.Turns.{left-step, left-done}
 use Rattle.header.proofs.Within.{function-stays}

@@ -11,8 +11,8 @@ use Rattle.model.specs.Reading.{Position, got, refused, count, times}
 use Rattle.model.specs.Sections.{flags, identifier, innerFunction, sheet}
 use Rattle.model.proofs.ReadLaws.{count-reads}
 use Rattle.hir.specs.declared.Cursor.{Cursor}
-use Rattle.rows.specs.Layout.{END, FUNCTIONS, SIMULATED}
-use Rattle.rows.proofs.Parts.{drop-sets}
+use Rattle.workspace.specs.Layout.{END, FUNCTIONS, SIMULATED}
+use Rattle.workspace.proofs.Parts.{drop-sets}
 use Rattle.header.specs.Read.{Ends, Functions, afterFunctions, Tops}
 use Rattle.header.specs.declared.Next.{Next}
 use Rattle.header.specs.declared.Next.the-variants.{At, Refused}

@@ -10,7 +10,7 @@ use Rattle.model.specs.Reading.{Position, got, Read, _>>=_, pure, count, fixed,
 use Rattle.model.specs.Sections.{identifier, innerFunction, place, block}
 use Rattle.model.specs.Sections.{sheet as sheetReader}
 use Rattle.model.specs.Summary.{errors}
-use Rattle.rows.specs.Layout.{END, FUNCTIONS, SIMULATED}
+use Rattle.workspace.specs.Layout.{END, FUNCTIONS, SIMULATED}
 use Rattle.header.specs.declared.Next.{Next}
 use Rattle.header.specs.declared.Top.{Top}
 use Rattle.header.specs.declared.TopStep.{TopStep}

@@ -19,13 +19,13 @@ use Rattle.model.specs.Answer.{rangesOf, rangeWords, placeWords, diagnosticWord
 use Rattle.model.proofs.Quiet.{final-ends, quiet}
 use Rattle.model.proofs.Handed.{withHanded}
 use Rattle.model.proofs.Rendering.{render-leaves}
-use Rattle.rows.specs.Layout.{HANDED, MUTATIONS, RENDERS, SIMULATED, FUNCTIONS}
-use Rattle.rows.specs.Rows.{Indexed}
-use Rattle.rows.specs.Graph.{graphOfRows}
-use Rattle.rows.specs.Pending.{mutationsOf, rendersOf}
-use Rattle.rows.proofs.Parts.{drop-more, drop-word, slice-at}
-use Rattle.rows.proofs.Pending.{renders-kept}
-use Rattle.rows.proofs.Tables.{tab-same}
+use Rattle.workspace.specs.Layout.{HANDED, MUTATIONS, RENDERS, SIMULATED, FUNCTIONS}
+use Rattle.workspace.specs.Rows.{Indexed}
+use Rattle.workspace.specs.Graph.{graphOfRows}
+use Rattle.workspace.specs.Pending.{mutationsOf, rendersOf}
+use Rattle.workspace.proofs.Parts.{drop-more, drop-word, slice-at}
+use Rattle.workspace.proofs.Pending.{renders-kept}
+use Rattle.workspace.proofs.Tables.{tab-same}
 use Rattle.building.specs.declared.Building.{Building}
 use Rattle.aliasing.specs.State.{nodesOf, recordsOf, endsOf, stateOf}
 use Rattle.aliasing.specs.Pending.{takenOf, Processed}

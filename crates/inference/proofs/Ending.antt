@@ -9,7 +9,7 @@ use lib.Seq.{sets, sets-eq, length-sets, drop-length}
 use lib.Dec.{ltb}
 use borrow.Author.Tests.{lt-ltb, le-ltb}
 use Rattle.model.specs.Call.{Outcome as TheOutcome, refusal, accepted, fits, answerAfter, workspaceAfter}
-use Rattle.rows.specs.Sort.{clearW}
+use Rattle.workspace.specs.Sort.{clearW}
 use Rattle.writing.specs.Wrote.{Wrote}
 use Rattle.writing.proofs.Writing.{filled}
 use Rattle.inference.specs.declared.Outcome.{Outcome}

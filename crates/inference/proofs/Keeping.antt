@@ -9,12 +9,12 @@ use lib.Seq.{getD-take, getD-set-same, getD-set-other, drop-set-lt}
 use lib.Dec.{ltb}
 use borrow.Author.Tests.{lt-ltb, le-ltb}
 use Rattle.model.specs.Lists.{pick}
-use Rattle.rows.specs.Layout.{LEAST, RECORD, KEPT, END}
-use Rattle.rows.specs.Rows.{limit, Indexed, Kept}
-use Rattle.rows.specs.Sort.{clearW}
-use Rattle.rows.proofs.Parts.{drop-more, drop-word, take-word}
-use Rattle.rows.proofs.Rows.{limit-at}
-use Rattle.rows.proofs.Clearing.{kept-clear, clear-at}
+use Rattle.workspace.specs.Layout.{LEAST, RECORD, KEPT, END}
+use Rattle.workspace.specs.Rows.{limit, Indexed, Kept}
+use Rattle.workspace.specs.Sort.{clearW}
+use Rattle.workspace.proofs.Parts.{drop-more, drop-word, take-word}
+use Rattle.workspace.proofs.Rows.{limit-at}
+use Rattle.workspace.proofs.Clearing.{kept-clear, clear-at}
 use Rattle.aliasing.specs.State.{nodesOf, fieldAt, Covered}
 use Rattle.aliasing.proofs.Fields.{field-there, field-beyond, field-word}
 use Rattle.aliasing.proofs.Parts.{rows-above}

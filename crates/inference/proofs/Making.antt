@@ -16,7 +16,7 @@ use Rattle.model.specs.Summary.{copied}
 use Rattle.model.specs.Call.{IsSheet}
 use Rattle.model.proofs.WhenRead.{read-got}
 use Rattle.hir.specs.Says.{placeIs}
-use Rattle.rows.specs.Layout.{LEAST}
+use Rattle.workspace.specs.Layout.{LEAST}
 use Rattle.building.specs.declared.Building.{Building}
 use Rattle.building.specs.Built.{LaysOut}
 use Rattle.instructions.specs.declared.BuildStep.{BuildStep}

@@ -17,13 +17,13 @@ use Rattle.model.specs.Mutation.{Mutation}
 use Rattle.model.specs.Built.{Built}
 use Rattle.model.specs.Building.{build}
 use Rattle.model.specs.Summary.{sheetEnds, built}
-use Rattle.rows.specs.Layout.{LEAST, END, SEEN, FBOUND, QUEUE, MUTATIONS, RENDERS, FUNCTIONS}
-use Rattle.rows.specs.Rows.{Kept, rowsOf}
-use Rattle.rows.specs.Graph.{tab, graphOfRows}
-use Rattle.rows.specs.Pending.{mutationsOf}
-use Rattle.rows.proofs.Parts.{drop-more, take-less, take-word, slice-at, slice-sets}
-use Rattle.rows.proofs.Tables.{tab-length, tab-at}
-use Rattle.rows.proofs.Pending.{mutations-kept, renders-kept}
+use Rattle.workspace.specs.Layout.{LEAST, END, SEEN, FBOUND, QUEUE, MUTATIONS, RENDERS, FUNCTIONS}
+use Rattle.workspace.specs.Rows.{Kept, rowsOf}
+use Rattle.workspace.specs.Graph.{tab, graphOfRows}
+use Rattle.workspace.specs.Pending.{mutationsOf}
+use Rattle.workspace.proofs.Parts.{drop-more, take-less, take-word, slice-at, slice-sets}
+use Rattle.workspace.proofs.Tables.{tab-length, tab-at}
+use Rattle.workspace.proofs.Pending.{mutations-kept, renders-kept}
 use Rattle.building.specs.declared.Building.{Building}
 use Rattle.building.specs.Built.{indexOf, builtOf, LaysOut}
 use Rattle.aliasing.specs.State.{nodesOf, fieldAt, endsOf}

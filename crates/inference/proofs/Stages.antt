@@ -6,7 +6,7 @@ use mathlib.Core.Bool.{Bool}
 use mathlib.Core.List.{List, _++_}
 use Rattle.model.specs.Sheet.{Sheet}
 use Rattle.model.specs.Answer.{countWords, section}
-use Rattle.rows.specs.Layout.{MUTATIONS}
+use Rattle.workspace.specs.Layout.{MUTATIONS}
 use Rattle.building.specs.declared.Building.{Building}
 use Rattle.building.specs.Built.{indexOf}
 use Rattle.aliasing.specs.Pending.{takenOf, Processed}

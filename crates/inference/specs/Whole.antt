@@ -12,9 +12,9 @@ use Rattle.model.specs.Building.{build}
 use Rattle.model.specs.Summary.{built, marked, copied}
 use Rattle.model.specs.Answer.{answer, answerWords, rangesOf, rangeWords, placeWords, section}
 use Rattle.model.specs.Call.{IsSheet, fits}
-use Rattle.rows.specs.Layout.{RECORD, END, SEEN, HANDED}
-use Rattle.rows.specs.Rows.{Indexed}
-use Rattle.rows.specs.Pending.{mutationsOf, rendersOf}
+use Rattle.workspace.specs.Layout.{RECORD, END, SEEN, HANDED}
+use Rattle.workspace.specs.Rows.{Indexed}
+use Rattle.workspace.specs.Pending.{mutationsOf, rendersOf}
 use Rattle.building.specs.declared.Building.{Building}
 use Rattle.building.specs.Built.{indexOf}
 use Rattle.aliasing.specs.State.{nodesOf, fieldAt, Covered, endsOf, stateOf}

@@ -2,7 +2,7 @@
 ghost use mathlib.Core.Path.{_≡_};
 ghost use Prim.Native.Nat.{_≤_, max};
 ghost use lib.ListN.{length};
-ghost use Rattle.rows.specs.Rows.{Indexed};
+ghost use Rattle.workspace.specs.Rows.{Indexed};
 ghost use Rattle.model.specs.Sheet.{Sheet};
 ghost use Rattle.model.specs.Call.{refusal, IsSheet};
 ghost use Rattle.function.specs.Function.{Limited, Describes, Stands};
@@ -17,15 +17,15 @@ use instructions::BuildStep;
 use parameters::FunctionStep;
 use parameters::read_function;
 use reading::Verdict;
-use rows::END;
-use rows::KEPT;
-use rows::NODES;
-use rows::RECORD;
-use rows::clear;
 use simulation::put_effects;
 use summary::ranges::put_ranges;
 use summary::tracked::put_marked;
 use summary::walks::put_walks;
+use workspace::END;
+use workspace::KEPT;
+use workspace::NODES;
+use workspace::RECORD;
+use workspace::clear;
 
 // What is said of a call: the number of a refusal, or the answer's length.
 pub enum Outcome {

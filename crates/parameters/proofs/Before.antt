@@ -14,9 +14,9 @@ use Rattle.model.specs.Sections.{innerFunction, block}
 use Rattle.model.specs.Sections.{sheet as sheetReader}
 use Rattle.model.specs.Building.{firstPlaces}
 use Rattle.model.proofs.ReadLaws.{counted-length}
-use Rattle.rows.specs.Layout.{END, SEEN, VALUE, FBOUND, FUNCTIONS}
-use Rattle.rows.specs.Graph.{tab}
-use Rattle.rows.proofs.Parts.{take-less, drop-word, slice-at}
+use Rattle.workspace.specs.Layout.{END, SEEN, VALUE, FBOUND, FUNCTIONS}
+use Rattle.workspace.specs.Graph.{tab}
+use Rattle.workspace.proofs.Parts.{take-less, drop-word, slice-at}
 use Rattle.building.specs.declared.Building.{Building}
 use Rattle.building.specs.Built.{begun, Starts}
 use Rattle.dataflow.specs.Whole.{createdFor, First}

@@ -5,9 +5,9 @@ use mathlib.Core.Path.{_≡_, refl, sym, ap, subst, _∙_}
 use mathlib.Core.List.{List}
 use lib.ListN.{length, take}
 use lib.Seq.{slice}
-use Rattle.rows.specs.Layout.{VALUE, EDGES, ENTRIES, PREDS, RELATIONS, MUTATIONS, RENDERS, FUNCTIONS}
-use Rattle.rows.proofs.Parts.{take-less, slice-take}
-use Rattle.rows.proofs.Pending.{mutations-below, renders-below}
+use Rattle.workspace.specs.Layout.{VALUE, EDGES, ENTRIES, PREDS, RELATIONS, MUTATIONS, RENDERS, FUNCTIONS}
+use Rattle.workspace.proofs.Parts.{take-less, slice-take}
+use Rattle.workspace.proofs.Pending.{mutations-below, renders-below}
 use Rattle.building.specs.declared.Building.{Building}
 use Rattle.building.specs.Logs.{graphOfLogs, Clean}
 use Rattle.building.specs.Held.{logsOf, graphOf, operandsOf, waitingOf}

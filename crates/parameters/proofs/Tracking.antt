@@ -12,8 +12,8 @@ use Rattle.model.specs.Sections.{place}
 use Rattle.model.specs.Graph.{object, create}
 use Rattle.model.specs.Built.{Built, changed}
 use Rattle.model.proofs.Got.{got-value, got-next, not-both}
-use Rattle.rows.specs.Layout.{SEEN, FUNCTIONS}
-use Rattle.rows.proofs.Parts.{take-less, drop-more, slice-take, slice-drop}
+use Rattle.workspace.specs.Layout.{SEEN, FUNCTIONS}
+use Rattle.workspace.proofs.Parts.{take-less, drop-more, slice-take, slice-drop}
 use Rattle.building.specs.declared.Building.{Building}
 use Rattle.building.specs.Built.{builtOf, begun, Sound, Steps}
 use Rattle.dataflow.specs.Whole.{createdFor}

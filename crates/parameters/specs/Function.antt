@@ -7,7 +7,7 @@ use lib.Seq.{sets}
 use Rattle.model.specs.Sheet.{Identifier, Sheet}
 use Rattle.model.specs.Reading.{Position, got}
 use Rattle.model.specs.Sections.{sheet as sheetReader}
-use Rattle.rows.specs.Layout.{END, SEEN}
+use Rattle.workspace.specs.Layout.{END, SEEN}
 use Rattle.building.specs.declared.Building.{Building}
 use Rattle.dataflow.specs.Whole.{First}
 use Rattle.function.specs.declared.HirFunction.{HirFunction}

@@ -10,7 +10,7 @@ use Rattle.model.specs.Reading.{Position, Result, got, numbered}
 use Rattle.model.specs.Sections.{block}
 use Rattle.model.specs.Building.{firstPlaces}
 use Rattle.hir.specs.Says.{placeIs}
-use Rattle.rows.specs.Layout.{SEEN, FUNCTIONS}
+use Rattle.workspace.specs.Layout.{SEEN, FUNCTIONS}
 use Rattle.building.specs.declared.Building.{Building}
 use Rattle.building.specs.Built.{builtOf, begun, Sound}
 use Rattle.dataflow.specs.Whole.{createdFor}

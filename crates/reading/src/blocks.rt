@@ -14,7 +14,6 @@ use hir::PlaceStep;
 use hir::TerminalKind;
 use hir::WordStep;
 
-
 // The relation effects, mutations and renders so far, each no higher than one above its limit; and 1 if an instruction had a diagnosis.
 pub struct Totals {
     pub relations: u32,

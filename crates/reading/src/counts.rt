@@ -5,8 +5,8 @@ ghost use Rattle.hir.specs.Numbers.{kindSays};
 ghost use Rattle.reading.specs.Judging.{bump, withRelation, withMutation, withRender, withDiagnosis, tellKind};
 ghost use Rattle.reading.specs.TotalsSays.{totalsAre};
 use crate::blocks::Totals;
-use hir::effects::Role;
 use hir::EffectKind;
+use hir::effects::Role;
 
 // One more, but no more than `stop`.
 pub fn bump(x: u32, stop: u32) -> u32

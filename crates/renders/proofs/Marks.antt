@@ -10,7 +10,7 @@ use lib.Dec.{eqb, ltb}
 use borrow.Author.Tests.{eq-eqb, ne-eqb}
 use Rattle.model.specs.Lists.{pick, oneIf}
 use Rattle.model.specs.State.{noRecord, hasRecord}
-use Rattle.rows.proofs.Tables.{tab-at}
+use Rattle.workspace.proofs.Tables.{tab-at}
 use Rattle.aliasing.specs.State.{fieldAt, recordAt, recordsOf}
 use Rattle.aliasing.specs.Accepts.{functionW}
 use Rattle.aliasing.proofs.Packed.{has-word}

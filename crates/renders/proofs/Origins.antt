@@ -10,9 +10,9 @@ use Rattle.model.specs.Lists.{pick, consIf}
 use Rattle.model.specs.Graph.{Entry}
 use Rattle.model.specs.Walks.{belowIndex}
 use Rattle.model.specs.Renders.{origins, renderPushes}
-use Rattle.rows.specs.Rows.{rowsOf, value, rowF, rowB, Good}
-use Rattle.rows.specs.Graph.{entryRow, ownNode}
-use Rattle.rows.proofs.Rows.{rows-length}
+use Rattle.workspace.specs.Rows.{rowsOf, value, rowF, rowB, Good}
+use Rattle.workspace.specs.Graph.{entryRow, ownNode}
+use Rattle.workspace.proofs.Rows.{rows-length}
 use Rattle.aliasing.specs.Pushes.{entryW, entriesW, Pushed, Room, wordsF, wordsB, deg}
 use Rattle.aliasing.proofs.Sizes.{deg-is, list-le}
 use Rattle.aliasing.proofs.PushLaws.{room-then, room-less, pushed-on}

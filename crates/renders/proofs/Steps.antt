@@ -12,10 +12,10 @@ use lib.Dec.{eqb}
 use Rattle.model.specs.Graph.{Node, nodeAt}
 use Rattle.model.specs.State.{noRecord, hasRecord, functionOf, State}
 use Rattle.model.specs.Renders.{RenderWalk, renderPushes, handOver, passBy, renderNode, renderStep}
-use Rattle.rows.specs.Rows.{rowsOf, limit, value, rowF, rowB, Good, Kept}
-use Rattle.rows.specs.Graph.{valueOf, ownNode, graphOfRows}
-use Rattle.rows.proofs.Rows.{node-below, limit-at, value-at, value-beyond, rows-length}
-use Rattle.rows.proofs.Parts.{drop-more}
+use Rattle.workspace.specs.Rows.{rowsOf, limit, value, rowF, rowB, Good, Kept}
+use Rattle.workspace.specs.Graph.{valueOf, ownNode, graphOfRows}
+use Rattle.workspace.proofs.Rows.{node-below, limit-at, value-at, value-beyond, rows-length}
+use Rattle.workspace.proofs.Parts.{drop-more}
 use Rattle.aliasing.specs.Pushes.{Pushed, Room, deg}
 use Rattle.aliasing.proofs.PushLaws.{value-bounded, pushed-part, pushed-kept}
 use Rattle.aliasing.specs.State.{fieldAt, nodesOf, seenOf, recordsOf, endsOf, stateOf}

@@ -8,8 +8,8 @@ use lib.ListN.{length, set, replicate}
 use lib.Seq.{slice, slice-empty}
 use Rattle.model.specs.Renders.{RenderWalk, renderRun, renderStart, renderWalk}
 use Rattle.model.proofs.RenderBound.{render-bound}
-use Rattle.rows.specs.Rows.{rowsOf, Indexed}
-use Rattle.rows.specs.Sort.{clearW}
+use Rattle.workspace.specs.Rows.{rowsOf, Indexed}
+use Rattle.workspace.specs.Sort.{clearW}
 use Rattle.aliasing.specs.State.{seenOf, stateOf}
 use Rattle.aliasing.specs.Potential.{phi}
 use Rattle.aliasing.proofs.Parts.{seen-length}

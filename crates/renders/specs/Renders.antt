@@ -11,8 +11,8 @@ use Rattle.model.specs.Lists.{pick, oneIf, tally}
 use Rattle.model.specs.Mutation.{RenderOf}
 use Rattle.model.specs.Size.{entries}
 use Rattle.model.specs.Renders.{RenderWalk, renderStep, renderRun, renderWalk}
-use Rattle.rows.specs.Layout.{LEAST, QUEUE, HANDED, MUTATIONS}
-use Rattle.rows.specs.Rows.{rowsOf, rowB, Good}
+use Rattle.workspace.specs.Layout.{LEAST, QUEUE, HANDED, MUTATIONS}
+use Rattle.workspace.specs.Rows.{rowsOf, rowB, Good}
 use Rattle.aliasing.specs.Pushes.{entriesW}
 use Rattle.aliasing.specs.State.{nodesOf, seenOf, stateOf}
 use Rattle.aliasing.specs.Potential.{phi}

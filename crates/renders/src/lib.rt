@@ -2,22 +2,22 @@
 ghost use mathlib.Core.Path.{_≡_};
 ghost use Prim.Native.Nat.{_+_, _*_, _≤_, _<_};
 ghost use lib.ListN.{length};
-ghost use Rattle.rows.specs.Layout.{LEAST, QUEUE};
-ghost use Rattle.rows.specs.Rows.{Indexed, rowsOf, value};
+ghost use Rattle.workspace.specs.Layout.{LEAST, QUEUE};
+ghost use Rattle.workspace.specs.Rows.{Indexed, rowsOf, value};
 ghost use Rattle.aliasing.specs.Pushes.{Pushed, Room, deg};
 ghost use Rattle.renders.specs.Renders.{passesW, originsW, Ready, Stepped, Walked, Rendered};
 use aliasing::Taken;
 use aliasing::append_function_errors;
 use aliasing::field;
-use hir::IdentifierId;
 use aliasing::pushes::push_list;
-use rows::HANDED;
-use rows::NODES;
-use rows::QUEUE;
-use rows::RECORD;
-use rows::SEEN;
-use rows::VALUE;
-use rows::clear;
+use hir::IdentifierId;
+use workspace::HANDED;
+use workspace::NODES;
+use workspace::QUEUE;
+use workspace::RECORD;
+use workspace::SEEN;
+use workspace::VALUE;
+use workspace::clear;
 
 // What a step leaves: the queue's top, and where the next function is to be handed over.
 struct Next {

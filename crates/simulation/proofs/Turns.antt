@@ -16,11 +16,11 @@ use Rattle.model.specs.Simulated.{tracked, simulation, flowEffects, simulate}
 use Rattle.model.specs.Answer.{effectWords}
 use Rattle.model.proofs.Handed.{withHanded}
 use Rattle.model.proofs.Simulating.{takenBy, After, after-start, after-turn, after-done}
-use Rattle.rows.specs.Layout.{HANDED, MUTATIONS, SIMULATED}
-use Rattle.rows.specs.Rows.{rowsOf, Good, Indexed, Kept}
-use Rattle.rows.specs.Graph.{tab}
-use Rattle.rows.proofs.Parts.{kept-none, kept-set, drop-more, drop-word, slice-drop}
-use Rattle.rows.proofs.Tables.{tab-length, tab-at, tab-same}
+use Rattle.workspace.specs.Layout.{HANDED, MUTATIONS, SIMULATED}
+use Rattle.workspace.specs.Rows.{rowsOf, Good, Indexed, Kept}
+use Rattle.workspace.specs.Graph.{tab}
+use Rattle.workspace.proofs.Parts.{kept-none, kept-set, drop-more, drop-word, slice-drop}
+use Rattle.workspace.proofs.Tables.{tab-length, tab-at, tab-same}
 use Rattle.aliasing.specs.declared.Mutation.{Mutation as CodeMutation}
 use Rattle.aliasing.specs.Says.{modeSays, mutationSays}
 use Rattle.aliasing.specs.State.{Covered, stateOf, Handing}

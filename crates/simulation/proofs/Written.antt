@@ -13,8 +13,8 @@ use Rattle.model.specs.Summary.{afterRenders, copied, collectParamEffects, crea
 use Rattle.model.specs.Simulated.{simulate}
 use Rattle.model.specs.Answer.{effectWords, section, summary}
 use Rattle.hir.specs.Says.{placeIs}
-use Rattle.rows.specs.Layout.{HANDED, MUTATIONS, SIMULATED}
-use Rattle.rows.specs.Rows.{Good, Indexed}
+use Rattle.workspace.specs.Layout.{HANDED, MUTATIONS, SIMULATED}
+use Rattle.workspace.specs.Rows.{Good, Indexed}
 use Rattle.aliasing.proofs.Parts.{slice-below, nodes-below, rows-below}
 use Rattle.aliasing.proofs.Fields.{covered-nodes}
 use Rattle.aliasing.proofs.Steps.{state-same}

@@ -12,7 +12,7 @@ use Rattle.model.specs.Walks.{Walk}
 use Rattle.model.specs.Summary.{copied, afterRenders}
 use Rattle.model.specs.Simulated.{tracked, simulate}
 use Rattle.model.specs.Answer.{effectWords, section, summary}
-use Rattle.rows.specs.Layout.{HANDED, MUTATIONS, SIMULATED}
+use Rattle.workspace.specs.Layout.{HANDED, MUTATIONS, SIMULATED}
 use Rattle.aliasing.specs.State.{Covered, stateOf}
 use Rattle.writing.specs.Wrote.{Wrote}
 use Rattle.summary.specs.Tracked.{trackedOf}

@@ -12,12 +12,12 @@ use Rattle.model.specs.Lists.{Every}
 use Rattle.model.specs.Mutation.{Mutation}
 use Rattle.model.specs.Built.{Built}
 use Rattle.model.proofs.Everywhere.{every-append}
-use Rattle.rows.specs.Layout.{KEPT, SEEN, VALUE, FBOUND, NODES, HANDED, MUTATIONS}
-use Rattle.rows.specs.Rows.{Good, Indexed}
-use Rattle.rows.specs.Graph.{tab}
-use Rattle.rows.specs.Pending.{mutationOf, mutationAt, mutationsOf}
-use Rattle.rows.proofs.Parts.{take-less}
-use Rattle.rows.proofs.Rows.{limit-at}
+use Rattle.workspace.specs.Layout.{KEPT, SEEN, VALUE, FBOUND, NODES, HANDED, MUTATIONS}
+use Rattle.workspace.specs.Rows.{Good, Indexed}
+use Rattle.workspace.specs.Graph.{tab}
+use Rattle.workspace.specs.Pending.{mutationOf, mutationAt, mutationsOf}
+use Rattle.workspace.proofs.Parts.{take-less}
+use Rattle.workspace.proofs.Rows.{limit-at}
 use Rattle.building.specs.Built.{Sound, Steps, Starts, LaysOut}
 use Rattle.building.specs.declared.Building.{Building}
 use Rattle.aliasing.specs.State.{nodesOf, Covered}

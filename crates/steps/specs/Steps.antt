@@ -4,8 +4,8 @@ use mathlib.Core.List.{List}
 use mathlib.Core.Path.{_≡_}
 use lib.ListN.{length, getD, take}
 use Rattle.model.specs.Limits.{mostOrder}
-use Rattle.rows.specs.Layout.{SEEN, HANDED, MUTATIONS}
-use Rattle.rows.specs.Rows.{Indexed}
+use Rattle.workspace.specs.Layout.{SEEN, HANDED, MUTATIONS}
+use Rattle.workspace.specs.Rows.{Indexed}
 use Rattle.building.specs.Built.{Sound}
 use Rattle.building.specs.declared.Building.{Building}
 use Rattle.steps.specs.declared.Pending.{Pending}

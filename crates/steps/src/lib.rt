@@ -4,8 +4,8 @@ ghost use mathlib.Core.Bool.{true};
 ghost use mathlib.Core.Path.{_≡_};
 ghost use Prim.Native.Nat.{_+_, _*_, _≤_, _<_};
 ghost use lib.ListN.{length};
-ghost use Rattle.rows.specs.Layout.{LEAST, MUTATIONS};
-ghost use Rattle.rows.specs.Rows.{Indexed};
+ghost use Rattle.workspace.specs.Layout.{LEAST, MUTATIONS};
+ghost use Rattle.workspace.specs.Rows.{Indexed};
 ghost use Rattle.building.specs.Built.{FunctionBelow, Sound};
 ghost use Rattle.steps.specs.Steps.{Goes, Orders, Laid, Walked};
 use building::Building;
@@ -14,10 +14,10 @@ use hir::BlockId;
 use hir::EvaluationOrder;
 use hir::FunctionId;
 use hir::IdentifierId;
-use rows::HANDED;
-use rows::KEPT;
-use rows::MUTATIONS;
-use rows::NODES;
+use workspace::HANDED;
+use workspace::KEPT;
+use workspace::MUTATIONS;
+use workspace::NODES;
 
 // What building leaves: how many mutations and renders are to come.
 #[repr(C)]

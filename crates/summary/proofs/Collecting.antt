@@ -10,8 +10,8 @@ use Rattle.model.specs.Mutation.{reasonOf}
 use Rattle.model.specs.State.{Record, State}
 use Rattle.model.specs.Summary.{reasonWord, localEffects, transitiveEffects, collectParamEffects}
 use Rattle.model.specs.Answer.{effectWords}
-use Rattle.rows.specs.Layout.{RECORD, LSPAN, TSPAN}
-use Rattle.rows.specs.Graph.{tab}
+use Rattle.workspace.specs.Layout.{RECORD, LSPAN, TSPAN}
+use Rattle.workspace.specs.Graph.{tab}
 use Rattle.aliasing.specs.State.{nodesOf, infoOf, recordIn, fieldAt, stateOf}
 use Rattle.writing.specs.Wrote.{Wrote}
 use Rattle.writing.proofs.Writing.{wrote-then, wrote-as}

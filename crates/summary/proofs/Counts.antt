@@ -6,8 +6,8 @@ use mathlib.Core.List.{List, [], _∷_, _++_}
 use lib.ListN.{length, getD, length-append}
 use Rattle.model.specs.Lists.{gather}
 use Rattle.model.specs.Answer.{countWords, section}
-use Rattle.rows.specs.Layout.{MUTATIONS, SIMULATED}
-use Rattle.rows.proofs.Tables.{tab-length}
+use Rattle.workspace.specs.Layout.{MUTATIONS, SIMULATED}
+use Rattle.workspace.proofs.Tables.{tab-length}
 use Rattle.aliasing.specs.Pending.{takenOf}
 use Rattle.writing.specs.Wrote.{Wrote}
 use Rattle.writing.proofs.Writing.{wrote-then, wrote-as}

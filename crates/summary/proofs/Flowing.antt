@@ -12,8 +12,8 @@ use Rattle.model.specs.Sheet.{Place, EffectKind, Alias, Capture, Effect}
 use Rattle.model.specs.State.{Record, State}
 use Rattle.model.specs.Simulated.{tracked, flows, flowEffect, flowEffects}
 use Rattle.model.specs.Answer.{effectWords}
-use Rattle.rows.specs.Layout.{RECORD}
-use Rattle.rows.specs.Graph.{tab}
+use Rattle.workspace.specs.Layout.{RECORD}
+use Rattle.workspace.specs.Graph.{tab}
 use Rattle.aliasing.specs.State.{nodesOf, fieldAt, stateOf}
 use Rattle.writing.specs.Wrote.{Wrote}
 use Rattle.writing.proofs.Writing.{wrote-as, wrote-none}

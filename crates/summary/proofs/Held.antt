@@ -8,8 +8,8 @@ use lib.ListN.{getD}
 use lib.Seq.{getD-take}
 use lib.Dec.{eqb}
 use Rattle.model.specs.State.{Record, noRecord, hasRecord, State}
-use Rattle.rows.specs.Layout.{RECORD, LSPAN, TSPAN, SEEN}
-use Rattle.rows.proofs.Tables.{tab-at}
+use Rattle.workspace.specs.Layout.{RECORD, LSPAN, TSPAN, SEEN}
+use Rattle.workspace.proofs.Tables.{tab-at}
 use Rattle.aliasing.specs.State.{nodesOf, recordIn, fieldAt, recordAt, recordsOf, stateOf}
 use Rattle.aliasing.proofs.Packed.{has-word}
 use Rattle.summary.specs.Records.{Holds}

@@ -12,11 +12,11 @@ use Rattle.model.specs.Sheet.{Place}
 use Rattle.model.specs.Traits.{captureEffect}
 use Rattle.model.specs.State.{hasRecord, State}
 use Rattle.model.specs.Summary.{recordOf, captureMark, marked}
-use Rattle.rows.specs.Layout.{SEEN}
-use Rattle.rows.specs.Rows.{Kept}
-use Rattle.rows.specs.Graph.{tab}
-use Rattle.rows.proofs.Parts.{kept-none, kept-then, take-less}
-use Rattle.rows.proofs.Tables.{tab-same, tab-length}
+use Rattle.workspace.specs.Layout.{SEEN}
+use Rattle.workspace.specs.Rows.{Kept}
+use Rattle.workspace.specs.Graph.{tab}
+use Rattle.workspace.proofs.Parts.{kept-none, kept-then, take-less}
+use Rattle.workspace.proofs.Tables.{tab-same, tab-length}
 use Rattle.aliasing.specs.State.{nodesOf, recordAt, recordsOf, stateOf}
 use Rattle.writing.specs.Wrote.{Wrote}
 use Rattle.writing.proofs.Writing.{wrote-then, wrote-as}

@@ -9,10 +9,10 @@ use lib.ListN.{length, getD, set, take, drop, length-set}
 use lib.Seq.{getD-set-same, getD-set-other}
 use Rattle.model.specs.Sheet.{Place}
 use Rattle.model.specs.Traits.{traitsWord}
-use Rattle.rows.specs.Rows.{Kept}
-use Rattle.rows.specs.Graph.{tab}
-use Rattle.rows.proofs.Parts.{kept-none, kept-set, take-word, drop-word}
-use Rattle.rows.proofs.Tables.{tab-same}
+use Rattle.workspace.specs.Rows.{Kept}
+use Rattle.workspace.specs.Graph.{tab}
+use Rattle.workspace.proofs.Parts.{kept-none, kept-set, take-word, drop-word}
+use Rattle.workspace.proofs.Tables.{tab-same}
 use Rattle.summary.specs.Tracked.{TRACKED, placeOf, trackedAt, trackedOf, trackedFrom, Tracks}
 use Rattle.summary.proofs.Words.{place-back, place-below}
 

@@ -13,8 +13,8 @@ use Rattle.model.specs.State.{State}
 use Rattle.model.specs.Summary.{marked, collectParamEffects}
 use Rattle.model.specs.Simulated.{tracked, flows, flowEffect, flowEffects}
 use Rattle.model.specs.Answer.{Range, rangesOf, rangeWords, placeWords, effectWords, countWords, section}
-use Rattle.rows.specs.Graph.{tab}
-use Rattle.rows.proofs.Tables.{tab-length}
+use Rattle.workspace.specs.Graph.{tab}
+use Rattle.workspace.proofs.Tables.{tab-length}
 use Rattle.aliasing.specs.State.{nodesOf, endsOf, stateOf}
 use Rattle.aliasing.specs.Pending.{takenOf}
 use Rattle.writing.specs.Wrote.{Wrote}

@@ -11,9 +11,9 @@ use Rattle.model.specs.Reading.{Position, got, times}
 use Rattle.model.specs.Sections.{identifier}
 use Rattle.model.specs.Answer.{Range, rangesOf, rangeWords, section}
 use Rattle.model.proofs.Got.{times-step, times-done}
-use Rattle.rows.specs.Layout.{END}
-use Rattle.rows.specs.Graph.{tab}
-use Rattle.rows.proofs.Tables.{tab-length, tab-at, tab-drop, tab-end}
+use Rattle.workspace.specs.Layout.{END}
+use Rattle.workspace.specs.Graph.{tab}
+use Rattle.workspace.proofs.Tables.{tab-length, tab-at, tab-drop, tab-end}
 use Rattle.aliasing.specs.State.{nodesOf, fieldAt, endsOf}
 use Rattle.writing.specs.Wrote.{Wrote}
 use Rattle.writing.proofs.Writing.{wrote-then, wrote-as}

@@ -9,8 +9,8 @@ use lib.Seq.{take-at, drop-at}
 use Rattle.model.specs.Sheet.{Place, Sheet}
 use Rattle.model.specs.Summary.{marked, afterRenders}
 use Rattle.model.specs.Simulated.{tracked}
-use Rattle.rows.specs.Graph.{tab}
-use Rattle.rows.proofs.Tables.{tab-length}
+use Rattle.workspace.specs.Graph.{tab}
+use Rattle.workspace.proofs.Tables.{tab-length}
 use Rattle.summary.specs.Records.{Holds}
 use Rattle.summary.specs.Tracked.{trackedAt, trackedOf, trackedFrom, Marks}
 use Rattle.summary.proofs.Places.{tracked-parts, tracked-first, tracked-high, map-append}

@@ -9,8 +9,8 @@ use Rattle.model.specs.State.{State}
 use Rattle.model.specs.Summary.{marked}
 use Rattle.model.specs.Simulated.{tracked, flows, flowEffect, flowEffects}
 use Rattle.model.specs.Answer.{placeWords, effectWords, section}
-use Rattle.rows.specs.Layout.{SIMULATED}
-use Rattle.rows.specs.Graph.{tab}
+use Rattle.workspace.specs.Layout.{SIMULATED}
+use Rattle.workspace.specs.Graph.{tab}
 use Rattle.writing.specs.Wrote.{Wrote}
 use Rattle.summary.specs.Records.{Holds}
 use Rattle.summary.specs.Tracked.{trackedOf, trackedFrom}

@@ -7,8 +7,8 @@ use Rattle.model.specs.Sheet.{Place}
 use Rattle.model.specs.Traits.{effectOf, reactiveOf}
 use Rattle.model.specs.State.{State}
 use Rattle.model.specs.Summary.{marked}
-use Rattle.rows.specs.Rows.{Kept}
-use Rattle.rows.specs.Graph.{tab}
+use Rattle.workspace.specs.Rows.{Kept}
+use Rattle.workspace.specs.Graph.{tab}
 use Rattle.summary.specs.Records.{Holds}
 
 -- where they begin; 129 places

@@ -16,7 +16,7 @@ use hir::AliasingEffect;
 use hir::EffectKind;
 use hir::IdentifierId;
 use hir::Place;
-use rows::RECORD;
+use workspace::RECORD;
 
 // Alias into returns, Capture into any other place.
 fn flow_kind(into: IdentifierId, returns: IdentifierId) -> EffectKind

@@ -5,7 +5,7 @@ ghost use Rattle.writing.specs.Wrote.{farthest};
 ghost use Rattle.summary.specs.Ranges.{Ranges};
 use aliasing::field;
 use hir::Cursor;
-use rows::END;
+use workspace::END;
 use writing::put;
 
 // The ranges of n identifiers, which stand from c on, with the ends in the workspace.

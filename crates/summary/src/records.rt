@@ -19,9 +19,9 @@ use copies::put_effect;
 use hir::AliasingEffect;
 use hir::EffectKind;
 use hir::Place;
-use rows::LSPAN;
-use rows::RECORD;
-use rows::TSPAN;
+use workspace::LSPAN;
+use workspace::RECORD;
+use workspace::TSPAN;
 
 // A reason as an extra word.
 fn reason_word(reason: u32) -> u32

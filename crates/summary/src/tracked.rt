@@ -18,7 +18,7 @@ use hir::Place;
 use hir::places::effect_of;
 use hir::places::reactive_of;
 use hir::places::traits_word;
-use rows::RECORD;
+use workspace::RECORD;
 use writing::put;
 
 pub const TRACKED: usize = 15812;

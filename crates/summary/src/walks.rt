@@ -7,8 +7,8 @@ ghost use Rattle.model.specs.Answer.{countWords, section};
 ghost use Rattle.aliasing.specs.Pending.{takenOf};
 ghost use Rattle.writing.specs.Wrote.{Wrote, farthest};
 ghost use Rattle.summary.specs.Sections.{simulatedOf};
-use rows::MUTATIONS;
-use rows::SIMULATED;
+use workspace::MUTATIONS;
+use workspace::SIMULATED;
 use writing::put;
 
 // The counts of the real walks.

@@ -5,7 +5,7 @@ use mathlib.Core.Path.{_≡_, refl, sym, ap, _∙_}
 use mathlib.Core.List.{List, [], _∷_, _++_, append-nil}
 use lib.ListN.{length, set, replicate, length-append, length-replicate, drop-of-length-le}
 use lib.Seq.{sets, sets-eq, set-set, set-comm}
-use Rattle.rows.proofs.Parts.{sets-append}
+use Rattle.workspace.proofs.Parts.{sets-append}
 use Rattle.writing.specs.Wrote.{Wrote}
 
 -- nothing written

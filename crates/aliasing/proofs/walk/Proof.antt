@@ -1,7 +1,7 @@
 use Rattle.aliasing.proofs.Walks.{WalkInv, walk-start, walk-turn, walk-end}
 use Rattle.aliasing.specs.Potential.{phi}
 use Rattle.aliasing.specs.State.{seenOf, levels}
-use Rattle.rows.specs.Rows.{rowsOf}
+use Rattle.workspace.specs.Rows.{rowsOf}
 use native.Mathlib.Omega.{arith}
 use Prim.Native.Nat.{_+_}
 use Rattle.aliasing.proofs.walk.Statement.{statement}

@@ -3,7 +3,7 @@ use Rattle.aliasing.proofs.Conditional.{stepped-conditional}
 use Rattle.aliasing.specs.Potential.{phi}
 use Rattle.aliasing.specs.State.{seenOf, levels}
 use Rattle.aliasing.specs.Walks.{AllConditional}
-use Rattle.rows.specs.Rows.{rowsOf}
+use Rattle.workspace.specs.Rows.{rowsOf}
 use native.Mathlib.Omega.{arith}
 use Prim.Native.Nat.{_+_}
 use Rattle.aliasing.proofs.walk_conditional.Statement.{statement}

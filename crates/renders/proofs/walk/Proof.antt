@@ -1,7 +1,7 @@
 use Rattle.renders.proofs.Walks.{WalkInv, walk-start, walk-turn, walk-end}
 use Rattle.aliasing.specs.Potential.{phi}
 use Rattle.aliasing.specs.State.{seenOf}
-use Rattle.rows.specs.Rows.{rowsOf}
+use Rattle.workspace.specs.Rows.{rowsOf}
 use Prim.Native.Nat.{_+_}
 use native.Mathlib.Omega.{arith}
 use Rattle.renders.proofs.walk.Statement.{statement}

@@ -2,9 +2,9 @@ use Prim.Native.Nat.{ℕ, _+_, _-_, _*_}
 use native.Mathlib.Omega.{arith}
 use mathlib.Core.List.{List}
 use mathlib.Core.Path.{sym, ap, subst, _∙_}
-use Rattle.rows.specs.Rows.{rowB, rowsOf}
+use Rattle.workspace.specs.Rows.{rowB, rowsOf}
 use Rattle.aliasing.specs.Pushes.{entriesW, Pushed, wordsB, blockedW}
-use Rattle.rows.proofs.Rows.{rows-length}
+use Rattle.workspace.proofs.Rows.{rows-length}
 use Rattle.aliasing.proofs.PushLaws.{value-bounded, room-then, room-less, pushed-limit, pushed-on, pushed-none, aliases-open, aliases-shut}
 use Rattle.aliasing.proofs.Sizes.{list-le}
 use borrow.Author.Needs.{needs}

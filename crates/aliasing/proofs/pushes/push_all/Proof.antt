@@ -1,5 +1,5 @@
 use native.Mathlib.Omega.{arith}
-use Rattle.rows.proofs.Rows.{limit-at}
+use Rattle.workspace.proofs.Rows.{limit-at}
 use Rattle.aliasing.proofs.PushLaws.{pushed-length, all-beyond}
 use Rattle.aliasing.proofs.pushes.push_all.Statement.{statement}
 use Rattle.aliasing.proofs.pushes.push_all.Tie as tie

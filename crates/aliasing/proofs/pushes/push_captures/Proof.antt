@@ -2,7 +2,7 @@ use Prim.Native.Nat.{ℕ, _-_}
 use native.Mathlib.Omega.{arith}
 use mathlib.Core.List.{List}
 use mathlib.Core.Path.{subst}
-use Rattle.rows.specs.Rows.{rowsOf}
+use Rattle.workspace.specs.Rows.{rowsOf}
 use Rattle.aliasing.specs.Pushes.{Pushed}
 use Rattle.aliasing.proofs.PushLaws.{pushed-none, captures-open, captures-shut}
 use borrow.Author.Needs.{needs}

@@ -2,10 +2,10 @@ use Prim.Native.Nat.{ℕ, _+_, _-_}
 use native.Mathlib.Omega.{arith}
 use mathlib.Core.List.{List}
 use mathlib.Core.Path.{subst}
-use Rattle.rows.specs.Layout.{FBOUND}
-use Rattle.rows.specs.Rows.{rowsOf, fb}
+use Rattle.workspace.specs.Layout.{FBOUND}
+use Rattle.workspace.specs.Rows.{rowsOf, fb}
 use Rattle.aliasing.specs.Pushes.{forwardW, Pushed}
-use Rattle.rows.proofs.Rows.{Bounds, edge-bounds, rowF-at}
+use Rattle.workspace.proofs.Rows.{Bounds, edge-bounds, rowF-at}
 use Rattle.aliasing.proofs.pushes.push_edges.Statement.{statement}
 use Rattle.aliasing.proofs.pushes.push_edges.Tie as tie
 

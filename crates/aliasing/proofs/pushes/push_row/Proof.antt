@@ -2,10 +2,10 @@ use Prim.Native.Nat.{ℕ, _+_, _-_}
 use native.Mathlib.Omega.{arith}
 use mathlib.Core.List.{List}
 use mathlib.Core.Path.{subst}
-use Rattle.rows.specs.Layout.{BBOUND}
-use Rattle.rows.specs.Rows.{rowsOf, bb}
+use Rattle.workspace.specs.Layout.{BBOUND}
+use Rattle.workspace.specs.Rows.{rowsOf, bb}
 use Rattle.aliasing.specs.Pushes.{entriesW, Pushed}
-use Rattle.rows.proofs.Rows.{Bounds, list-bounds, rowB-at}
+use Rattle.workspace.proofs.Rows.{Bounds, list-bounds, rowB-at}
 use Rattle.aliasing.proofs.pushes.push_row.Statement.{statement}
 use Rattle.aliasing.proofs.pushes.push_row.Tie as tie
 

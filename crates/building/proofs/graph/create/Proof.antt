@@ -1,5 +1,5 @@
 use native.Mathlib.Omega.{arith}
-use Rattle.rows.specs.Layout.{VALUE}
+use Rattle.workspace.specs.Layout.{VALUE}
 use Rattle.building.proofs.Writes.{create-new, create-again}
 use lib.ListN.{length-set}
 use Prim.Native.Nat.{_+_}

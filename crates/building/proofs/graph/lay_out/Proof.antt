@@ -1,5 +1,5 @@
 use native.Mathlib.Omega.{arith}
-use Rattle.rows.specs.Layout.{NODES}
+use Rattle.workspace.specs.Layout.{NODES}
 use Rattle.building.proofs.LayOut.{lay-edges, lay-entries, noting-room, noted-laid}
 use lib.ListN.{length-set}
 use Rattle.building.proofs.graph.lay_out.Statement.{statement}

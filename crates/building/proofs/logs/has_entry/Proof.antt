@@ -1,4 +1,4 @@
-use Rattle.rows.specs.Layout.{ENTRIES}
+use Rattle.workspace.specs.Layout.{ENTRIES}
 use mathlib.Core.Bool.{false}
 use Rattle.building.proofs.Loops.{Testing, test-start, test-found, test-turn, test-end}
 use Prim.Native.Nat.{_-_}

@@ -1,4 +1,4 @@
-use Rattle.rows.specs.Layout.{SEEN}
+use Rattle.workspace.specs.Layout.{SEEN}
 use mathlib.Core.Bool.{false}
 use mathlib.Core.Path.{sym, _∙_}
 use Prim.Native.Nat.{_-_}

@@ -1,5 +1,5 @@
 use lib.Dec.{eqb}
-use Rattle.rows.specs.Layout.{PREDS}
+use Rattle.workspace.specs.Layout.{PREDS}
 use Rattle.building.specs.Held.{Others}
 use Rattle.building.proofs.Loops.{others-start, others-turn}
 use mathlib.Core.Path.{sym, _∙_}

@@ -1,4 +1,4 @@
-use Rattle.rows.specs.Layout.{PREDS}
+use Rattle.workspace.specs.Layout.{PREDS}
 use Rattle.building.specs.Held.{Moved}
 use Rattle.building.proofs.Operands.{move-start, move-turn, move-end}
 use Rattle.building.proofs.Runs.{move-then}

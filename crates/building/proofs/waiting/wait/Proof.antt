@@ -1,4 +1,4 @@
-use Rattle.rows.specs.Layout.{PREDS}
+use Rattle.workspace.specs.Layout.{PREDS}
 use Rattle.building.proofs.Operands.{wait-waits}
 use lib.ListN.{length-set}
 use native.Mathlib.Omega.{arith}

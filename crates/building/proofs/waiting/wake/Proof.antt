@@ -1,4 +1,4 @@
-use Rattle.rows.specs.Layout.{RELATIONS}
+use Rattle.workspace.specs.Layout.{RELATIONS}
 use Rattle.building.proofs.Operands.{Waking, wake-start, wake-stay, wake-move, wake-room, wake-store, wake-end}
 use mathlib.Core.Path.{refl}
 use Prim.Native.Nat.{_-_, _+_}

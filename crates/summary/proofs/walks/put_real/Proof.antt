@@ -1,7 +1,7 @@
 use Rattle.copies.proofs.Loops.{Leaves, leaves-all, table-turn, table-end}
 use Rattle.aliasing.specs.Pending.{takenOf}
-use Rattle.rows.specs.Graph.{tab}
-use Rattle.rows.specs.Layout.{MUTATIONS}
+use Rattle.workspace.specs.Graph.{tab}
+use Rattle.workspace.specs.Layout.{MUTATIONS}
 use Rattle.model.specs.Answer.{countWords}
 use Rattle.model.specs.Lists.{gather}
 use lib.ListN.{length, getD, drop}

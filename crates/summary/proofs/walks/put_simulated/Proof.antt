@@ -1,7 +1,7 @@
 use Rattle.summary.specs.Sections.{simulatedOf}
 use Rattle.copies.proofs.Loops.{Leaves, leaves-all, table-turn, table-end}
-use Rattle.rows.specs.Graph.{tab}
-use Rattle.rows.specs.Layout.{SIMULATED}
+use Rattle.workspace.specs.Graph.{tab}
+use Rattle.workspace.specs.Layout.{SIMULATED}
 use Rattle.model.specs.Answer.{countWords}
 use Rattle.model.specs.Lists.{gather}
 use lib.ListN.{length, getD, drop}
