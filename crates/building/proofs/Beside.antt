@@ -20,7 +20,7 @@ use Rattle.building.specs.Logs.{graphOfLogs, Clean}
 use Rattle.building.specs.Held.{logsOf, graphOf, operandsOf, waitingOf}
 use Rattle.building.specs.Built.{placeAt, indexOf, builtOf, Sound, Steps, PushesMutation, PushesRender, PushesBlock}
 use Rattle.building.proofs.Writes.{logs-eq, waits-same}
-use Rattle.building.proofs.PushLaws.{come-kept}
+use Rattle.building.proofs.Pushes.{come-kept}
 use Rattle.building.proofs.Stages.{built-eq}
 
 -- ---- what is held stays

@@ -22,7 +22,7 @@ use Rattle.building.specs.declared.NodeValue.the-variants.{Function}
 use Rattle.building.specs.Logs.{Clean}
 use Rattle.building.specs.Held.{logsOf, graphOf, waitingOf, Room, Builds, Waits, Wakes}
 use Rattle.building.specs.Built.{valueIs, FunctionBelow, placeAt, comeOf, indexOf, builtOf, Sound, Steps}
-use Rattle.building.proofs.PushLaws.{come-kept}
+use Rattle.building.proofs.Pushes.{come-kept}
 
 -- ---- room
 pub room-more : (ws : List ℕ) (b : Building) → Sound ws b → b .relations < 1024 → Room 1 1 ws (b .held)

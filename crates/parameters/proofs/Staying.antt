@@ -13,7 +13,7 @@ use Rattle.building.specs.Logs.{graphOfLogs, Clean}
 use Rattle.building.specs.Held.{logsOf, graphOf, operandsOf, waitingOf}
 use Rattle.building.specs.Built.{builtOf, Sound}
 use Rattle.building.proofs.Writes.{logs-eq}
-use Rattle.building.proofs.PushLaws.{come-kept}
+use Rattle.building.proofs.Pushes.{come-kept}
 use Rattle.building.proofs.Stages.{built-eq}
 
 module _ (ws ws′ : List ℕ) (b : Building) (sound : Sound ws b) (e : take FUNCTIONS ws′ ≡ take FUNCTIONS ws) where

@@ -6,7 +6,7 @@ use lib.Dec.{eqb}
 use borrow.Author.Tests.{eq-eqb, ne-eqb}
 use native.Mathlib.Omega.{arith}
 use Rattle.building.proofs.Loops.{Testing, test-start, test-found, test-turn, test-end}
-use Rattle.building.proofs.PushLaws.{come-among}
+use Rattle.building.proofs.Pushes.{come-among}
 use Rattle.building.proofs.pending.has_come.Statement.{statement}
 use Rattle.building.proofs.pending.has_come.Tie as tie
 

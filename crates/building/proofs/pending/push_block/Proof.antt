@@ -1,5 +1,5 @@
 use native.Mathlib.Omega.{arith}
-use Rattle.building.proofs.PushLaws.{block-pushed}
+use Rattle.building.proofs.Pushes.{block-pushed}
 use borrow.Author.Needs.{needs}
 use Rattle.building.proofs.pending.push_block.Statement.{statement}
 use Rattle.building.proofs.pending.push_block.Tie as tie

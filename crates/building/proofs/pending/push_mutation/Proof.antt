@@ -2,7 +2,7 @@ use Prim.Native.Nat.{_+_, _*_}
 use native.Mathlib.Omega.{arith}
 use lib.ListN.{length-set, set}
 use Rattle.workspace.specs.Layout.{MUTATIONS}
-use Rattle.building.proofs.PushLaws.{mutation-pushed}
+use Rattle.building.proofs.Pushes.{mutation-pushed}
 use borrow.Author.Needs.{needs}
 use Rattle.building.proofs.pending.push_mutation.Statement.{statement}
 use Rattle.building.proofs.pending.push_mutation.Tie as tie

@@ -1,5 +1,5 @@
 use native.Mathlib.Omega.{arith}
-use Rattle.building.proofs.PushLaws.{render-pushed}
+use Rattle.building.proofs.Pushes.{render-pushed}
 use borrow.Author.Needs.{needs}
 use Rattle.building.proofs.pending.push_render.Statement.{statement}
 use Rattle.building.proofs.pending.push_render.Tie as tie
