@@ -8,3 +8,6 @@ pub mod RunLaws
 pub mod EffectTable
 pub mod Fits
 pub mod LimitTable
+pub mod Standing
+pub mod AtLaws
+pub mod Widths

@@ -2,5 +2,7 @@ pub mod Fits
 pub mod Numbers
 pub mod Runs
 pub mod Says
+pub mod Words
+pub mod Parts
 pub mod EffectFits
 pub mod Table

@@ -145,7 +145,7 @@ const ROWS: [Row; 18] = [
 ];
 
 // The table's row of a kind's number; a number above 17 is refused before.
-fn row_of(number: u32) -> Row
+pub fn row_of(number: u32) -> Row
     ensures { λ r. ⌜ rowSays r ≡ tableRow number ⌝ }
 {
     let k = number as usize;

@@ -3,6 +3,7 @@ ghost use mathlib.Core.Path.{_≡_};
 ghost use lib.Dec.{eqb};
 ghost use Rattle.hir.specs.Numbers.{effectNumber, kindNumber, terminalNumber, valueNumber, reasonNumber};
 
+pub mod at;
 pub mod effects;
 pub mod parts;
 pub mod places;
@@ -128,6 +129,9 @@ pub struct AliasingEffect {
     pub second: Place,
     pub extra: u32,
 }
+
+// What is recorded for an error: its number.
+pub struct Diagnostic(pub u32);
 
 // The terminals that matter here; every other one is `Other`.
 pub enum TerminalKind {

@@ -1,0 +1,80 @@
+-- How wide parts are, and that none ends before it begins.
+use Prim.Native.Nat.{ℕ, zero, suc, _+_, _*_, _≤_}
+use native.Mathlib.Omega.{arith}
+use mathlib.Core.Path.{_≡_}
+use mathlib.Core.List.{List}
+use Rattle.model.specs.Reading.{Position}
+use Rattle.hir.specs.Words.{Standing, wordAt, placeWidth, effectWidth, operandWidth, wide, effectAt, operandAt, several, listed, effectsFrom, phiFrom, instructionFrom, terminalOf, terminalFrom, phisFrom, instructionsFrom, blockFrom}
+
+-- no part ends before it begins
+abbrev pub Rises : {A : Type 0} → Standing A → Type 0
+Rises f = (ws : List ℕ) (c : Position) → c ≤ f ws c .next
+
+module _ {A : Type 0} where
+  -- k parts of so many words
+  pub several-wide : (width k : ℕ) (f : List ℕ → Position → A) (ws : List ℕ) (c : Position) → several k (wide width f) ws c .next ≡ c + k * width
+  unfolding several
+  several-wide width zero f ws c = omega arith
+  several-wide width (suc k) f ws c = omega (arith, several-wide width k f ws (c + width))
+
+  pub several-rises : (k : ℕ) (f : Standing A) → Rises f → Rises (several k f)
+  unfolding several
+  several-rises zero f h ws c = omega arith
+  several-rises (suc k) f h ws c = omega (arith, h ws c, several-rises k f h ws (f ws c .next))
+
+  -- a count stands before what it counts
+  pub listed-rises : (f : Standing A) → Rises f → (ws : List ℕ) (c : Position) → c + 1 ≤ listed f ws c .next
+  unfolding listed
+  listed-rises f h ws c = several-rises (wordAt ws c) f h ws (c + 1)
+
+  pub wide-rises : (width : ℕ) (f : List ℕ → Position → A) → Rises (wide width f)
+  wide-rises width f ws c = omega arith
+
+pub effects-rise : (ws : List ℕ) (c : Position) → c + 1 ≤ effectsFrom ws c .next
+effects-rise = listed-rises (wide effectWidth effectAt) (wide-rises effectWidth effectAt)
+
+pub phi-rises : (ws : List ℕ) (c : Position) → c + placeWidth + 1 ≤ phiFrom ws c .next
+unfolding phiFrom
+phi-rises ws c = listed-rises (wide operandWidth operandAt) (wide-rises operandWidth operandAt) ws (c + placeWidth)
+
+pub instruction-rises : (ws : List ℕ) (c : Position) → c + 2 ≤ instructionFrom ws c .next
+unfolding instructionFrom
+instruction-rises ws c = omega (arith, effects-rise ws (c + 1))
+
+terminalOf-rises : (k o : ℕ) → Rises (terminalOf k o)
+unfolding terminalOf
+terminalOf-rises zero o ws c = omega arith
+terminalOf-rises (suc zero) o ws c = omega (arith, effects-rise ws (c + placeWidth))
+terminalOf-rises (suc (suc k)) o ws c = omega (arith, effects-rise ws c)
+
+pub terminal-rises : (ws : List ℕ) (c : Position) → c + 2 ≤ terminalFrom ws c .next
+unfolding terminalFrom
+terminal-rises ws c = terminalOf-rises (wordAt ws c) (wordAt ws (c + 1)) ws (c + 2)
+
+-- what a Return and a MaybeThrow have behind their order
+pub return-rises : (ws : List ℕ) (c : Position) → wordAt ws c ≡ 1 → c + 2 + placeWidth + 1 ≤ terminalFrom ws c .next
+unfolding terminalFrom terminalOf
+return-rises ws c e = rw e (effects-rise ws (c + 2 + placeWidth))
+
+throwOf-rises : (k o : ℕ) (ws : List ℕ) (c : Position) → 2 ≤ k → c + 1 ≤ terminalOf k o ws c .next
+unfolding terminalOf
+throwOf-rises zero o ws c h = absurd (omega (arith, h))
+throwOf-rises (suc zero) o ws c h = absurd (omega (arith, h))
+throwOf-rises (suc (suc k)) o ws c h = effects-rise ws c
+
+pub throw-rises : (ws : List ℕ) (c : Position) → 2 ≤ wordAt ws c → c + 2 + 1 ≤ terminalFrom ws c .next
+unfolding terminalFrom
+throw-rises ws c h = throwOf-rises (wordAt ws c) (wordAt ws (c + 1)) ws (c + 2) h
+
+phi-follows : Rises phiFrom
+phi-follows ws c = omega (arith, phi-rises ws c)
+
+instruction-follows : Rises instructionFrom
+instruction-follows ws c = omega (arith, instruction-rises ws c)
+
+pub block-rises : (ws : List ℕ) (c : Position) → c + 1 ≤ blockFrom ws c .next
+unfolding blockFrom
+block-rises ws c =
+    let p : Position = phisFrom ws (c + 1) .next in
+    let i : Position = instructionsFrom ws p .next in
+    omega (arith, listed-rises phiFrom phi-follows ws (c + 1), listed-rises instructionFrom instruction-follows ws p, terminal-rises ws i)

@@ -1,0 +1,44 @@
+-- What the second reading's parts say: each by the words at the position where it stands.
+use Prim.Native.Nat.{ℕ, _+_, _≤_}
+use mathlib.Core.Path.{_≡_}
+use mathlib.Core.List.{List}
+use Rattle.model.specs.Reading.{Position}
+use Rattle.model.specs.Sheet.{Diagnostic as ModelDiagnostic, Operand as ModelOperand}
+use Rattle.hir.specs.Says.{placeIs}
+use Rattle.hir.specs.Words.{wordAt, placeWidth, placeAt}
+use Rattle.hir.specs.declared.Diagnostic.{Diagnostic}
+use Rattle.hir.specs.declared.at.List.{List as Listed}
+use Rattle.hir.specs.declared.at.Operand.{Operand}
+use Rattle.hir.specs.declared.at.Phi.{Phi}
+use Rattle.hir.specs.declared.at.Instruction.{Instruction}
+use Rattle.hir.specs.declared.at.Terminal.{Terminal}
+use Rattle.hir.specs.declared.at.Terminal.the-variants.{Other, Return, MaybeThrow}
+
+-- the operand as the definitions have it
+abbrev pub operandIs : Operand → ModelOperand
+operandIs o = record { predecessor = o .predecessor .0; place = placeIs (o .place) }
+
+-- the diagnostic
+abbrev pub diagnosticIs : Diagnostic → ModelDiagnostic
+diagnosticIs d = d .0
+
+-- a count, and what it counts from the next word on
+pub record ListAt (ws : List ℕ) (c : Position) (r : Listed) : Type 0 where
+  pub count : r .count ≡ wordAt ws c
+  pub first : r .first ≡ c + 1
+
+-- a phi: its place, then its operands
+pub record PhiAt (ws : List ℕ) (c : Position) (r : Phi) : Type 0 where
+  pub place : placeIs (r .place) ≡ placeAt ws c
+  pub operands : ListAt ws (c + placeWidth) (r .operands)
+
+-- an instruction: its order, then its effects
+pub record InstructionAt (ws : List ℕ) (c : Position) (r : Instruction) : Type 0 where
+  pub order : r .order .0 ≡ wordAt ws c
+  pub effects : ListAt ws (c + 1) (r .effects)
+
+-- a terminal by its kind (0 other, 1 Return, 2 MaybeThrow), behind which stands its order
+abbrev pub TerminalAt : List ℕ → Position → Terminal → Type 0
+TerminalAt ws c (Other next) = (wordAt ws c ≡ 0) × (next ≡ c + 2)
+TerminalAt ws c (Return value effects) = (wordAt ws c ≡ 1) × ((placeIs value ≡ placeAt ws (c + 2)) × ListAt ws (c + 2 + placeWidth) effects)
+TerminalAt ws c (MaybeThrow effects) = (2 ≤ wordAt ws c) × ListAt ws (c + 2) effects

@@ -1,0 +1,139 @@
+-- Document 01, "The sheet": for every part what its words say, and where it ends. Nothing is refused here: of an accepted sheet each part that
+-- was read is the one that stands there (proofs/Standing).
+use Prim.Native.Nat.{ℕ, zero, suc, _+_}
+use mathlib.Core.List.{List, [], _∷_}
+use lib.ListN.{getD}
+use Rattle.model.specs.Sheet.{Identifier, Diagnostic, InnerFunction, Place, Effect, Operand, Phi, EffectList, Instruction, Terminal, Other, Return, MaybeThrow, Block}
+use Rattle.model.specs.Traits.{effectOf, reactiveOf}
+use Rattle.model.specs.Effects.{kindOf}
+use Rattle.model.specs.Reading.{Position}
+use Rattle.model.specs.Sections.{typeOf}
+
+-- a part, and the position after it
+pub record Part (A : Type 0) : Type 0 where
+  pub what : A
+  pub next : Position
+
+-- how a part stands in the words from a position on
+abbrev pub Standing : Type 0 → Type 0
+Standing A = List ℕ → Position → Part A
+
+-- the word at c
+abbrev pub wordAt : List ℕ → Position → ℕ
+wordAt ws c = getD ws c 0
+
+-- ---- parts of a fixed width
+-- "A place is three words"
+abbrev pub placeWidth : ℕ
+placeWidth = 3
+
+-- "An effect is eight words"
+abbrev pub effectWidth : ℕ
+effectWidth = 8
+
+-- "for each operand a predecessor's number and a place"
+abbrev pub operandWidth : ℕ
+operandWidth = 4
+
+-- "range start, range end, type"
+abbrev pub identifierWidth : ℕ
+identifierWidth = 3
+
+-- a diagnostic is its number
+abbrev pub diagnosticWidth : ℕ
+diagnosticWidth = 1
+
+module _ {A : Type 0} where
+  -- a part of so many words
+  abbrev pub wide : ℕ → (List ℕ → Position → A) → Standing A
+  wide width f ws c = record { what = f ws c; next = c + width }
+
+-- a place by its three words
+abbrev pub placeOf : ℕ → ℕ → ℕ → Place
+placeOf i t s = record { identifier = i; effect = effectOf t; reactive = reactiveOf t; span = s }
+
+-- the place from c on
+abbrev pub placeAt : List ℕ → Position → Place
+placeAt ws c = placeOf (wordAt ws c) (wordAt ws (c + 1)) (wordAt ws (c + 2))
+
+-- the effect from c on: kind, first place, second place, extra
+abbrev pub effectAt : List ℕ → Position → Effect
+effectAt ws c = record {
+  kind = kindOf (wordAt ws c);
+  first = placeOf (wordAt ws (c + 1)) (wordAt ws (c + 2)) (wordAt ws (c + 3));
+  second = placeOf (wordAt ws (c + 4)) (wordAt ws (c + 5)) (wordAt ws (c + 6));
+  extra = wordAt ws (c + 7);
+}
+
+-- the operand from c on
+abbrev pub operandAt : List ℕ → Position → Operand
+operandAt ws c = record { predecessor = wordAt ws c; place = placeOf (wordAt ws (c + 1)) (wordAt ws (c + 2)) (wordAt ws (c + 3)) }
+
+-- the identifier from c on
+abbrev pub identifierAt : List ℕ → Position → Identifier
+identifierAt ws c = record { start = wordAt ws c; end = wordAt ws (c + 1); type = typeOf (wordAt ws (c + 2)) }
+
+-- the diagnostic at c
+abbrev pub diagnosticAt : List ℕ → Position → Diagnostic
+diagnosticAt ws c = wordAt ws c
+
+-- ---- several parts
+module _ {A : Type 0} where
+  -- k parts one after another
+  unfoldable pub several : ℕ → Standing A → Standing (List A)
+  several zero f ws c = record { what = []; next = c }
+  several (suc k) f ws c = record { what = f ws c .what ∷ several k f ws (f ws c .next) .what; next = several k f ws (f ws c .next) .next }
+
+  -- a count, then that many parts
+  unfoldable pub listed : Standing A → Standing (List A)
+  listed f ws c = several (wordAt ws c) f ws (c + 1)
+
+-- "an effect count and the effects"
+abbrev pub effectsFrom : Standing EffectList
+effectsFrom = listed (wide effectWidth effectAt)
+
+-- "a count, then that many diagnostic numbers"
+unfoldable pub functionFrom : Standing InnerFunction
+functionFrom ws c = record {
+  what = record { diagnostics = listed (wide diagnosticWidth diagnosticAt) ws c .what };
+  next = listed (wide diagnosticWidth diagnosticAt) ws c .next;
+}
+
+-- "each phi a place, an operand count, and the operands"
+unfoldable pub phiFrom : Standing Phi
+phiFrom ws c = record {
+  what = record { place = placeAt ws c; operands = listed (wide operandWidth operandAt) ws (c + placeWidth) .what };
+  next = listed (wide operandWidth operandAt) ws (c + placeWidth) .next;
+}
+
+-- "each an order, an effect count and the effects"
+unfoldable pub instructionFrom : Standing Instruction
+instructionFrom ws c = record {
+  what = record { order = wordAt ws c; effects = effectsFrom ws (c + 1) .what };
+  next = effectsFrom ws (c + 1) .next;
+}
+
+-- by the kind (0 other, 1 Return, 2 MaybeThrow) and the order, what follows them: "for 1 a place; for 1 and 2 an effect count and effects"
+unfoldable pub terminalOf : ℕ → ℕ → Standing Terminal
+terminalOf zero o ws c = record { what = Other o; next = c }
+terminalOf (suc zero) o ws c = record { what = Return o (placeAt ws c) (effectsFrom ws (c + placeWidth) .what); next = effectsFrom ws (c + placeWidth) .next }
+terminalOf (suc (suc k)) o ws c = record { what = MaybeThrow o (effectsFrom ws c .what); next = effectsFrom ws c .next }
+
+-- "terminal kind and order", then the rest
+unfoldable pub terminalFrom : Standing Terminal
+terminalFrom ws c = terminalOf (wordAt ws c) (wordAt ws (c + 1)) ws (c + 2)
+
+-- where a block's phis end, and its instructions
+abbrev pub phisFrom : Standing (List Phi)
+phisFrom = listed phiFrom
+
+abbrev pub instructionsFrom : Standing (List Instruction)
+instructionsFrom = listed instructionFrom
+
+-- "number; phis; instructions; terminal"
+unfoldable pub blockFrom : Standing Block
+blockFrom ws c =
+    let phis : Part (List Phi) = phisFrom ws (c + 1) in
+    let instructions : Part (List Instruction) = instructionsFrom ws (phis .next) in
+    let terminal : Part Terminal = terminalFrom ws (instructions .next) in
+    record { what = record { number = wordAt ws c; phis = phis .what; instructions = instructions .what; terminal = terminal .what }; next = terminal .next }

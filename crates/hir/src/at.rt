@@ -1,0 +1,183 @@
+// The parts of an accepted sheet, read a second time: each by the position at which it stands.
+ghost use mathlib.Core.Path.{_≡_};
+ghost use Prim.Native.Nat.{_+_, _≤_};
+ghost use lib.ListN.{length};
+ghost use Rattle.hir.specs.Says.{placeIs, effectIs, identifierIs};
+ghost use Rattle.hir.specs.Words.{wordAt, placeWidth, effectWidth, operandWidth, identifierWidth, diagnosticWidth, placeAt, effectAt, operandAt, identifierAt, diagnosticAt, terminalFrom};
+ghost use Rattle.hir.specs.Parts.{operandIs, diagnosticIs, ListAt, PhiAt, InstructionAt, TerminalAt};
+use crate::AliasingEffect;
+use crate::BlockId;
+use crate::Diagnostic;
+use crate::EvaluationOrder;
+use crate::Identifier;
+use crate::IdentifierId;
+use crate::MutableRange;
+use crate::Place;
+use crate::effects::row_of;
+use crate::parts::type_of;
+use crate::places::effect_of;
+use crate::places::reactive_of;
+
+pub const PLACE_WIDTH: usize = 3;
+
+pub const EFFECT_WIDTH: usize = 8;
+
+pub const OPERAND_WIDTH: usize = 4;
+
+pub const IDENTIFIER_WIDTH: usize = 3;
+
+pub const DIAGNOSTIC_WIDTH: usize = 1;
+
+// A list: how many parts, and where the first stands.
+pub struct List {
+    pub count: u32,
+    pub first: usize,
+}
+
+// A phi operand.
+pub struct Operand {
+    pub predecessor: BlockId,
+    pub place: Place,
+}
+
+// A phi.
+pub struct Phi {
+    pub place: Place,
+    pub operands: List,
+}
+
+// An instruction.
+pub struct Instruction {
+    pub order: EvaluationOrder,
+    pub effects: List,
+}
+
+// A terminal: what it has, and the position after one that has nothing.
+pub enum Terminal {
+    Other(usize),
+    Return(Place, List),
+    MaybeThrow(List),
+}
+
+pub fn place_at(s: &[u32], at: usize) -> Place
+    requires { ⌜ at + placeWidth ≤ length (now s) ⌝ }
+    ensures { λ r. ⌜ placeIs r ≡ placeAt (now (s .entry)) at ⌝ }
+{
+    let traits = s[at + 1];
+    let effect = effect_of(traits);
+    let reactive = reactive_of(traits);
+    Place {
+        identifier: IdentifierId(s[at]),
+        effect,
+        reactive,
+        span: s[at + 2],
+    }
+}
+
+pub fn effect_at(s: &[u32], at: usize) -> AliasingEffect
+    requires { ⌜ at + effectWidth ≤ length (now s) ⌝ }
+    ensures { λ r. ⌜ effectIs r ≡ effectAt (now (s .entry)) at ⌝ }
+{
+    let row = row_of(s[at]);
+    let kind = row.kind;
+    let first = place_at(s, at + 1);
+    let second = place_at(s, at + 4);
+    AliasingEffect {
+        kind,
+        first,
+        second,
+        extra: s[at + 7],
+    }
+}
+
+pub fn operand_at(s: &[u32], at: usize) -> Operand
+    requires { ⌜ at + operandWidth ≤ length (now s) ⌝ }
+    ensures { λ r. ⌜ operandIs r ≡ operandAt (now (s .entry)) at ⌝ }
+{
+    let place = place_at(s, at + 1);
+    Operand {
+        predecessor: BlockId(s[at]),
+        place,
+    }
+}
+
+pub fn identifier_at(s: &[u32], at: usize) -> Identifier
+    requires { ⌜ at + identifierWidth ≤ length (now s) ⌝ }
+    ensures { λ r. ⌜ identifierIs r ≡ identifierAt (now (s .entry)) at ⌝ }
+{
+    let mutable_range = MutableRange {
+        start: EvaluationOrder(s[at]),
+        end: EvaluationOrder(s[at + 1]),
+    };
+    let kind = type_of(s[at + 2]);
+    Identifier {
+        mutable_range,
+        kind,
+    }
+}
+
+// The number of a block.
+pub fn number_at(s: &[u32], at: usize) -> BlockId
+    requires { ⌜ at + 1 ≤ length (now s) ⌝ }
+    ensures { λ r. ⌜ r .0 ≡ wordAt (now (s .entry)) at ⌝ }
+{
+    BlockId(s[at])
+}
+
+// A count, and where what it counts begins.
+pub fn list_at(s: &[u32], at: usize) -> List
+    requires { ⌜ at + 1 ≤ length (now s) ⌝ }
+    ensures { λ r. ⌜ ListAt (now (s .entry)) at r ⌝ }
+{
+    List {
+        count: s[at],
+        first: at + 1,
+    }
+}
+
+pub fn phi_at(s: &[u32], at: usize) -> Phi
+    requires { ⌜ at + placeWidth + 1 ≤ length (now s) ⌝ }
+    ensures { λ r. ⌜ PhiAt (now (s .entry)) at r ⌝ }
+{
+    let place = place_at(s, at);
+    let operands = list_at(s, at + PLACE_WIDTH);
+    Phi { place, operands }
+}
+
+pub fn instruction_at(s: &[u32], at: usize) -> Instruction
+    requires { ⌜ at + 2 ≤ length (now s) ⌝ }
+    ensures { λ r. ⌜ InstructionAt (now (s .entry)) at r ⌝ }
+{
+    let effects = list_at(s, at + 1);
+    Instruction {
+        order: EvaluationOrder(s[at]),
+        effects,
+    }
+}
+
+// Of an inner function.
+pub fn diagnostic_at(s: &[u32], at: usize) -> Diagnostic
+    requires { ⌜ at + diagnosticWidth ≤ length (now s) ⌝ }
+    ensures { λ r. ⌜ diagnosticIs r ≡ diagnosticAt (now (s .entry)) at ⌝ }
+{
+    Diagnostic(s[at])
+}
+
+pub fn terminal_at(s: &[u32], at: usize) -> Terminal
+    requires { ⌜ terminalFrom (now s) at .next ≤ length (now s) ⌝ }
+    ensures { λ r. ⌜ TerminalAt (now (s .entry)) at r ⌝ }
+{
+    let inside = at + 2;
+    match s[at] {
+        0 => Terminal::Other(inside),
+        1 => {
+            let value = place_at(s, inside);
+            let effects = list_at(s, inside + PLACE_WIDTH);
+            Terminal::Return(value, effects)
+        }
+        _ => {
+            let list = list_at(s, inside);
+            Terminal::MaybeThrow(list)
+        }
+    }
+}
