@@ -7,16 +7,16 @@ use mathlib.Core.List.{List, [], _∷_}
 use lib.ListN.{length, getD}
 use lib.Dec.{ltb, leb, eqb}
 use borrow.Author.Tests.{ltb-true}
-use Rattle.model.specs.Limits.{mostRange, mostType, mostInnerDiagnostics, mostBlockNumber, mostCount, mostDiagnostic, mostKind, mostOrder, mostTerminal, mostTraits}
+use Rattle.model.specs.Limits.{flagCount, mostFlag, mostIdentifiers, mostFunctions, mostParams, mostContext, returnsCount, mostBlocks, mostRange, mostType, mostInnerDiagnostics, mostBlockNumber, mostCount, mostDiagnostic, mostKind, mostOrder, mostTerminal, mostTraits}
 use Rattle.model.specs.Lists.{pick, among}
-use Rattle.model.specs.Sheet.{Identifier, BlockId, Place, EffectKind, Effect, Operand, Phi, EffectList, Instruction, Terminal, Return, MaybeThrow, Block}
+use Rattle.model.specs.Sheet.{Flags, Identifier, BlockId, Place, EffectKind, Effect, Operand, Phi, EffectList, Instruction, Terminal, Return, MaybeThrow, Block}
 use Rattle.model.specs.Traits.{effectOf, reactiveOf}
 use Rattle.model.specs.Effects.{kindOf, rowOf, isCreateFunction}
 use Rattle.model.specs.Reading.{Position, Result, got, refused, Read, andThen, _>>=_, pure, refuse, word, count, fixed, atMost, below, newNumber, times, numbered, counted}
-use Rattle.model.specs.Sections.{typeOf, identifier, diagnostic, innerFunction, place, unused, extra, effect, effects, operand, phi, instruction, terminal, block}
+use Rattle.model.specs.Sections.{flag, flags, typeOf, identifier, diagnostic, innerFunction, place, unused, extra, effect, effects, operand, phi, instruction, terminal, block, sheet}
 use Rattle.model.specs.Sections.{terminalOf as readTerminal}
 use Rattle.model.proofs.Got.{got-value, got-next, not-both}
-use Rattle.hir.specs.Words.{Part, Standing, wordAt, placeWidth, effectWidth, operandWidth, identifierWidth, diagnosticWidth, wide, placeOf, placeAt, effectAt, operandAt, identifierAt, diagnosticAt, several, listed, effectsFrom, functionFrom, phiFrom, instructionFrom, terminalOf, terminalFrom, phisFrom, instructionsFrom, blockFrom}
+use Rattle.hir.specs.Words.{Part, Standing, wordAt, placeWidth, effectWidth, operandWidth, identifierWidth, diagnosticWidth, wide, placeOf, placeAt, effectAt, operandAt, identifierAt, diagnosticAt, several, listed, effectsFrom, functionFrom, phiFrom, instructionFrom, terminalOf, terminalFrom, phisFrom, instructionsFrom, blockFrom, flagsWidth, flagsAt, identifiersFrom, functionsFrom, placesFrom, sectionsFrom, sheetFrom}
 use Rattle.hir.proofs.Ranges.{at-most-reads}
 
 abbrev pub part : {A : Type 0} → A → Position → Part A
@@ -420,3 +420,64 @@ block-stands n m b ws c a d w k e =
 
 pub blocks-stands : (n m k : ℕ) (used : List BlockId) → StandsFor (numbered k used (block n m)) (several k blockFrom)
 blocks-stands n m k used = numbered-stands k used (block n m) blockFrom (block-stands n m)
+
+-- ---- the sheet
+flag-stands : StandsFor flag (λ (ws : List ℕ) (c : Position). part (eqb (wordAt ws c) 1) (c + 1))
+unfolding flag
+flag-stands = held-stands (atMost mostFlag) (wide 1 wordAt) (λ (w : ℕ). eqb w 1) (atMost-stands mostFlag)
+
+abbrev flagsBy : Bool → Bool → Flags
+flagsBy e v = record { functionExpression = e; validations = v }
+
+-- the flag that stands at j, which is k
+at-flag : {ws : List ℕ} {j k : Position} {b : Bool} {d : Position} → Stands (λ (ws : List ℕ) (c : Position). part (eqb (wordAt ws c) 1) (c + 1)) ws j b d → j ≡ k → eqb (wordAt ws k) 1 ≡ b
+at-flag {ws} s e = ap (λ (c : Position). eqb (wordAt ws c) 1) (sym e) ∙ value-is s
+
+flags-stands : StandsFor flags (wide flagsWidth flagsAt)
+unfolding flags
+flags-stands ws c a d e =
+    let k = in-two (fixed flagCount ws c) _ e in
+    let p = in-two (flag ws (k .next)) _ (k .second) in
+    let q = in-two (flag ws (p .next)) _ (p .second) in
+    let s = fixed-stands flagCount ws c (k .value) (k .next) (k .first) in
+    let t = flag-stands ws (k .next) (p .value) (p .next) (p .first) in
+    let u = flag-stands ws (p .next) (q .value) (q .next) (q .first) in
+    let x : k .next ≡ c + 1 = sym (next-is s) in
+    let y : p .next ≡ c + 2 = omega (arith, x, next-is t) in
+    let z : c + flagsWidth ≡ d = omega (arith, y, next-is u, got-next (q .second)) in
+    record {
+      is = part-same (ap (λ (b : Bool). flagsBy b (eqb (wordAt ws (c + 2)) 1)) (at-flag t x) ∙ ap (flagsBy (p .value)) (at-flag u y) ∙ got-value (q .second)) z;
+      after = omega (arith, z);
+      inside = λ i. omega (arith, got-next (q .second), u .inside (t .inside (s .inside i)));
+    }
+
+-- ---- the sections, one after another
+pure-stands : {A : Type 0} (a : A) → StandsFor (pure a) (λ (ws : List ℕ) (c : Position). part a c)
+pure-stands a ws c b d e = let n : c ≡ d = got-next e in record { is = got-part e; after = omega (arith, n); inside = λ i. omega (arith, n, i) }
+
+-- one part after another
+then-stands : {A B : Type 0} (m : Read A) (f : Standing A) (k : A → Read B) (g : A → Standing B) → StandsFor m f → ((a : A) → StandsFor (k a) (g a))
+    → StandsFor (m >>= k) (λ (ws : List ℕ) (c : Position). g (f ws c .what) ws (f ws c .next))
+then-stands {A} m f k g h t ws c b d e =
+    let p = in-two (m ws c) _ e in
+    let s = h ws c (p .value) (p .next) (p .first) in
+    let u = t (p .value) ws (p .next) b d (p .second) in
+    record {
+      is = ap (λ (x : Part A). g (x .what) ws (x .next)) (s .is) ∙ u .is;
+      after = omega (arith, s .after, u .after);
+      inside = λ i. u .inside (s .inside i);
+    }
+
+pub sheet-stands : StandsFor sheet sheetFrom
+unfolding sheet sheetFrom sectionsFrom listed
+sheet-stands =
+    then-stands flags (wide flagsWidth flagsAt) _ _ flags-stands
+    (λ fs. then-stands (counted mostIdentifiers identifier) identifiersFrom _ _ (counted-stands mostIdentifiers identifier (wide identifierWidth identifierAt) identifier-stands)
+    (λ ids. then-stands (counted mostFunctions innerFunction) functionsFrom _ _ (counted-stands mostFunctions innerFunction functionFrom function-stands)
+    (λ inner. then-stands (counted mostParams (place (length ids))) placesFrom _ _ (counted-stands mostParams (place (length ids)) (wide placeWidth placeAt) (place-stands (length ids)))
+    (λ ps. then-stands (counted mostContext (place (length ids))) placesFrom _ _ (counted-stands mostContext (place (length ids)) (wide placeWidth placeAt) (place-stands (length ids)))
+    (λ cs. then-stands (fixed returnsCount) (wide 1 wordAt) _ _ (fixed-stands returnsCount)
+    (λ k. then-stands (place (length ids)) (wide placeWidth placeAt) _ _ (place-stands (length ids))
+    (λ r. then-stands (count mostBlocks) (wide 1 wordAt) _ _ (count-stands mostBlocks)
+    (λ b. then-stands (numbered b [] (block (length ids) (length inner))) (several b blockFrom) _ _ (blocks-stands (length ids) (length inner) b [])
+    (λ bs. pure-stands (record { flags = fs; identifiers = ids; functions = inner; params = ps; context = cs; returns = r; blocks = bs }))))))))))

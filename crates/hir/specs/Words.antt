@@ -3,7 +3,8 @@
 use Prim.Native.Nat.{ℕ, zero, suc, _+_}
 use mathlib.Core.List.{List, [], _∷_}
 use lib.ListN.{getD}
-use Rattle.model.specs.Sheet.{Identifier, Diagnostic, InnerFunction, Place, Effect, Operand, Phi, EffectList, Instruction, Terminal, Other, Return, MaybeThrow, Block}
+use lib.Dec.{eqb}
+use Rattle.model.specs.Sheet.{Flags, Identifier, Diagnostic, InnerFunction, Place, Effect, Operand, Phi, EffectList, Instruction, Terminal, Other, Return, MaybeThrow, Block, Sheet}
 use Rattle.model.specs.Traits.{effectOf, reactiveOf}
 use Rattle.model.specs.Effects.{kindOf}
 use Rattle.model.specs.Reading.{Position}
@@ -137,3 +138,61 @@ blockFrom ws c =
     let instructions : Part (List Instruction) = instructionsFrom ws (phis .next) in
     let terminal : Part Terminal = terminalFrom ws (instructions .next) in
     record { what = record { number = wordAt ws c; phis = phis .what; instructions = instructions .what; terminal = terminal .what }; next = terminal .next }
+
+-- ---- the sheet
+-- "Flags, count 2"
+abbrev pub flagsWidth : ℕ
+flagsWidth = 3
+
+-- the flags from c on
+abbrev pub flagsAt : List ℕ → Position → Flags
+flagsAt ws c = record { functionExpression = eqb (wordAt ws (c + 1)) 1; validations = eqb (wordAt ws (c + 2)) 1 }
+
+-- where the sections of a sheet that begins at c stand, each by its count
+pub record Sections : Type 0 where
+  pub identifiers : Position
+  pub functions : Position
+  pub params : Position
+  pub context : Position
+  pub returns : Position
+  pub blocks : Position
+  pub end : Position
+
+abbrev pub identifiersFrom : Standing (List Identifier)
+identifiersFrom = listed (wide identifierWidth identifierAt)
+
+abbrev pub functionsFrom : Standing (List InnerFunction)
+functionsFrom = listed functionFrom
+
+abbrev pub placesFrom : Standing (List Place)
+placesFrom = listed (wide placeWidth placeAt)
+
+abbrev pub blocksFrom : Standing (List Block)
+blocksFrom = listed blockFrom
+
+-- "Sections in a fixed order, each after its count"
+unfoldable pub sectionsFrom : List ℕ → Position → Sections
+sectionsFrom ws c =
+    let functions : Position = identifiersFrom ws (c + flagsWidth) .next in
+    let params : Position = functionsFrom ws functions .next in
+    let context : Position = placesFrom ws params .next in
+    let returns : Position = placesFrom ws context .next in
+    let blocks : Position = returns + 1 + placeWidth in
+    record { identifiers = c + flagsWidth; functions = functions; params = params; context = context; returns = returns; blocks = blocks; end = blocksFrom ws blocks .next }
+
+-- what the words say
+unfoldable pub sheetFrom : Standing Sheet
+sheetFrom ws c =
+    let at : Sections = sectionsFrom ws c in
+    record {
+      what = record {
+        flags = flagsAt ws c;
+        identifiers = identifiersFrom ws (at .identifiers) .what;
+        functions = functionsFrom ws (at .functions) .what;
+        params = placesFrom ws (at .params) .what;
+        context = placesFrom ws (at .context) .what;
+        returns = placeAt ws (at .returns + 1);
+        blocks = blocksFrom ws (at .blocks) .what;
+      };
+      next = at .end;
+    }
