@@ -7,7 +7,7 @@ use mathlib.Core.List.{List}
 use lib.ListN.{length}
 use lib.Dec.{ltb}
 use borrow.Author.Tests.{lt-ltb, le-ltb, ltb-false}
-use Rattle.model.specs.Limits.{mostSheet}
+use Rattle.model.specs.Limits.{leastWorkspace, mostSheet}
 use Rattle.model.specs.Lists.{pick}
 use Rattle.model.specs.Sheet.{Sheet}
 use Rattle.model.specs.Reading.{got, refused}
