@@ -7,14 +7,14 @@ use mathlib.Core.List.{List}
 use lib.ListN.{length}
 use lib.Dec.{ltb}
 use borrow.Author.Tests.{lt-ltb, le-ltb, ltb-false}
-use Rattle.model.specs.Limits.{mostSheet}
+use Rattle.model.specs.Limits.{leastWorkspace, mostSheet}
 use Rattle.model.specs.Lists.{pick}
 use Rattle.model.specs.Sheet.{Sheet}
 use Rattle.model.specs.Reading.{got, refused}
 use Rattle.model.specs.Sections.{sheet as sheetReader}
 use Rattle.model.specs.Totals.{judged}
 use Rattle.model.specs.Answer.{answer, answerWords}
-use Rattle.model.specs.Call.{refusal, ended, read, IsSheet, fits, answered, outcome}
+use Rattle.model.specs.Call.{refusal, ended, read, IsSheet, fits, answered, admit, outcome}
 use Rattle.model.proofs.ReadLaws.{isGot}
 use Rattle.model.proofs.Either.{or-left, or-right}
 use Rattle.reading.specs.Judging.{Told}
@@ -51,21 +51,21 @@ pub refused-is : (sheet : List ℕ) {k : ℕ} → judgementOf (read sheet) ≡ n
 refused-is sheet {k} e = refused-sheet sheet k e
 
 module _ (sheet ws ans : List ℕ) where
-  pub inferred-one : {r : Outcome} {ws′ ans′ : List ℕ} → length ws < 16384 → Came (refusal 1) ws ans r ws′ ans′ → Inferred sheet ws ans r ws′ ans′
-  unfolding outcome
-  inferred-one h c = came-as (ap (λ (b : Bool). pick b (refusal 1) (answered (length ans) (read sheet))) (sym (lt-ltb (length ws) 16384 h))) c
+  pub inferred-one : {r : Outcome} {ws′ ans′ : List ℕ} → length ws < leastWorkspace → Came (refusal 1) ws ans r ws′ ans′ → Inferred sheet ws ans r ws′ ans′
+  unfolding outcome admit answered
+  inferred-one h c = came-as (ap (λ (b : Bool). answered (length ans) (pick b (refused 1) (read sheet))) (sym (lt-ltb (length ws) leastWorkspace h))) c
 
-  enough : 16384 ≤ length ws → outcome sheet (length ws) (length ans) ≡ answered (length ans) (read sheet)
-  unfolding outcome
-  enough h = ap (λ (b : Bool). pick b (refusal 1) (answered (length ans) (read sheet))) (le-ltb (length ws) 16384 h)
+  enough : leastWorkspace ≤ length ws → outcome sheet (length ws) (length ans) ≡ answered (length ans) (read sheet)
+  unfolding outcome admit answered
+  enough h = ap (λ (b : Bool). answered (length ans) (pick b (refused 1) (read sheet))) (le-ltb (length ws) leastWorkspace h)
 
-  pub inferred-refused : {k : ℕ} {r : Outcome} {ws′ ans′ : List ℕ} → 16384 ≤ length ws → read sheet ≡ refused k → Came (refusal k) ws ans r ws′ ans′ → Inferred sheet ws ans r ws′ ans′
+  pub inferred-refused : {k : ℕ} {r : Outcome} {ws′ ans′ : List ℕ} → leastWorkspace ≤ length ws → read sheet ≡ refused k → Came (refusal k) ws ans r ws′ ans′ → Inferred sheet ws ans r ws′ ans′
   unfolding answered
   inferred-refused {k} h e c =
       let o : answered (length ans) (read sheet) ≡ refusal k = ap (answered (length ans)) e in
       came-as (sym (enough h ∙ o)) c
 
-  pub inferred-answered : (s : Sheet) {r : Outcome} {ws′ ans′ : List ℕ} → 16384 ≤ length ws → IsSheet sheet s → Came (fits (length ans) (answerWords (answer s))) ws ans r ws′ ans′ → Inferred sheet ws ans r ws′ ans′
+  pub inferred-answered : (s : Sheet) {r : Outcome} {ws′ ans′ : List ℕ} → leastWorkspace ≤ length ws → IsSheet sheet s → Came (fits (length ans) (answerWords (answer s))) ws ans r ws′ ans′ → Inferred sheet ws ans r ws′ ans′
   unfolding answered
   inferred-answered s h e c =
       let o : answered (length ans) (read sheet) ≡ fits (length ans) (answerWords (answer s)) = ap (answered (length ans)) (e .1) in

@@ -7,7 +7,7 @@ use Rattle.model.specs.Ours.{ours}
 use Rattle.model.specs.Refusals.{calls, refusedSo}
 use Rattle.model.specs.Answer.{summary, diagnosed, answer, answerWords}
 use Rattle.model.specs.Building.{instructionEffect, instruction, operand, phiNode, wake, terminalEffect, terminal, block, firstNodes, build}
-use Rattle.model.specs.Call.{ended, read, fits, answered, outcome, answerAfter, workspaceAfter}
+use Rattle.model.specs.Call.{ended, read, fits, answered, admit, outcome, answerAfter, workspaceAfter}
 use Rattle.model.specs.Effects.{kindOf, rowOf}
 use Rattle.model.specs.Graph.{create, enter, withEdge, withEntry, change, store, relate, assign, createFrom}
 use Rattle.model.specs.Reading.{word, count, fixed, atMost, below, newNumber, times, numbered, counted}
@@ -24,13 +24,13 @@ use Rattle.model.specs.Traits.{effectOf, reactiveOf, traitsWord}
 use Rattle.model.specs.Walks.{pushes, visit, step, run, walkOf, mutate}
 
 pub table-right : T (right table)
-unfolding summary diagnosed answer answerWords instructionEffect instruction operand phiNode wake terminalEffect terminal block firstNodes build ended read fits answered outcome answerAfter workspaceAfter kindOf rowOf create enter withEdge withEntry change store relate assign createFrom word count fixed atMost below newNumber times numbered counted renderPushes renderVisit renderStep renderRun renderWalk walksOf after rendersOf rendered reached largestEnd flag flags identifier diagnostic innerFunction place unused extra effect effects operand-Sections phi instruction-Sections terminalOf terminal-Sections block-Sections sheet taken serves call tracked simulation flowEffects simulate enough accepts copied recorded sheetEnds built realWalks afterReal afterRenders collectParamEffects captureMark marked createReturns instructionEffects blockRelations totals over judged effectOf reactiveOf traitsWord pushes visit step run walkOf mutate right table
+unfolding summary diagnosed answer answerWords instructionEffect instruction operand phiNode wake terminalEffect terminal block firstNodes build ended read fits answered admit outcome answerAfter workspaceAfter kindOf rowOf create enter withEdge withEntry change store relate assign createFrom word count fixed atMost below newNumber times numbered counted renderPushes renderVisit renderStep renderRun renderWalk walksOf after rendersOf rendered reached largestEnd flag flags identifier diagnostic innerFunction place unused extra effect effects operand-Sections phi instruction-Sections terminalOf terminal-Sections block-Sections sheet taken serves call tracked simulation flowEffects simulate enough accepts copied recorded sheetEnds built realWalks afterReal afterRenders collectParamEffects captureMark marked createReturns instructionEffects blockRelations totals over judged effectOf reactiveOf traitsWord pushes visit step run walkOf mutate right table
 table-right = tt
 
 pub ours-right : T (right ours)
-unfolding summary diagnosed answer answerWords instructionEffect instruction operand phiNode wake terminalEffect terminal block firstNodes build ended read fits answered outcome answerAfter workspaceAfter kindOf rowOf create enter withEdge withEntry change store relate assign createFrom word count fixed atMost below newNumber times numbered counted renderPushes renderVisit renderStep renderRun renderWalk walksOf after rendersOf rendered reached largestEnd flag flags identifier diagnostic innerFunction place unused extra effect effects operand-Sections phi instruction-Sections terminalOf terminal-Sections block-Sections sheet taken serves call tracked simulation flowEffects simulate enough accepts copied recorded sheetEnds built realWalks afterReal afterRenders collectParamEffects captureMark marked createReturns instructionEffects blockRelations totals over judged effectOf reactiveOf traitsWord pushes visit step run walkOf mutate right ours
+unfolding summary diagnosed answer answerWords instructionEffect instruction operand phiNode wake terminalEffect terminal block firstNodes build ended read fits answered admit outcome answerAfter workspaceAfter kindOf rowOf create enter withEdge withEntry change store relate assign createFrom word count fixed atMost below newNumber times numbered counted renderPushes renderVisit renderStep renderRun renderWalk walksOf after rendersOf rendered reached largestEnd flag flags identifier diagnostic innerFunction place unused extra effect effects operand-Sections phi instruction-Sections terminalOf terminal-Sections block-Sections sheet taken serves call tracked simulation flowEffects simulate enough accepts copied recorded sheetEnds built realWalks afterReal afterRenders collectParamEffects captureMark marked createReturns instructionEffects blockRelations totals over judged effectOf reactiveOf traitsWord pushes visit step run walkOf mutate right ours
 ours-right = tt
 
 pub calls-refused : T (refusedSo calls)
-unfolding summary diagnosed answer answerWords instructionEffect instruction operand phiNode wake terminalEffect terminal block firstNodes build ended read fits answered outcome answerAfter workspaceAfter kindOf rowOf create enter withEdge withEntry change store relate assign createFrom word count fixed atMost below newNumber times numbered counted renderPushes renderVisit renderStep renderRun renderWalk walksOf after rendersOf rendered reached largestEnd flag flags identifier diagnostic innerFunction place unused extra effect effects operand-Sections phi instruction-Sections terminalOf terminal-Sections block-Sections sheet taken serves call tracked simulation flowEffects simulate enough accepts copied recorded sheetEnds built realWalks afterReal afterRenders collectParamEffects captureMark marked createReturns instructionEffects blockRelations totals over judged effectOf reactiveOf traitsWord pushes visit step run walkOf mutate refusedSo calls
+unfolding summary diagnosed answer answerWords instructionEffect instruction operand phiNode wake terminalEffect terminal block firstNodes build ended read fits answered admit outcome answerAfter workspaceAfter kindOf rowOf create enter withEdge withEntry change store relate assign createFrom word count fixed atMost below newNumber times numbered counted renderPushes renderVisit renderStep renderRun renderWalk walksOf after rendersOf rendered reached largestEnd flag flags identifier diagnostic innerFunction place unused extra effect effects operand-Sections phi instruction-Sections terminalOf terminal-Sections block-Sections sheet taken serves call tracked simulation flowEffects simulate enough accepts copied recorded sheetEnds built realWalks afterReal afterRenders collectParamEffects captureMark marked createReturns instructionEffects blockRelations totals over judged effectOf reactiveOf traitsWord pushes visit step run walkOf mutate refusedSo calls
 calls-refused = tt

@@ -15,9 +15,10 @@ use Rattle.model.specs.Building.{build}
 use Rattle.model.specs.Runs.{after}
 use Rattle.model.specs.Summary.{built}
 use Rattle.model.specs.Answer.{Range, rangeWords, answer, answerWords}
-use Rattle.model.specs.Call.{Outcome, refusal, accepted, read, IsSheet, fits, answered, outcome, answerAfter}
+use Rattle.model.specs.Call.{Outcome, refusal, accepted, read, IsSheet, fits, answered, admit, outcome, answerAfter}
 use Rattle.model.specs.Demand3.{how}
 use Rattle.model.specs.CallEnds.{endAt, CallEnds}
+use Rattle.model.proofs.ReadLaws.{isGot}
 use Rattle.model.proofs.Demand3.{demand3, answer-ends, last-length}
 
 abbrev isAccepted : Outcome → Bool
@@ -37,19 +38,23 @@ module _ (ws : List ℕ) (workspace room : ℕ) (a : List ℕ) where
       go true y = absurd (true≢false (sym (ap isAccepted y)))
       go false y = ap wordsOf y
 
-  answered-sheet : (r : Result Sheet) → read ws ≡ r → answered room r ≡ accepted a → (s : Sheet) × IsSheet ws s × (answerWords (answer s) ≡ a)
+  admitted : (s : Sheet) (c : Position) → admit ws workspace ≡ got s c → IsSheet ws s
+  unfolding admit
+  admitted s c e = go (ltb workspace leastWorkspace) e
+    where
+      go : (t : Bool) → pick t (refused 1) (read ws) ≡ got s c → IsSheet ws s
+      go true y = absurd (true≢false (sym (ap isGot y)))
+      go false y = (c, y)
+
+  answered-sheet : (r : Result Sheet) → admit ws workspace ≡ r → answered room r ≡ accepted a → (s : Sheet) × IsSheet ws s × (answerWords (answer s) ≡ a)
   unfolding answered
-  answered-sheet (got s c) h e = (s, (c, h), fits-words (answerWords (answer s)) e)
+  answered-sheet (got s c) h e = (s, admitted s c h, fits-words (answerWords (answer s)) e)
   answered-sheet (refused k) h e = absurd (true≢false (sym (ap isAccepted e)))
 
   -- the sheet of an accepted call, whose answer it is
   pub accepted-sheet : outcome ws workspace room ≡ accepted a → (s : Sheet) × IsSheet ws s × (answerWords (answer s) ≡ a)
   unfolding outcome
-  accepted-sheet e = go (ltb workspace leastWorkspace) e
-    where
-      go : (t : Bool) → pick t (refusal 1) (answered room (read ws)) ≡ accepted a → (s : Sheet) × IsSheet ws s × (answerWords (answer s) ≡ a)
-      go true y = absurd (true≢false (sym (ap isAccepted y)))
-      go false y = answered-sheet (read ws) refl y
+  accepted-sheet e = answered-sheet (admit ws workspace) refl e
 
 -- the ends stand at every second word
 range-end : (l : List Range) (rest : List ℕ) (x : ℕ) → x < length l → getD (gather rangeWords l ++ rest) (2 * x + 1) 0 ≡ getD (map (λ (r : Range). r .end) l) x 0

@@ -13,10 +13,7 @@ use Rattle.model.specs.Reading.{Read, _>>=_, pure, refuse, count, fixed,
 use Rattle.model.specs.Sections.{flags, identifier, innerFunction, place, operand, phi, instruction, terminal, block, sheet}
 use Rattle.model.specs.Distinct.{Distinct, PhiDistinct, SheetDistinct}
 use Rattle.model.proofs.Either.{or-left, or-right}
-use Rattle.model.proofs.ReadLaws.{Reads, pure-reads, refuse-reads, pick-reads, any-reads, bind-reads, numbered-reads, counted-reads}
-
-then-reads : {A B : Type 0} (m : Read A) (f : A → Read B) (Q : B → Type 0) → ((a : A) → Reads (f a) Q) → Reads (m >>= f) Q
-then-reads {A} m f Q k = bind-reads m f (λ (a : A). Unit {0}) Q (any-reads m) (λ a u. k a)
+use Rattle.model.proofs.ReadLaws.{Reads, pure-reads, refuse-reads, pick-reads, bind-reads, then-reads, numbered-reads, counted-reads}
 
 new-reads : (used : List BlockId) → Reads (newNumber used) (λ (b : BlockId). among b used ≡ false)
 unfolding newNumber

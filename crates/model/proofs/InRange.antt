@@ -13,11 +13,7 @@ use Rattle.model.specs.Effects.{kindOf, rowOf, isCreateFunction}
 use Rattle.model.specs.Reading.{Read, _>>=_, pure, word, count, fixed, atMost, below, numbered, counted}
 use Rattle.model.specs.Sections.{flags, identifier, innerFunction, place, unused, extra, effect, effects, operand, phi, instruction, terminalOf, terminal, block, sheet}
 use Rattle.model.specs.Ranges.{PlaceBelow, EffectBelow, PhiBelow, TerminalBelow, BlockBelow, SheetBelow}
-use Rattle.model.proofs.ReadLaws.{Reads, pure-reads, pick-reads, both-reads, any-reads, bind-reads, below-reads, numbered-reads, counted-reads, counted-length}
-
--- a word of which nothing is asked
-then-reads : {A B : Type 0} (m : Read A) (f : A → Read B) (Q : B → Type 0) → ((a : A) → Reads (f a) Q) → Reads (m >>= f) Q
-then-reads {A} m f Q k = bind-reads m f (λ (a : A). Unit {0}) Q (any-reads m) (λ a u. k a)
+use Rattle.model.proofs.ReadLaws.{Reads, pure-reads, pick-reads, both-reads, bind-reads, then-reads, below-reads, numbered-reads, counted-reads, counted-length}
 
 pub place-reads : (n : ℕ) → Reads (place n) (PlaceBelow n)
 unfolding place

@@ -35,6 +35,8 @@ pub mod Distinct
 pub mod WhenRead
 pub mod Refusing
 pub mod Numbers
+pub mod BackLaws
+pub mod Encoder
 -- the theorems about whole sheets
 pub mod Bound
 pub mod NodeAssertion

@@ -13,7 +13,7 @@ use Rattle.model.specs.Reading.{Position, Result, got, refused}
 use Rattle.model.specs.Sections.{sheet}
 use Rattle.model.specs.Totals.{totals, over, judged}
 use Rattle.model.specs.Answer.{answer, answerWords}
-use Rattle.model.specs.Call.{Outcome, refusal, accepted, ended, read, fits, answered, outcome, numberOf}
+use Rattle.model.specs.Call.{Outcome, refusal, accepted, ended, read, fits, answered, admit, outcome, numberOf}
 use Rattle.model.specs.Numbers.{IsNumber, FromReading, Numbered}
 use Rattle.model.proofs.Refusing.{sheet-refuses}
 
@@ -64,14 +64,18 @@ answered-numbered room (got s c) h = go (ltb room (length (answerWords (answer s
     go false = tt
 answered-numbered room (refused k) h = h
 
+admit-numbered : (ws : List ℕ) (workspace : ℕ) → NumberedRead (admit ws workspace)
+unfolding admit
+admit-numbered ws workspace = go (ltb workspace leastWorkspace)
+  where
+    go : (b : Bool) → NumberedRead (pick b (refused 1) (read ws))
+    go true = (omega arith, omega arith)
+    go false = read-numbered ws
+
 -- for all words and lengths
 pub outcome-numbered : (ws : List ℕ) (workspace room : ℕ) → Numbered (outcome ws workspace room)
 unfolding outcome
-outcome-numbered ws workspace room = go (ltb workspace leastWorkspace)
-  where
-    go : (b : Bool) → Numbered (pick b (refusal 1) (answered room (read ws)))
-    go true = (omega arith, omega arith)
-    go false = answered-numbered room (read ws) (read-numbered ws)
+outcome-numbered ws workspace room = answered-numbered room (admit ws workspace) (admit-numbered ws workspace)
 
 -- a call of which 0 is told was accepted
 pub zero-accepted : (o : Outcome) → Numbered o → numberOf o ≡ 0 → (a : List ℕ) × (o ≡ accepted a)

@@ -34,6 +34,7 @@ pub mod Refusals
 -- what is claimed of all this; proofs/ has the theorems
 pub mod Ranges
 pub mod Distinct
+pub mod Encoder
 pub mod Indexes
 pub mod Bound
 pub mod Assertion

@@ -1,0 +1,288 @@
+-- Every sheet within its limits is read back from its words.
+use Prim.Native.Nat.{ℕ, _+_, _≤_, _<_}
+use native.Mathlib.Omega.{arith}
+use mathlib.Core.Path.{_≡_, refl, sym, ap, subst, _∙_}
+use mathlib.Core.Bool.{Bool, true, false}
+use mathlib.Core.List.{List, [], _∷_, _++_, map, append-nil}
+use lib.ListN.{length, drop}
+use lib.Dec.{leb, eqb}
+use borrow.Author.Tests.{le-leb, lt-leb, le-ltb}
+use Rattle.model.specs.Limits.{flagCount, mostFlag, mostIdentifiers, mostRange, mostType, mostFunctions, mostInnerDiagnostics, mostDiagnostic, mostParams, mostContext, returnsCount, mostBlocks, mostCount, mostOrder, mostTerminal, mostTraits, mostKind, mostSheet}
+use Rattle.model.specs.Lists.{pick, gather, among, Every, oneIf}
+use Rattle.model.specs.Sheet.{Flags, Identifier, IdentifierType, other, primitive, jsx, Diagnostic, InnerFunction, Place, noPlace, EffectKind, Freeze, Mutate, MutateConditionally, MutateTransitive, MutateTransitiveConditionally, Capture, Alias, MaybeAlias, Assign, Create, CreateFrom, ImmutableCapture, Apply, CreateFunction, MutateFrozen, MutateGlobal, Impure, Render, Effect, EffectList, Operand, Phi, Instruction, Terminal, Other, Return, MaybeThrow, BlockId, Block, Sheet}
+use Rattle.model.specs.Traits.{reactiveTraits, effectOf, reactiveOf, traitsWord}
+use Rattle.model.specs.Effects.{kindOf, rowOf, isCreateFunction}
+use Rattle.model.specs.Reading.{Position, got, Read, _>>=_, pure, word, count, fixed, atMost, below, numbered, counted}
+use Rattle.model.specs.Sections.{flag, flags, typeOf, identifier, diagnostic, innerFunction, place, unused, extra, effect, effects, operand, phi, instruction, terminalOf, terminal, block, sheet}
+use Rattle.model.specs.Answer.{placeWords, diagnosticWords, effectWords, section}
+use Rattle.model.specs.Totals.{totals, over, judged}
+use Rattle.model.specs.Call.{ended, read, IsSheet}
+use Rattle.model.specs.Encoder.{flagsWords, typeWord, identifierWords, functionWords, effectsWords, operandWords, phiWords, instructionWords, terminalWords, blockRest, blockWords, sheetWords, IdentifierFits, FunctionFits, PlaceFits, UsedFits, ExtraFits, EffectFits, EffectsFit, OperandFits, PhiFits, InstructionFits, TerminalFits, BlockFits, SheetFits}
+use Rattle.model.proofs.Everywhere.{every-mem}
+use Rattle.model.proofs.BackLaws.{Back, pure-back, bind-back, word-back, atMost-back, below-back, count-back, fixed-back, counted-back, numbered-back}
+
+-- ---- flags and identifiers
+flag-back : (b : Bool) → Back flag (oneIf b ∷ []) b
+unfolding flag
+flag-back true = bind-back (atMost mostFlag) _ (1 ∷ []) [] 1 true (atMost-back mostFlag 1 (omega arith)) (pure-back true)
+flag-back false = bind-back (atMost mostFlag) _ (0 ∷ []) [] 0 false (atMost-back mostFlag 0 (omega arith)) (pure-back false)
+
+flags-back : (f : Flags) → Back flags (flagsWords f) f
+unfolding flags
+flags-back f =
+    bind-back (fixed flagCount) _ (flagCount ∷ []) (oneIf (f .functionExpression) ∷ oneIf (f .validations) ∷ []) flagCount f (fixed-back flagCount)
+    (bind-back flag _ (oneIf (f .functionExpression) ∷ []) (oneIf (f .validations) ∷ []) (f .functionExpression) f (flag-back (f .functionExpression))
+    (bind-back flag _ (oneIf (f .validations) ∷ []) [] (f .validations) f (flag-back (f .validations)) (pure-back f)))
+
+type-few : (t : IdentifierType) → typeWord t ≤ mostType
+type-few other = omega arith
+type-few primitive = omega arith
+type-few jsx = omega arith
+
+type-back : (t : IdentifierType) → typeOf (typeWord t) ≡ t
+type-back other = refl
+type-back primitive = refl
+type-back jsx = refl
+
+-- what is given at the end, by another that it is
+pure-is : {A : Type 0} {a b : A} → b ≡ a → Back (pure b) [] a
+pure-is {A} {a} {b} e = subst (λ (x : A). Back (pure b) [] x) e (pure-back b)
+
+identifier-back : (i : Identifier) → IdentifierFits i → Back identifier (identifierWords i) i
+unfolding identifier
+identifier-back i h =
+    bind-back (atMost mostRange) _ (i .start ∷ []) (i .end ∷ typeWord (i .type) ∷ []) (i .start) i (atMost-back mostRange (i .start) (h .0))
+    (bind-back (atMost mostRange) _ (i .end ∷ []) (typeWord (i .type) ∷ []) (i .end) i (atMost-back mostRange (i .end) (h .1))
+    (bind-back (atMost mostType) _ (typeWord (i .type) ∷ []) [] (typeWord (i .type)) i (atMost-back mostType (typeWord (i .type)) (type-few (i .type)))
+    (pure-is (ap (λ (t : IdentifierType). identifierBy t) (type-back (i .type))))))
+  where
+    identifierBy : IdentifierType → Identifier
+    identifierBy t = record { start = i .start; end = i .end; type = t }
+
+function-back : (f : InnerFunction) → FunctionFits f → Back innerFunction (functionWords f) f
+unfolding innerFunction diagnostic
+function-back f h =
+    subst (λ (vs : List ℕ). Back innerFunction vs f) (append-nil (functionWords f))
+    (bind-back (counted mostInnerDiagnostics diagnostic) _ (functionWords f) [] (f .diagnostics) f
+    (counted-back mostInnerDiagnostics diagnostic diagnosticWords (f .diagnostics) (h .0) (every-mem (λ (d : Diagnostic). d ≤ mostDiagnostic) _ (f .diagnostics) (λ d m k. atMost-back mostDiagnostic d k) (h .1)))
+    (pure-back f))
+
+-- ---- places
+traits-few : (e : ℕ) (r : Bool) → e < reactiveTraits → traitsWord e r ≤ mostTraits
+unfolding traitsWord
+traits-few e true h = omega (arith, h)
+traits-few e false h = omega (arith, h)
+
+effect-of-traits : (e : ℕ) (r : Bool) → e < reactiveTraits → effectOf (traitsWord e r) ≡ e
+unfolding effectOf traitsWord
+effect-of-traits e true h = omega (arith, h)
+effect-of-traits e false h = omega (arith, h)
+
+reactive-of-traits : (e : ℕ) (r : Bool) → e < reactiveTraits → reactiveOf (traitsWord e r) ≡ r
+unfolding reactiveOf traitsWord
+reactive-of-traits e true h = le-leb reactiveTraits (e + reactiveTraits) (omega arith)
+reactive-of-traits e false h = lt-leb reactiveTraits (e + 0) (omega (arith, h))
+
+abbrev placeBy : ℕ → ℕ → Bool → ℕ → Place
+placeBy i e r s = record { identifier = i; effect = e; reactive = r; span = s }
+
+place-back : (n : ℕ) (p : Place) → PlaceFits n p → Back (place n) (placeWords p) p
+unfolding place
+place-back n p h =
+    let t : ℕ = traitsWord (p .effect) (p .reactive) in
+    bind-back (below n) _ (p .identifier ∷ []) (t ∷ p .span ∷ []) (p .identifier) p (below-back n (p .identifier) (h .0))
+    (bind-back (atMost mostTraits) _ (t ∷ []) (p .span ∷ []) t p (atMost-back mostTraits t (traits-few (p .effect) (p .reactive) (h .1)))
+    (bind-back word _ (p .span ∷ []) [] (p .span) p (word-back (p .span))
+    (pure-is (ap (λ (e : ℕ). placeBy (p .identifier) e (reactiveOf t) (p .span)) (effect-of-traits (p .effect) (p .reactive) (h .1)) ∙ ap (λ (r : Bool). placeBy (p .identifier) (p .effect) r (p .span)) (reactive-of-traits (p .effect) (p .reactive) (h .1))))))
+
+unused-back : Back unused (placeWords noPlace) noPlace
+unfolding unused traitsWord
+unused-back =
+    bind-back (atMost 0) _ (0 ∷ []) (0 ∷ 0 ∷ []) 0 noPlace (atMost-back 0 0 (omega arith))
+    (bind-back (atMost 0) _ (0 ∷ []) (0 ∷ []) 0 noPlace (atMost-back 0 0 (omega arith)) (bind-back (atMost 0) _ (0 ∷ []) [] 0 noPlace (atMost-back 0 0 (omega arith)) (pure-back noPlace)))
+
+used-back : (b : Bool) (n : ℕ) (p : Place) → UsedFits b n p → Back (pick b (place n) unused) (placeWords p) p
+used-back true n p h = place-back n p h
+used-back false n p h = subst (λ (q : Place). Back unused (placeWords q) q) (sym h) unused-back
+
+places-back : (n most : ℕ) (l : List Place) → length l ≤ most → Every (PlaceFits n) l → Back (counted most (place n)) (section placeWords l) l
+places-back n most l k h = counted-back most (place n) placeWords l k (every-mem (PlaceFits n) _ l (λ p m f. place-back n p f) h)
+
+-- ---- effects
+kind-back : (k : EffectKind) → kindOf (rowOf k .number) ≡ k
+unfolding kindOf rowOf
+kind-back Freeze = refl
+kind-back Mutate = refl
+kind-back MutateConditionally = refl
+kind-back MutateTransitive = refl
+kind-back MutateTransitiveConditionally = refl
+kind-back Capture = refl
+kind-back Alias = refl
+kind-back MaybeAlias = refl
+kind-back Assign = refl
+kind-back Create = refl
+kind-back CreateFrom = refl
+kind-back ImmutableCapture = refl
+kind-back Apply = refl
+kind-back CreateFunction = refl
+kind-back MutateFrozen = refl
+kind-back MutateGlobal = refl
+kind-back Impure = refl
+kind-back Render = refl
+
+kind-few : (k : EffectKind) → rowOf k .number ≤ mostKind
+unfolding rowOf
+kind-few Freeze = omega arith
+kind-few Mutate = omega arith
+kind-few MutateConditionally = omega arith
+kind-few MutateTransitive = omega arith
+kind-few MutateTransitiveConditionally = omega arith
+kind-few Capture = omega arith
+kind-few Alias = omega arith
+kind-few MaybeAlias = omega arith
+kind-few Assign = omega arith
+kind-few Create = omega arith
+kind-few CreateFrom = omega arith
+kind-few ImmutableCapture = omega arith
+kind-few Apply = omega arith
+kind-few CreateFunction = omega arith
+kind-few MutateFrozen = omega arith
+kind-few MutateGlobal = omega arith
+kind-few Impure = omega arith
+kind-few Render = omega arith
+
+extra-back : (m : ℕ) (k : EffectKind) (x : ℕ) → ExtraFits (isCreateFunction k) m (rowOf k .extra) x → Back (extra m k) (x ∷ []) x
+unfolding extra
+extra-back m k x h = go (isCreateFunction k) h
+  where
+    go : (b : Bool) → ExtraFits b m (rowOf k .extra) x → Back (pick b (below m) (atMost (rowOf k .extra))) (x ∷ []) x
+    go true i = below-back m x i
+    go false i = atMost-back (rowOf k .extra) x i
+
+-- an effect after its kind
+abbrev afterKind : ℕ → ℕ → EffectKind → Read Effect
+afterKind n m k =
+    pick (leb 1 (rowOf k .places)) (place n) unused >>= λ (p : Place). pick (leb 2 (rowOf k .places)) (place n) unused >>= λ (q : Place). extra m k
+    >>= λ (x : ℕ). pure (record { kind = k; first = p; second = q; extra = x })
+
+effect-back : (n m : ℕ) (e : Effect) → EffectFits n m e → Back (effect n m) (effectWords e) e
+unfolding effect
+effect-back n m e h =
+    let k : EffectKind = e .kind in
+    let rest : List ℕ = placeWords (e .first) ++ (placeWords (e .second) ++ (e .extra ∷ [])) in
+    bind-back (atMost mostKind) (λ (w : ℕ). afterKind n m (kindOf w)) (rowOf k .number ∷ []) rest (rowOf k .number) e (atMost-back mostKind (rowOf k .number) (kind-few k))
+    (subst (λ (j : EffectKind). Back (afterKind n m j) rest e) (sym (kind-back k))
+    (bind-back (pick (leb 1 (rowOf k .places)) (place n) unused) _ (placeWords (e .first)) (placeWords (e .second) ++ (e .extra ∷ [])) (e .first) e (used-back (leb 1 (rowOf k .places)) n (e .first) (h .0))
+    (bind-back (pick (leb 2 (rowOf k .places)) (place n) unused) _ (placeWords (e .second)) (e .extra ∷ []) (e .second) e (used-back (leb 2 (rowOf k .places)) n (e .second) (h .1))
+    (bind-back (extra m k) _ (e .extra ∷ []) [] (e .extra) e (extra-back m k (e .extra) (h .2)) (pure-back e)))))
+
+effects-back : (n m : ℕ) (l : EffectList) → EffectsFit n m l → Back (effects n m) (effectsWords l) l
+unfolding effects
+effects-back n m l h = counted-back mostCount (effect n m) effectWords l (h .0) (every-mem (EffectFits n m) _ l (λ e k f. effect-back n m e f) (h .1))
+
+-- ---- blocks
+operand-back : (n : ℕ) (o : Operand) → OperandFits n o → Back (operand n (o .predecessor)) (placeWords (o .place)) o
+unfolding operand
+operand-back n o h =
+    subst (λ (vs : List ℕ). Back (operand n (o .predecessor)) vs o) (append-nil (placeWords (o .place)))
+    (bind-back (place n) _ (placeWords (o .place)) [] (o .place) o (place-back n (o .place) (h .1)) (pure-back o))
+
+-- no number was used before the first
+none-used : {A : Type 0} (number : A → BlockId) (l : List A) → Every (λ (a : A). among (number a) [] ≡ false) l
+none-used number [] = tt
+none-used number (a ∷ l) = (refl, none-used number l)
+
+phi-back : (n : ℕ) (p : Phi) → PhiFits n p → Back (phi n) (phiWords p) p
+unfolding phi
+phi-back n p h =
+    let l : List Operand = p .operands in
+    let words : List ℕ = gather operandWords l in
+    bind-back (place n) _ (placeWords (p .place)) (length l ∷ words) (p .place) p (place-back n (p .place) (h .0))
+    (bind-back (count mostCount) _ (length l ∷ []) words (length l) p (count-back mostCount (length l) (h .1))
+    (subst (λ (vs : List ℕ). Back (numbered (length l) [] (operand n) >>= λ (r : List Operand). pure (record { place = p .place; operands = r })) vs p) (append-nil words)
+    (bind-back (numbered (length l) [] (operand n)) _ words [] l p
+    (numbered-back (operand n) (λ (o : Operand). o .predecessor) (λ (o : Operand). placeWords (o .place)) l [] (every-mem (OperandFits n) _ l (λ o k f. (f .0, operand-back n o f)) (h .2)) (none-used (λ (o : Operand). o .predecessor) l) (h .3))
+    (pure-back p))))
+
+instruction-back : (n m : ℕ) (i : Instruction) → InstructionFits n m i → Back (instruction n m) (instructionWords i) i
+unfolding instruction
+instruction-back n m i h =
+    bind-back (atMost mostOrder) _ (i .order ∷ []) (effectsWords (i .effects)) (i .order) i (atMost-back mostOrder (i .order) (h .0))
+    (subst (λ (vs : List ℕ). Back (effects n m >>= λ (l : EffectList). pure (record { order = i .order; effects = l })) vs i) (append-nil (effectsWords (i .effects)))
+    (bind-back (effects n m) _ (effectsWords (i .effects)) [] (i .effects) i (effects-back n m (i .effects) (h .1)) (pure-back i)))
+
+-- effects, and then nothing more
+last-effects : {A : Type 0} (n m : ℕ) (l : EffectList) (f : EffectList → A) → EffectsFit n m l → Back (effects n m >>= λ (k : EffectList). pure (f k)) (effectsWords l) (f l)
+last-effects {A} n m l f h =
+    subst (λ (vs : List ℕ). Back (effects n m >>= λ (k : EffectList). pure (f k)) vs (f l)) (append-nil (effectsWords l))
+    (bind-back (effects n m) (λ (k : EffectList). pure (f k)) (effectsWords l) [] l (f l) (effects-back n m l h) (pure-back (f l)))
+
+terminal-back : (n m : ℕ) (t : Terminal) → TerminalFits n m t → Back (terminal n m) (terminalWords t) t
+unfolding terminal terminalOf
+terminal-back n m (Other o) h =
+    bind-back (atMost mostTerminal) _ (0 ∷ []) (o ∷ []) 0 (Other o) (atMost-back mostTerminal 0 (omega arith))
+    (bind-back (atMost mostOrder) _ (o ∷ []) [] o (Other o) (atMost-back mostOrder o h) (pure-back (Other o)))
+terminal-back n m (Return o p l) h =
+    bind-back (atMost mostTerminal) _ (1 ∷ []) (o ∷ (placeWords p ++ effectsWords l)) 1 (Return o p l) (atMost-back mostTerminal 1 (omega arith))
+    (bind-back (atMost mostOrder) _ (o ∷ []) (placeWords p ++ effectsWords l) o (Return o p l) (atMost-back mostOrder o (h .0))
+    (bind-back (place n) _ (placeWords p) (effectsWords l) p (Return o p l) (place-back n p (h .1)) (last-effects n m l (Return o p) (h .2))))
+terminal-back n m (MaybeThrow o l) h =
+    bind-back (atMost mostTerminal) _ (2 ∷ []) (o ∷ effectsWords l) 2 (MaybeThrow o l) (atMost-back mostTerminal 2 (omega arith))
+    (bind-back (atMost mostOrder) _ (o ∷ []) (effectsWords l) o (MaybeThrow o l) (atMost-back mostOrder o (h .0)) (last-effects n m l (MaybeThrow o) (h .1)))
+
+block-back : (n m : ℕ) (b : Block) → BlockFits n m b → Back (block n m (b .number)) (blockRest b) b
+unfolding block
+block-back n m b h =
+    let ps : List ℕ = section phiWords (b .phis) in
+    let is : List ℕ = section instructionWords (b .instructions) in
+    let t : List ℕ = terminalWords (b .terminal) in
+    bind-back (counted mostCount (phi n)) _ ps (is ++ t) (b .phis) b (counted-back mostCount (phi n) phiWords (b .phis) (h .phiCount) (every-mem (PhiFits n) _ (b .phis) (λ p k f. phi-back n p f) (h .phis)))
+    (bind-back (counted mostCount (instruction n m)) _ is t (b .instructions) b
+    (counted-back mostCount (instruction n m) instructionWords (b .instructions) (h .instructionCount) (every-mem (InstructionFits n m) _ (b .instructions) (λ i k f. instruction-back n m i f) (h .instructions)))
+    (subst (λ (vs : List ℕ). Back (terminal n m >>= λ (x : Terminal). pure (record { number = b .number; phis = b .phis; instructions = b .instructions; terminal = x })) vs b) (append-nil t)
+    (bind-back (terminal n m) _ t [] (b .terminal) b (terminal-back n m (b .terminal) (h .terminal)) (pure-back b))))
+
+-- ---- the sheet
+abbrev withBlocks : Sheet → List Block → Sheet
+withBlocks s l = record { flags = s .flags; identifiers = s .identifiers; functions = s .functions; params = s .params; context = s .context; returns = s .returns; blocks = l }
+
+pub sheet-back : (s : Sheet) → SheetFits s → Back sheet (sheetWords s) s
+unfolding sheet sheetWords
+sheet-back s h =
+    let n : ℕ = length (s .identifiers) in
+    let m : ℕ = length (s .functions) in
+    let bs : List ℕ = gather blockWords (s .blocks) in
+    let w₇ : List ℕ = length (s .blocks) ∷ bs in
+    let w₆ : List ℕ = placeWords (s .returns) ++ w₇ in
+    let w₅ : List ℕ = returnsCount ∷ w₆ in
+    let w₄ : List ℕ = section placeWords (s .context) ++ w₅ in
+    let w₃ : List ℕ = section placeWords (s .params) ++ w₄ in
+    let w₂ : List ℕ = section functionWords (s .functions) ++ w₃ in
+    let w₁ : List ℕ = section identifierWords (s .identifiers) ++ w₂ in
+    bind-back flags _ (flagsWords (s .flags)) w₁ (s .flags) s (flags-back (s .flags))
+    (bind-back (counted mostIdentifiers identifier) _ (section identifierWords (s .identifiers)) w₂ (s .identifiers) s
+    (counted-back mostIdentifiers identifier identifierWords (s .identifiers) (h .identifierCount) (every-mem IdentifierFits _ (s .identifiers) (λ i k f. identifier-back i f) (h .identifiers)))
+    (bind-back (counted mostFunctions innerFunction) _ (section functionWords (s .functions)) w₃ (s .functions) s
+    (counted-back mostFunctions innerFunction functionWords (s .functions) (h .functionCount) (every-mem FunctionFits _ (s .functions) (λ f k g. function-back f g) (h .functions)))
+    (bind-back (counted mostParams (place n)) _ (section placeWords (s .params)) w₄ (s .params) s (places-back n mostParams (s .params) (h .paramCount) (h .params))
+    (bind-back (counted mostContext (place n)) _ (section placeWords (s .context)) w₅ (s .context) s (places-back n mostContext (s .context) (h .contextCount) (h .context))
+    (bind-back (fixed returnsCount) _ (returnsCount ∷ []) w₆ returnsCount s (fixed-back returnsCount)
+    (bind-back (place n) _ (placeWords (s .returns)) w₇ (s .returns) s (place-back n (s .returns) (h .returns))
+    (bind-back (count mostBlocks) _ (length (s .blocks) ∷ []) bs (length (s .blocks)) s (count-back mostBlocks (length (s .blocks)) (h .blockCount))
+    (subst (λ (vs : List ℕ). Back (numbered (length (s .blocks)) [] (block n m) >>= λ (l : List Block). pure (withBlocks s l)) vs s) (append-nil bs)
+    (bind-back (numbered (length (s .blocks)) [] (block n m)) _ bs [] (s .blocks) s
+    (numbered-back (block n m) (λ (b : Block). b .number) blockRest (s .blocks) [] (every-mem (BlockFits n m) _ (s .blocks) (λ b k f. (f .number, block-back n m b f)) (h .blocks)) (none-used (λ (b : Block). b .number) (s .blocks)) (h .numbers))
+    (pure-back s))))))))))
+
+-- its words are read as the sheet, to their end
+pub reads-back : (s : Sheet) → SheetFits s → sheet (sheetWords s) 0 ≡ got s (length (sheetWords s))
+reads-back s h =
+    let n : 0 + length (sheetWords s) ≡ length (sheetWords s) = omega arith in
+    sheet-back s h (sheetWords s) 0 [] (sym (append-nil (sheetWords s))) ∙ ap (got s) n
+
+-- so a sheet of no more words and no higher totals than a call allows is accepted
+pub accepts-words : (s : Sheet) → SheetFits s → length (sheetWords s) ≤ mostSheet → over (totals s) ≡ false → IsSheet (sheetWords s) s
+unfolding read ended judged
+accepts-words s h short few =
+    let n : ℕ = length (sheetWords s) in
+    (n, rw (le-ltb mostSheet n short, reads-back s h, le-ltb n n (omega arith), few))

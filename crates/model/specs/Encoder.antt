@@ -1,0 +1,150 @@
+-- Document 01, "The sheet", the other way: the words of a sheet, each section after its count; and which trees are sheets within their limits.
+use Prim.Native.Nat.{ℕ, _≤_, _<_}
+use mathlib.Core.Path.{_≡_}
+use mathlib.Core.Bool.{Bool, true, false}
+use mathlib.Core.List.{List, [], _∷_, _++_, map}
+use lib.ListN.{length}
+use lib.Dec.{leb}
+use Rattle.model.specs.Limits.{flagCount, mostIdentifiers, mostRange, mostFunctions, mostInnerDiagnostics, mostDiagnostic, mostParams, mostContext, returnsCount, mostBlocks, mostBlockNumber, mostCount, mostOrder}
+use Rattle.model.specs.Lists.{pick, gather, Every, oneIf}
+use Rattle.model.specs.Sheet.{Flags, IdentifierType, other, primitive, jsx, Identifier, Diagnostic, InnerFunction, Place, noPlace, Effect, Operand, Phi, EffectList, Instruction, Terminal, Other, Return, MaybeThrow, Block, Sheet}
+use Rattle.model.specs.Traits.{reactiveTraits}
+use Rattle.model.specs.Effects.{rowOf, isCreateFunction}
+use Rattle.model.specs.Answer.{placeWords, diagnosticWords, effectWords, section}
+use Rattle.model.specs.Distinct.{Distinct, PhiDistinct}
+
+-- ---- the words
+-- "Flags, count 2"
+abbrev pub flagsWords : Flags → List ℕ
+flagsWords f = flagCount ∷ oneIf (f .functionExpression) ∷ oneIf (f .validations) ∷ []
+
+-- "type (0 other, 1 primitive, 2 JSX)"
+abbrev pub typeWord : IdentifierType → ℕ
+typeWord other = 0
+typeWord primitive = 1
+typeWord jsx = 2
+
+-- "range start, range end, type"
+abbrev pub identifierWords : Identifier → List ℕ
+identifierWords i = i .start ∷ i .end ∷ typeWord (i .type) ∷ []
+
+-- "a count, then that many diagnostic numbers"
+abbrev pub functionWords : InnerFunction → List ℕ
+functionWords f = section diagnosticWords (f .diagnostics)
+
+-- "an effect count and the effects"
+abbrev pub effectsWords : EffectList → List ℕ
+effectsWords l = section effectWords l
+
+-- "for each operand a predecessor's number and a place"
+abbrev pub operandWords : Operand → List ℕ
+operandWords o = o .predecessor ∷ placeWords (o .place)
+
+-- "each phi a place, an operand count, and the operands"
+abbrev pub phiWords : Phi → List ℕ
+phiWords p = placeWords (p .place) ++ section operandWords (p .operands)
+
+-- "each an order, an effect count and the effects"
+abbrev pub instructionWords : Instruction → List ℕ
+instructionWords i = i .order ∷ effectsWords (i .effects)
+
+-- "terminal kind (0 other, 1 Return, 2 MaybeThrow) and order; for 1 a place; for 1 and 2 an effect count and effects"
+abbrev pub terminalWords : Terminal → List ℕ
+terminalWords (Other o) = 0 ∷ o ∷ []
+terminalWords (Return o p l) = 1 ∷ o ∷ (placeWords p ++ effectsWords l)
+terminalWords (MaybeThrow o l) = 2 ∷ o ∷ effectsWords l
+
+-- a block after its number
+abbrev pub blockRest : Block → List ℕ
+blockRest b = section phiWords (b .phis) ++ (section instructionWords (b .instructions) ++ terminalWords (b .terminal))
+
+-- "number; phis; instructions; terminal"
+abbrev pub blockWords : Block → List ℕ
+blockWords b = b .number ∷ blockRest b
+
+-- "Sections in a fixed order, each after its count"
+unfoldable pub sheetWords : Sheet → List ℕ
+sheetWords s =
+    flagsWords (s .flags)
+    ++ (section identifierWords (s .identifiers)
+    ++ (section functionWords (s .functions)
+    ++ (section placeWords (s .params)
+    ++ (section placeWords (s .context)
+    ++ (returnsCount ∷ (placeWords (s .returns)
+    ++ section blockWords (s .blocks)))))))
+
+-- ---- the limits
+-- "range start, range end (each at most 1,000,000)"
+abbrev pub IdentifierFits : Identifier → Type 0
+IdentifierFits i = (i .start ≤ mostRange) × (i .end ≤ mostRange)
+
+-- "a count (at most 64), then that many diagnostic numbers, at most 65,535"
+abbrev pub FunctionFits : InnerFunction → Type 0
+FunctionFits f = (length (f .diagnostics) ≤ mostInnerDiagnostics) × Every (λ (d : Diagnostic). d ≤ mostDiagnostic) (f .diagnostics)
+
+-- "identifier (below N); traits, the effect's position in `Effect`"
+abbrev pub PlaceFits : ℕ → Place → Type 0
+PlaceFits n p = (p .identifier < n) × (p .effect < reactiveTraits)
+
+-- a place if the kind uses it, else "unused places are 0"
+abbrev pub UsedFits : Bool → ℕ → Place → Type 0
+UsedFits true n p = PlaceFits n p
+UsedFits false n p = p ≡ noPlace
+
+-- for CreateFunction an inner function below their count, else at most what the table says
+abbrev pub ExtraFits : Bool → ℕ → ℕ → ℕ → Type 0
+ExtraFits true m most x = x < m
+ExtraFits false m most x = x ≤ most
+
+-- n identifiers, m inner functions
+abbrev pub EffectFits : ℕ → ℕ → Effect → Type 0
+EffectFits n m e =
+    UsedFits (leb 1 (rowOf (e .kind) .places)) n (e .first)
+    × UsedFits (leb 2 (rowOf (e .kind) .places)) n (e .second)
+    × ExtraFits (isCreateFunction (e .kind)) m (rowOf (e .kind) .extra) (e .extra)
+
+-- "Counts without a limit of their own are at most 1,024"
+abbrev pub EffectsFit : ℕ → ℕ → EffectList → Type 0
+EffectsFit n m l = (length l ≤ mostCount) × Every (EffectFits n m) l
+
+-- a predecessor's number and a place
+abbrev pub OperandFits : ℕ → Operand → Type 0
+OperandFits n o = (o .predecessor ≤ mostBlockNumber) × PlaceFits n (o .place)
+
+-- no predecessor is named twice
+abbrev pub PhiFits : ℕ → Phi → Type 0
+PhiFits n p = PlaceFits n (p .place) × (length (p .operands) ≤ mostCount) × Every (OperandFits n) (p .operands) × PhiDistinct p
+
+-- "An order is at most 999,999"
+abbrev pub InstructionFits : ℕ → ℕ → Instruction → Type 0
+InstructionFits n m i = (i .order ≤ mostOrder) × EffectsFit n m (i .effects)
+
+-- a terminal's value and effects
+abbrev pub TerminalFits : ℕ → ℕ → Terminal → Type 0
+TerminalFits n m (Other o) = o ≤ mostOrder
+TerminalFits n m (Return o p l) = (o ≤ mostOrder) × PlaceFits n p × EffectsFit n m l
+TerminalFits n m (MaybeThrow o l) = (o ≤ mostOrder) × EffectsFit n m l
+
+-- a block, its number aside
+pub record BlockFits (n m : ℕ) (b : Block) : Type 0 where
+  pub number : b .number ≤ mostBlockNumber
+  pub phiCount : length (b .phis) ≤ mostCount
+  pub phis : Every (PhiFits n) (b .phis)
+  pub instructionCount : length (b .instructions) ≤ mostCount
+  pub instructions : Every (InstructionFits n m) (b .instructions)
+  pub terminal : TerminalFits n m (b .terminal)
+
+-- a sheet within the limits that the reading of its words asks for
+pub record SheetFits (s : Sheet) : Type 0 where
+  pub identifierCount : length (s .identifiers) ≤ mostIdentifiers
+  pub identifiers : Every IdentifierFits (s .identifiers)
+  pub functionCount : length (s .functions) ≤ mostFunctions
+  pub functions : Every FunctionFits (s .functions)
+  pub paramCount : length (s .params) ≤ mostParams
+  pub params : Every (PlaceFits (length (s .identifiers))) (s .params)
+  pub contextCount : length (s .context) ≤ mostContext
+  pub context : Every (PlaceFits (length (s .identifiers))) (s .context)
+  pub returns : PlaceFits (length (s .identifiers)) (s .returns)
+  pub blockCount : length (s .blocks) ≤ mostBlocks
+  pub blocks : Every (BlockFits (length (s .identifiers)) (length (s .functions))) (s .blocks)
+  pub numbers : Distinct (map (λ (b : Block). b .number) (s .blocks))
