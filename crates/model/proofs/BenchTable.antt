@@ -1,4 +1,4 @@
--- The tables of cases hold as a whole, by computing with the definitions: cases 1 to 8 of document 01, cases of our own, and a call for each refusal.
+-- The tables of cases hold as a whole, by computing with the definitions: cases 1 to 8 of document 01, cases of our own, a call for each refusal, and every limit.
 -- The lists below name every definition of specs/ that a table computes with; a definition that is added there is added here.
 use lib.Dec.{T}
 use Rattle.model.specs.Bench.{right}
@@ -37,11 +37,11 @@ unfolding summary diagnosed answer answerWords instructionEffect instruction ope
 calls-refused = tt
 
 pub limits-right : T (refusedSo limits)
-unfolding ended read answered outcome judged kindOf rowOf word count fixed atMost below newNumber times numbered counted flag flags identifier diagnostic innerFunction place unused extra effect effects operand-Sections phi instruction-Sections terminalOf terminal-Sections block-Sections sheet serves call effectOf reactiveOf refusedSo limits
+unfolding ended read answered outcome judged kindOf rowOf word count fixed atMost below newNumber times numbered counted flag flags identifier diagnostic innerFunction place unused extra effect effects operand-Sections phi instruction-Sections terminalOf terminal-Sections block-Sections sheet taken serves call effectOf reactiveOf refusedSo limits
 limits-right = tt
 
 pub effect-table-right : T (refusedSo effectTable)
-unfolding ended read answered outcome judged kindOf rowOf word count fixed atMost below newNumber times numbered counted flag flags identifier diagnostic innerFunction place unused extra effect effects operand-Sections phi instruction-Sections terminalOf terminal-Sections block-Sections sheet serves call effectOf reactiveOf refusedSo effectTable
+unfolding ended read answered outcome judged kindOf rowOf word count fixed atMost below newNumber times numbered counted flag flags identifier diagnostic innerFunction place unused extra effect effects operand-Sections phi instruction-Sections terminalOf terminal-Sections block-Sections sheet taken serves call effectOf reactiveOf refusedSo effectTable
 effect-table-right = tt
 
 pub effect-rows : T (sameRows effectRows)

@@ -1,5 +1,5 @@
 -- Document 01, "Answers and refusals": for each refusal a call that gets it, and the order of two that could both be given.
-use Prim.Native.Nat.{ℕ}
+use Prim.Native.Nat.{ℕ, _-_}
 use mathlib.Core.Bool.{Bool, true, false, _&&_}
 use mathlib.Core.List.{List, [], _∷_, _++_}
 use mathlib.Core.Option.{Option, none, some}
@@ -44,8 +44,9 @@ calls =
     ∷ row predecessorTwice 16384 16384 6
     ∷ row predecessorOfTwo 16384 16384 0
     ∷ row (case2 ++ (0 ∷ [])) 16384 16384 7
+    -- "One answer word short: 9"
     ∷ row case1 16384 (length answer1) 0
-    ∷ row case1 16384 40 9
+    ∷ row case1 16384 (length answer1 - 1) 9
     -- 1 before 2; 2 before 3; the first faulty word before a later one of a lower number
     ∷ row (replicate 16385 0) 16383 16384 1
     ∷ row (replicate 16385 2) 16384 16384 2
