@@ -31,6 +31,7 @@ pub mod Small
 pub mod Table
 pub mod Ours
 pub mod Refusals
+pub mod Boundaries
 -- what is claimed of all this; proofs/ has the theorems
 pub mod Ranges
 pub mod Distinct
