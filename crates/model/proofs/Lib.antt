@@ -33,6 +33,7 @@ pub mod Got
 pub mod InRange
 pub mod Distinct
 pub mod WhenRead
+pub mod FileWords
 -- the theorems about whole sheets
 pub mod Bound
 pub mod NodeAssertion
