@@ -13,5 +13,4 @@ pub mod plain;
 pub mod program;
 pub mod random;
 pub mod replay;
-pub mod steps;
 pub mod text;
