@@ -2,9 +2,9 @@
 //!
 //! Makes N accepted sheets and M damaged calls from a seed and compares the
 //! original, the plain reader and, with the feature `service`, our own library on
-//! them, and on the fixed sheets: bench cases, smallest/ and long walks. Then runs of the
-//! program at PATH: on its fixed files, and R on files from the seed. With files, compares
-//! those instead.
+//! them, and on the fixed sheets: bench cases, ranges of words, smallest/ and long
+//! walks. Then runs of the program at PATH: on its fixed files, and R on files from
+//! the seed. With files, compares those instead.
 
 use std::path::{Path, PathBuf};
 use std::process::ExitCode;
@@ -180,7 +180,7 @@ fn report(call: &Call, difference: &Difference, sides: &mut [Box<dyn Side>]) {
     }
 }
 
-/// The bench cases, the sheets of smallest/, and those whose walks are long.
+/// The bench cases, the ranges of words, the sheets of smallest/, and those whose walks are long.
 fn compare_fixed() -> Counts {
     let mut sides = sides();
     let mut counts = Counts::default();
