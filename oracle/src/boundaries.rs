@@ -343,24 +343,41 @@ fn numbers() -> Vec<Boundary> {
     sheets
 }
 
-/// Instructions without effects, one after another: each order and each effect count.
-fn runs() -> Vec<Boundary> {
+/// Twenty instructions without effects, then one with a mutation. One of the twenty may have an
+/// effect, all of whose words could be orders and effect counts of instructions without.
+fn instructions(with_effect: Option<u32>) -> (Described, Vec<usize>) {
     const RUN: u32 = 20;
     let mut sheet = Described::default();
     sheet.head();
     sheet.put("blocks", 1, Count(256));
     sheet.block(0, 0);
-    sheet.instructions(RUN);
-    let from = sheet.words.len();
+    sheet.instructions(RUN + 1);
+    let mut words = Vec::new();
     for i in 0..RUN {
+        words.extend([sheet.words.len(), sheet.words.len() + 1]);
         sheet.put(&format!("order {i} of {RUN}"), 999_999, Range(999_999));
-        sheet.put(&format!("effects {i} of {RUN}"), 0, Count(1_024));
+        if with_effect == Some(i) {
+            sheet.effects(&format!("instruction {i} of {RUN}"), &[12]);
+        } else {
+            sheet.put(&format!("effects of instruction {i} of {RUN}"), 0, Count(1_024));
+        }
     }
-    let to = sheet.words.len();
+    sheet.instruction(RUN, &[3]);
     sheet.other(999_999);
+    (sheet, words)
+}
+
+/// Instructions without effects, one after another: each order and each effect count passed; and an
+/// effect at each of them.
+fn runs() -> Vec<Boundary> {
+    let (sheet, words) = instructions(None);
     let whole = sheet.words.len();
     let mut sheets = vec![sheet.whole("the largest orders", 0)];
-    sheets.extend((from..to).flat_map(|at| sheet.passed(at, whole)));
+    sheets.extend(words.iter().flat_map(|&at| sheet.passed(at, whole)));
+    for i in 0..words.len() as u32 / 2 {
+        let (sheet, _) = instructions(Some(i));
+        sheets.push(sheet.whole(&format!("an effect of instruction {i} alone"), 0));
+    }
     sheets
 }
 
