@@ -37,11 +37,11 @@ unfolding summary diagnosed answer answerWords instructionEffect instruction ope
 calls-refused = tt
 
 pub limits-right : T (refusedSo limits)
-unfolding ended read answered outcome judged kindOf rowOf word count fixed atMost below newNumber times numbered counted flag flags identifier diagnostic innerFunction place unused extra effect effects operand-Sections phi instruction-Sections terminalOf terminal-Sections block-Sections sheet taken serves call effectOf reactiveOf refusedSo limits
+unfolding ended read answered admit outcome judged kindOf rowOf word count fixed atMost below newNumber times numbered counted flag flags identifier diagnostic innerFunction place unused extra effect effects operand-Sections phi instruction-Sections terminalOf terminal-Sections block-Sections sheet taken serves call effectOf reactiveOf refusedSo limits
 limits-right = tt
 
 pub effect-table-right : T (refusedSo effectTable)
-unfolding ended read answered outcome judged kindOf rowOf word count fixed atMost below newNumber times numbered counted flag flags identifier diagnostic innerFunction place unused extra effect effects operand-Sections phi instruction-Sections terminalOf terminal-Sections block-Sections sheet taken serves call effectOf reactiveOf refusedSo effectTable
+unfolding ended read answered admit outcome judged kindOf rowOf word count fixed atMost below newNumber times numbered counted flag flags identifier diagnostic innerFunction place unused extra effect effects operand-Sections phi instruction-Sections terminalOf terminal-Sections block-Sections sheet taken serves call effectOf reactiveOf refusedSo effectTable
 effect-table-right = tt
 
 pub effect-rows : T (sameRows effectRows)
