@@ -1,5 +1,6 @@
 //! The bench cases of document 01, with the numbers that it gives.
 
+use crate::boundaries;
 use crate::compare::{compare, roomy};
 use crate::damage::{Call, Room};
 use crate::generate::{self, LIMITS, Limit, PASSABLE};
@@ -278,17 +279,24 @@ fn refusal_order() -> Result<(), String> {
     is("1 before 7", refusal(&Call { workspace: 0, ..roomy(longer) })?, 1)
 }
 
+/// Every word at the end of its range and one past it.
+fn words_in_range() -> Result<(), String> {
+    let sheets = boundaries::all();
+    sheets.iter().try_for_each(|s| is(&s.name, refusal(&roomy(&s.words))?, s.refusal))
+}
+
 /// The words of every sheet above; the first one is case 1's.
 pub fn sheets() -> Vec<Vec<u32>> {
     let made = without_blocks().into_iter().chain(graph_sheets()).chain(relation_sheets());
     let mut sheets = vec![case_1_words()];
     sheets.extend(made.map(|sheet| sheet.words()));
     sheets.extend(ordered_sheets().into_iter().map(|(_, words, _)| words));
+    sheets.extend(boundaries::all().into_iter().map(|boundary| boundary.words));
     sheets
 }
 
-pub const FURTHER: [(&str, fn() -> Result<(), String>); 2] =
-    [("limits", limits), ("refusal order", refusal_order)];
+pub const FURTHER: [(&str, fn() -> Result<(), String>); 3] =
+    [("limits", limits), ("refusal order", refusal_order), ("words in range", words_in_range)];
 
 pub const CASES: [fn() -> Result<(), String>; 9] =
     [case_1, case_2, case_3, case_4, case_5, case_6, case_7, case_8, case_9];

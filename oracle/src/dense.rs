@@ -100,16 +100,21 @@ pub fn twice(random: &mut Random, identifiers: usize, mutated: usize) -> Sheet {
 
 /// The longest and densest, each with its name.
 pub fn all() -> Vec<(&'static str, Sheet)> {
+    mutated(MAX_MUTATIONS)
+}
+
+/// The same with so many mutations.
+pub fn mutated(count: usize) -> Vec<(&'static str, Sheet)> {
     let mut r = Random::new(17);
-    let most = (MAX_RELATIONS, MAX_MUTATIONS);
+    let most = MAX_RELATIONS;
     vec![
-        ("chain of 512 by aliases", chain(&mut r, 511, most.1)),
-        ("chain of 512, and back by captures", chain(&mut r, 1022, most.1)),
-        ("512 identifiers, all relations", random(&mut r, 512, most.0, most.1, &[5, 6, 7], &[3])),
-        ("512 identifiers, aliases", random(&mut r, 512, most.0, most.1, &[6], &[1, 2, 3, 4])),
-        ("128 identifiers, all relations", random(&mut r, 128, most.0, most.1, &[5, 6, 7], &[3])),
-        ("32 identifiers, all relations", random(&mut r, 32, most.0, most.1, &[5, 6, 7], &[3])),
-        ("512 identifiers, taken twice", twice(&mut r, 512, most.1)),
-        ("32 identifiers, taken twice", twice(&mut r, 32, most.1)),
+        ("chain of 512 by aliases", chain(&mut r, 511, count)),
+        ("chain of 512, and back by captures", chain(&mut r, 1022, count)),
+        ("512 identifiers, all relations", random(&mut r, 512, most, count, &[5, 6, 7], &[3])),
+        ("512 identifiers, aliases", random(&mut r, 512, most, count, &[6], &[1, 2, 3, 4])),
+        ("128 identifiers, all relations", random(&mut r, 128, most, count, &[5, 6, 7], &[3])),
+        ("32 identifiers, all relations", random(&mut r, 32, most, count, &[5, 6, 7], &[3])),
+        ("512 identifiers, taken twice", twice(&mut r, 512, count)),
+        ("32 identifiers, taken twice", twice(&mut r, 32, count)),
     ]
 }

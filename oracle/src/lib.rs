@@ -1,6 +1,7 @@
 //! The oracle: the original pass, a plain implementation of document 01, and
 //! sheets to hold them against each other.
 
+pub mod boundaries;
 pub mod cases;
 pub mod compare;
 pub mod damage;
@@ -13,5 +14,4 @@ pub mod plain;
 pub mod program;
 pub mod random;
 pub mod replay;
-pub mod steps;
 pub mod text;

@@ -4,10 +4,12 @@ use std::fs::File;
 use std::path::Path;
 use std::process::{Command, Stdio};
 
-use crate::compare::{Difference, lines};
+use crate::compare::{Difference, compare, lines, roomy};
 use crate::damage::damaged;
-use crate::generate;
-use crate::plain;
+use crate::dense::{block, place, sheet};
+use crate::generate::{self, Limit};
+use crate::plain::sheet::{Effect, MAX_FUNCTION_DIAGNOSTICS, Sheet, Terminal};
+use crate::plain::{self, Outcome};
 use crate::random::Random;
 
 /// The answer words that the program lends.
@@ -23,13 +25,107 @@ pub fn file_words(bytes: &[u8]) -> Vec<u32> {
     bytes.chunks(4).map(word).collect()
 }
 
+pub fn bytes(words: &[u32]) -> Vec<u8> {
+    words.iter().flat_map(|w| w.to_le_bytes()).collect()
+}
+
+// =============================================================================
+// Files
+// =============================================================================
+
+/// A file that the program is run on whatever the seed, with its refusal, or 0.
+pub struct Fixed {
+    pub name: String,
+    pub bytes: Vec<u8>,
+    refusal: u32,
+}
+
+/// A sheet with an answer of so many words. A render adds its effect and the diagnostics of the
+/// function node that it finds: the first node has as many as may be, the second what is missing.
+fn answered_in(words: usize) -> Sheet {
+    const EFFECT: usize = 8;
+    const FULL: usize = MAX_FUNCTION_DIAGNOSTICS as usize;
+    // Six counts, two ranges, Create for returns, and its walk.
+    let rest = words - (6 + 2 * 2 + EFFECT + 1) - EFFECT;
+    let (renders, last) = (rest / (EFFECT + FULL), rest % (EFFECT + FULL));
+    let function = |n| Effect { kind: 13, first: place(n), extra: n as u32, ..Effect::default() };
+    let render = |n| Effect { kind: 17, first: place(n), ..Effect::default() };
+    let mut effects = vec![function(0), function(1), render(1)];
+    effects.extend(vec![render(0); renders]);
+    Sheet {
+        functions: vec![(0..FULL as u32).collect(), (100..100 + last as u32).collect()],
+        params: Vec::new(),
+        ..sheet(2, vec![block(0, Vec::new(), &effects)])
+    }
+}
+
+/// A sheet whose last word is the extra word of Freeze, which is at most 11.
+fn ending_in_freeze() -> Sheet {
+    let freeze = Effect { first: place(0), ..Effect::default() };
+    let mut last = block(0, Vec::new(), &[]);
+    last.terminal = Terminal::MaybeThrow { order: 1, effects: vec![freeze] };
+    sheet(1, vec![last])
+}
+
+/// Answers as long as the lent words and one word longer; a last word of which no byte, some and
+/// all are there; a sheet of 16,384 words, and more bytes behind it.
+pub fn fixed() -> Result<Vec<Fixed>, String> {
+    let mut files = Vec::new();
+    let mut put = |name: String, bytes, refusal| files.push(Fixed { name, bytes, refusal });
+    for (words, refusal) in [(ROOM, 0), (ROOM + 1, 9)] {
+        let sheet = answered_in(words);
+        let got = plain::answer(&sheet).words().len();
+        if got != words {
+            return Err(format!("an answer of {got} words was made for {words}"));
+        }
+        put(format!("an answer of {words} words"), bytes(&sheet.words()), refusal);
+    }
+    let whole = bytes(&ending_in_freeze().words());
+    let ending = |last: &[u8]| [&whole[..whole.len() - 4], last].concat();
+    put("no byte of the last word".into(), ending(&[]), 3);
+    for count in 1..=4 {
+        let mut last = vec![0; count];
+        last[0] = 11;
+        put(format!("the last word is 11, in {count} bytes"), ending(&last), 0);
+        last[count - 1] += 1;
+        put(format!("byte {count} of the last word is the last and too large"), ending(&last), 5);
+    }
+    let full = bytes(&generate::at_limit(&mut Random::new(1), Limit::Words).words());
+    for more in 0..=4 {
+        let longer = [&full[..], &[0; 4][..more]].concat();
+        put(format!("16,384 words and {more} bytes"), longer, if more > 0 { 2 } else { 0 });
+    }
+    for file in &files {
+        file.check()?;
+    }
+    Ok(files)
+}
+
+impl Fixed {
+    /// The plain reader refuses the file as it is said here, and agrees with the original.
+    fn check(&self) -> Result<(), String> {
+        let words = file_words(&self.bytes);
+        let refusal = match plain::outcome(&words, ROOM, ROOM) {
+            Outcome::Refused(number) => number,
+            Outcome::Accepted(_) => 0,
+        };
+        if refusal != self.refusal {
+            return Err(format!("{}: refusal {refusal}, not {}", self.name, self.refusal));
+        }
+        match compare(&roomy(&words), &mut []).1 {
+            None => Ok(()),
+            Some(difference) => Err(format!("{}: {difference:?}", self.name)),
+        }
+    }
+}
+
 /// A file: a sheet, accepted or damaged, at times with a cut word or more words than any sheet has.
-fn file(random: &mut Random) -> Vec<u8> {
+pub fn made(random: &mut Random) -> Vec<u8> {
     let words = match random.percent(50) {
         true => generate::sheet(random).words(),
         false => damaged(random).sheet,
     };
-    let mut bytes: Vec<u8> = words.iter().flat_map(|w| w.to_le_bytes()).collect();
+    let mut bytes = bytes(&words);
     match random.below(20) {
         0..3 => bytes.truncate(bytes.len() - random.below(4).min(bytes.len())),
         3..6 => bytes.extend(vec![random.below(2) as u8; random.between(1, 3)]),
@@ -39,6 +135,10 @@ fn file(random: &mut Random) -> Vec<u8> {
     }
     bytes
 }
+
+// =============================================================================
+// Runs
+// =============================================================================
 
 /// The lines that the program prints on a file.
 fn printed(program: &Path, file: &Path) -> std::io::Result<Vec<String>> {
@@ -56,12 +156,11 @@ fn printed(program: &Path, file: &Path) -> std::io::Result<Vec<String>> {
 pub fn compare_run(
     program: &Path,
     place: &Path,
-    random: &mut Random,
+    bytes: &[u8],
 ) -> std::io::Result<Option<(Vec<u32>, Difference)>> {
-    let bytes = file(random);
-    std::fs::write(place, &bytes)?;
+    std::fs::write(place, bytes)?;
     let got = printed(program, place)?;
-    let words = file_words(&bytes);
+    let words = file_words(bytes);
     let expected = lines(&plain::outcome(&words, ROOM, ROOM));
     if got == expected {
         return Ok(None);

@@ -10,6 +10,7 @@
 use crate::cases;
 use crate::compare::{compare, roomy};
 use crate::damage::damaged;
+use crate::dense;
 use crate::generate::{self, LIMITS, PASSABLE};
 use crate::plain::{self, Outcome, sheet::WORKSPACE_WORDS};
 use crate::random::Random;
@@ -20,6 +21,10 @@ pub const ROOM: usize = 18_000;
 
 /// A generated sheet that is longer is not taken, for the size of the file.
 const LONGEST: usize = 2_500;
+
+/// So many mutations have the sheets whose walks are long, for the time that the program takes where
+/// it is compiled without optimization. `compare` has them with all that a sheet may have.
+const LONG_WALKS: usize = 32;
 
 /// The calls that the program makes with an accepted sheet (two of them accepted) and with a
 /// refused one.
@@ -44,14 +49,16 @@ fn record(sheet: &[u32]) -> Recorded {
     Recorded { words, refusal }
 }
 
-/// The bench cases, the order of refusals, the sheets of `smallest/`, those at each limit and one
-/// past it, and `count` accepted and `count` damaged sheets from a fixed seed.
+/// The bench cases, the order of refusals, every word at the end of its range and past it, the
+/// sheets of `smallest/`, those at each limit and one past it, those whose walks are long, and
+/// `count` accepted and `count` damaged sheets from a fixed seed.
 pub fn records(count: usize) -> Vec<Recorded> {
     let mut random = Random::new(15);
     let mut sheets = cases::sheets();
     sheets.extend(text::smallest().into_iter().map(|text| text.words));
     sheets.extend(LIMITS.map(|limit| generate::at_limit(&mut random, limit).words()));
     sheets.extend(PASSABLE.map(|limit| generate::past_limit(&mut random, limit).words()));
+    sheets.extend(dense::mutated(LONG_WALKS).iter().map(|(_, sheet)| sheet.words()));
     let good = std::iter::from_fn(|| Some(generate::sheet(&mut random).words()));
     sheets.extend(good.filter(|words| words.len() <= LONGEST).take(count));
     let bad = std::iter::from_fn(|| Some(damaged(&mut random).sheet));

@@ -1,10 +1,11 @@
--- The tables of cases hold as a whole, by computing with the definitions: cases 1 to 8 of document 01, cases of our own, and a call for each refusal.
+-- The tables of cases hold as a whole, by computing with the definitions: cases 1 to 8 of document 01, cases of our own, a call for each refusal, and every limit.
 -- The lists below name every definition of specs/ that a table computes with; a definition that is added there is added here.
 use lib.Dec.{T}
 use Rattle.model.specs.Bench.{right}
 use Rattle.model.specs.Table.{table}
 use Rattle.model.specs.Ours.{ours}
 use Rattle.model.specs.Refusals.{calls, refusedSo}
+use Rattle.model.specs.Boundaries.{limits, effectTable, effectRows, sameRows, totalsRight}
 use Rattle.model.specs.Answer.{summary, diagnosed, answer, answerWords}
 use Rattle.model.specs.Building.{instructionEffect, instruction, operand, phiNode, wake, terminalEffect, terminal, block, firstNodes, build}
 use Rattle.model.specs.Call.{ended, read, fits, answered, admit, outcome, answerAfter, workspaceAfter}
@@ -34,3 +35,19 @@ ours-right = tt
 pub calls-refused : T (refusedSo calls)
 unfolding summary diagnosed answer answerWords instructionEffect instruction operand phiNode wake terminalEffect terminal block firstNodes build ended read fits answered admit outcome answerAfter workspaceAfter kindOf rowOf create enter withEdge withEntry change store relate assign createFrom word count fixed atMost below newNumber times numbered counted renderPushes renderVisit renderStep renderRun renderWalk walksOf after rendersOf rendered reached largestEnd flag flags identifier diagnostic innerFunction place unused extra effect effects operand-Sections phi instruction-Sections terminalOf terminal-Sections block-Sections sheet taken serves call tracked simulation flowEffects simulate enough accepts copied recorded sheetEnds built realWalks afterReal afterRenders collectParamEffects captureMark marked createReturns instructionEffects blockRelations totals over judged effectOf reactiveOf traitsWord pushes visit step run walkOf mutate refusedSo calls
 calls-refused = tt
+
+pub limits-right : T (refusedSo limits)
+unfolding ended read answered admit outcome judged kindOf rowOf word count fixed atMost below newNumber times numbered counted flag flags identifier diagnostic innerFunction place unused extra effect effects operand-Sections phi instruction-Sections terminalOf terminal-Sections block-Sections sheet taken serves call effectOf reactiveOf refusedSo limits
+limits-right = tt
+
+pub effect-table-right : T (refusedSo effectTable)
+unfolding ended read answered admit outcome judged kindOf rowOf word count fixed atMost below newNumber times numbered counted flag flags identifier diagnostic innerFunction place unused extra effect effects operand-Sections phi instruction-Sections terminalOf terminal-Sections block-Sections sheet taken serves call effectOf reactiveOf refusedSo effectTable
+effect-table-right = tt
+
+pub effect-rows : T (sameRows effectRows)
+unfolding kindOf rowOf
+effect-rows = tt
+
+pub totals-right : T totalsRight
+unfolding over totalsRight
+totals-right = tt

@@ -37,6 +37,7 @@ pub mod Refusing
 pub mod Numbers
 pub mod BackLaws
 pub mod Encoder
+pub mod FileWords
 -- the theorems about whole sheets
 pub mod Bound
 pub mod NodeAssertion

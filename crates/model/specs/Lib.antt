@@ -1,5 +1,5 @@
 -- The definitions of document 01, in its order.
--- "Answers and refusals" and "The sheet": limits, the tree, one reading, the totals
+-- "Answers and refusals" and "The sheet": limits, the tree, one reading, the totals, the words of a file
 pub mod Limits
 pub mod Lists
 pub mod Sheet
@@ -8,6 +8,7 @@ pub mod Effects
 pub mod Reading
 pub mod Sections
 pub mod Totals
+pub mod Files
 -- "Building"
 pub mod Graph
 pub mod Mutation
@@ -31,6 +32,7 @@ pub mod Small
 pub mod Table
 pub mod Ours
 pub mod Refusals
+pub mod Boundaries
 -- what is claimed of all this; proofs/ has the theorems
 pub mod Ranges
 pub mod Distinct

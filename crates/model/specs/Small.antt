@@ -1,30 +1,73 @@
 -- Small sheets as words, for the tables of cases: places with no traits and no span, effects with extra 0, one instruction of order 1 in each block.
 use Prim.Native.Nat.{ℕ, _*_}
-use mathlib.Core.List.{List, [], _∷_, _++_}
+use mathlib.Core.List.{List, [], _∷_, _++_, map}
 use lib.ListN.{length, replicate}
 use Rattle.model.specs.Lists.{gather}
 use Rattle.model.specs.Bench.{Claim, Case}
+
+-- parts one after another
+abbrev pub joined : List (List ℕ) → List ℕ
+joined = gather (λ (p : List ℕ). p)
+
+-- parts after their count
+abbrev pub several : List (List ℕ) → List ℕ
+several ps = length ps ∷ joined ps
 
 -- a place with no traits and no span
 abbrev pub place : ℕ → List ℕ
 place x = x ∷ 0 ∷ 0 ∷ []
 
+-- a place with the Capture mark
+abbrev pub mark : ℕ → List ℕ
+mark x = x ∷ 3 ∷ 0 ∷ []
+
+-- an effect by its kind, its two places and its extra word
+abbrev pub effect : ℕ → List ℕ → List ℕ → ℕ → List ℕ
+effect k p q x = k ∷ (p ++ (q ++ (x ∷ [])))
+
 -- an effect of one place
 abbrev pub one : ℕ → ℕ → List ℕ
-one k x = k ∷ (place x ++ (place 0 ++ (0 ∷ [])))
+one k x = effect k (place x) (place 0) 0
 
 -- an effect of two places
 abbrev pub two : ℕ → ℕ → ℕ → List ℕ
-two k x y = k ∷ (place x ++ (place y ++ (0 ∷ [])))
+two k x y = effect k (place x) (place y) 0
 
--- flags 0 and 1, n identifiers of zeros, no inner function, these parameters, no context, returns r, then the blocks
-abbrev pub sheet : ℕ → List ℕ → ℕ → List (List ℕ) → List ℕ
-sheet n ps r bs =
-    2 ∷ 0 ∷ 1 ∷ n ∷ (replicate (3 * n) 0 ++ (0 ∷ length ps ∷ (gather place ps ++ (0 ∷ 1 ∷ (place r ++ (length bs ∷ gather (λ (b : List ℕ). b) bs))))))
+-- an operand of a phi: its predecessor and its place
+abbrev pub operand : ℕ → ℕ → List ℕ
+operand b x = b ∷ place x
 
--- block b with phis (each a place, a count and operands as words) and one instruction of order 1 with these effects
+-- a phi and its operands
+abbrev pub phi : ℕ → List (List ℕ) → List ℕ
+phi x os = place x ++ several os
+
+-- block b with phis and one instruction of order 1 with these effects
 abbrev pub block : ℕ → List (List ℕ) → List (List ℕ) → List ℕ
-block b phis es = b ∷ length phis ∷ (gather (λ (p : List ℕ). p) phis ++ (1 ∷ 1 ∷ length es ∷ (gather (λ (e : List ℕ). e) es ++ (0 ∷ 0 ∷ []))))
+block b phis es = b ∷ (several phis ++ (1 ∷ 1 ∷ (several es ++ (0 ∷ 0 ∷ []))))
+
+-- function expression e and validations v
+abbrev pub flags : ℕ → ℕ → List ℕ
+flags e v = 2 ∷ e ∷ v ∷ []
+
+-- n identifiers of zeros
+abbrev pub identifiers : ℕ → List ℕ
+identifiers n = n ∷ replicate (3 * n) 0
+
+-- inner functions, each by its diagnostics
+abbrev pub functions : List (List ℕ) → List ℕ
+functions ds = several (map (λ (l : List ℕ). length l ∷ l) ds)
+
+-- parameters or context
+abbrev pub places : List ℕ → List ℕ
+places xs = several (map place xs)
+
+-- flags, n identifiers, inner functions, parameters, context, returns r, then the blocks
+abbrev pub whole : List ℕ → ℕ → List (List ℕ) → List ℕ → List ℕ → ℕ → List (List ℕ) → List ℕ
+whole fs n ds ps cs r bs = joined (fs ∷ identifiers n ∷ functions ds ∷ places ps ∷ places cs ∷ places (r ∷ []) ∷ several bs ∷ [])
+
+-- the same with flags 0 and 1, no inner function and no context
+abbrev pub sheet : ℕ → List ℕ → ℕ → List (List ℕ) → List ℕ
+sheet n ps r bs = whole (flags 0 1) n [] ps [] r bs
 
 -- a row of a table
 abbrev pub case : List ℕ → Claim → Case

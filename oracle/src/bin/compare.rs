@@ -2,8 +2,9 @@
 //!
 //! Makes N accepted sheets and M damaged calls from a seed and compares the
 //! original, the plain reader and, with the feature `service`, our own library on
-//! them, and on the fixed sheets: bench cases, smallest/ and long walks. Then R runs
-//! of the program at PATH. With files, compares those instead.
+//! them, and on the fixed sheets: bench cases, ranges of words, smallest/ and long
+//! walks. Then runs of the program at PATH: on its fixed files, and R on files from
+//! the seed. With files, compares those instead.
 
 use std::path::{Path, PathBuf};
 use std::process::ExitCode;
@@ -12,7 +13,7 @@ use std::time::{Duration, Instant};
 use oracle::compare::{Difference, Side, compare, lines, original_lines, roomy, shrink};
 use oracle::damage::{Call, damaged};
 use oracle::plain;
-use oracle::program::{compare_run, file_words};
+use oracle::program::{self, compare_run, file_words};
 use oracle::random::Random;
 use oracle::{cases, dense, generate, text};
 
@@ -77,6 +78,8 @@ struct Counts {
     sheets: u64,
     damaged: u64,
     runs: u64,
+    /// Those of the runs that were on fixed files.
+    fixed_runs: u64,
     /// By refusal; 0 is accepted.
     refusals: [u64; 10],
     differences: u64,
@@ -110,6 +113,7 @@ impl Counts {
         self.sheets += other.sheets;
         self.damaged += other.damaged;
         self.runs += other.runs;
+        self.fixed_runs += other.fixed_runs;
         self.differences += other.differences;
         for (sum, n) in self.refusals.iter_mut().zip(other.refusals) {
             *sum += n;
@@ -136,7 +140,8 @@ impl Counts {
             parts.push(format!("{} damaged ({})", self.damaged, per_refusal.join(" ")));
         }
         if self.runs > 0 {
-            parts.push(format!("{} runs of the program", self.runs));
+            let fixed = self.fixed_runs;
+            parts.push(format!("{} runs of the program ({fixed} on fixed files)", self.runs));
         }
         parts.push(format!("{} differences", self.differences));
         let ours = if cfg!(feature = "service") { " and ours" } else { "" };
@@ -175,7 +180,7 @@ fn report(call: &Call, difference: &Difference, sides: &mut [Box<dyn Side>]) {
     }
 }
 
-/// The bench cases, the sheets of smallest/, and those whose walks are long.
+/// The bench cases, the ranges of words, the sheets of smallest/, and those whose walks are long.
 fn compare_fixed() -> Counts {
     let mut sides = sides();
     let mut counts = Counts::default();
@@ -224,17 +229,28 @@ fn compare_made(arguments: &Arguments, own: u64) -> Counts {
     counts
 }
 
-/// Runs of the program.
-fn compare_runs(program: &Path, arguments: &Arguments) -> std::io::Result<Counts> {
+/// Runs of the program: on the fixed files, then on files from the seed.
+fn compare_runs(path: &Path, arguments: &Arguments) -> Result<Counts, String> {
     let mut counts = Counts::default();
     let mut random = Random::new(arguments.seed);
     let place = target("program.sheet");
-    for _ in 0..arguments.runs {
+    let mut run = |bytes: &[u8]| {
         counts.runs += 1;
-        if let Some((words, difference)) = compare_run(program, &place, &mut random)? {
-            counts.differs(roomy(&words), difference);
+        let found = compare_run(path, &place, bytes).map_err(|error| error.to_string())?;
+        let differs = found.is_some();
+        found.into_iter().for_each(|(words, difference)| counts.differs(roomy(&words), difference));
+        Ok::<bool, String>(differs)
+    };
+    let fixed = program::fixed()?;
+    for file in &fixed {
+        if run(&file.bytes)? {
+            println!("the program differs on a fixed file: {}", file.name);
         }
     }
+    for _ in 0..arguments.runs {
+        run(&program::made(&mut random))?;
+    }
+    counts.fixed_runs = fixed.len() as u64;
     Ok(counts)
 }
 
