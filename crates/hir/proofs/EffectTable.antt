@@ -6,10 +6,11 @@ use mathlib.Core.List.{List, [], _∷_}
 use native.Mathlib.Omega.{arith}
 use lib.Dec.{T, eqb, eqb→eq}
 use lib.ListN.{getD, List·getD-eq-default}
-use Rattle.model.specs.Sheet.{Freeze}
+use Rattle.model.specs.Limits.{mostKind, mostDiagnostic}
+use Rattle.model.specs.Sheet.{EffectKind, Freeze}
 use Rattle.model.specs.Effects.{kinds, kindOf, rowOf, Role as ModelRole, relation, mutation, render, diagnosis, nothing}
 use Rattle.hir.specs.Numbers.{kindSays, kindNumber}
-use Rattle.hir.specs.Table.{roleSays, rowSays, tableRow}
+use Rattle.hir.specs.Table.{roleSays, TableRow, rowSays, tableRow}
 use Rattle.hir.specs.declared.EffectKind.{EffectKind as Kind}
 use Rattle.hir.specs.declared.EffectKind.the-variants.{Freeze as KindFreeze, Mutate as KindMutate, MutateConditionally as KindMutateConditionally, MutateTransitive as KindMutateTransitive, MutateTransitiveConditionally as KindMutateTransitiveConditionally, Capture as KindCapture, Alias as KindAlias, MaybeAlias as KindMaybeAlias, Assign as KindAssign, Create as KindCreate, CreateFrom as KindCreateFrom, ImmutableCapture as KindImmutableCapture, Apply as KindApply, CreateFunction as KindCreateFunction, MutateFrozen as KindMutateFrozen, MutateGlobal as KindMutateGlobal, Impure as KindImpure, Render as KindRender}
 use Rattle.hir.specs.declared.effects.Row.{Row}
@@ -46,9 +47,9 @@ rows =
     row KindImmutableCapture 2 0 Nothing ∷
     row KindApply 0 0 Nothing ∷
     row KindCreateFunction 1 63 Nothing ∷
-    row KindMutateFrozen 1 65535 Diagnosis ∷
-    row KindMutateGlobal 1 65535 Diagnosis ∷
-    row KindImpure 1 65535 Diagnosis ∷
+    row KindMutateFrozen 1 mostDiagnostic Diagnosis ∷
+    row KindMutateGlobal 1 mostDiagnostic Diagnosis ∷
+    row KindImpure 1 mostDiagnostic Diagnosis ∷
     row KindRender 1 0 Render ∷ []
 
 -- the roles by number, and back
@@ -91,15 +92,16 @@ same r k t =
     rw (q, e, s, u)
 
 -- every row of the table
-pub row-right : (k : ℕ) → k ≤ 17 → rowSays (getD rows k none) ≡ tableRow k
+pub row-right : (k : ℕ) → k ≤ mostKind → rowSays (getD rows k none) ≡ tableRow k
 unfolding right kindOf rowOf
 row-right k h = same (getD rows k none) k (at none right rows tt k (omega arith))
 
 -- a number above 17 has the first row, as in the definitions
-pub row-beyond : (k : ℕ) → 17 < k → rowSays first ≡ tableRow k
+pub row-beyond : (k : ℕ) → mostKind < k → rowSays first ≡ tableRow k
 unfolding tableRow kindOf rowOf
 row-beyond k h = rw (List·getD-eq-default kinds Freeze {n = k} (omega arith))
 
--- what a kind is for, by its name
-pub of-kind : {k k′ : Kind} → k ≡ k′ → rowOf (kindSays k′) .role ≡ rowOf (kindSays k) .role
-of-kind e = sym (ap (λ (x : Kind). rowOf (kindSays x) .role) e)
+-- what a kind is for, by its number
+pub role-of-row : (k : Kind) (r : Row) → rowSays r ≡ tableRow (kindNumber k) → roleSays (r .role) ≡ rowOf (kindSays k) .role
+unfolding tableRow
+role-of-row k r e = ap (λ (t : TableRow). t .role) e ∙ ap (λ (x : EffectKind). rowOf x .role) (kind-of-number k)

@@ -6,7 +6,6 @@ pub mod TraitsLaws
 pub mod WordLaws
 pub mod RunLaws
 pub mod EffectTable
-pub mod Fits
 pub mod LimitTable
 pub mod Standing
 pub mod AtLaws

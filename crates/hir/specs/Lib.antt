@@ -4,5 +4,4 @@ pub mod Runs
 pub mod Says
 pub mod Words
 pub mod Parts
-pub mod EffectFits
 pub mod Table

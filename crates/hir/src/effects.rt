@@ -1,20 +1,18 @@
 // An effect, held to the table of its kind.
-ghost use Prim.Native.Nat.{_+_, _≤_};
 ghost use mathlib.Core.Path.{_≡_};
-ghost use lib.ListN.{length};
 ghost use Rattle.model.specs.Effects.{rowOf};
-ghost use Rattle.model.specs.Lists.{pick};
 ghost use Rattle.model.specs.Sections.{extra, effect};
 ghost use Rattle.hir.specs.Numbers.{kindSays};
 ghost use Rattle.hir.specs.Says.{wordSays, effectSays};
-ghost use Rattle.hir.specs.Table.{roleSays, rowSays, tableRow, limitsIn, limitsOf};
-ghost use Rattle.hir.specs.EffectFits.{effectKind, placeFits, effectFits};
+ghost use Rattle.hir.specs.Table.{roleSays, rowSays, tableRow};
 use crate::AliasingEffect;
 use crate::Cursor;
 use crate::EffectKind;
 use crate::EffectStep;
 use crate::PlaceStep;
 use crate::WordStep;
+use crate::limits::MOST_DIAGNOSTIC;
+use crate::limits::MOST_KIND;
 
 // What an effect of an instruction is for.
 pub enum Role {
@@ -121,19 +119,19 @@ const ROWS: [Row; 18] = [
     Row {
         kind: EffectKind::MutateFrozen,
         places: 1,
-        extra: 65535,
+        extra: MOST_DIAGNOSTIC,
         role: Role::Diagnosis,
     },
     Row {
         kind: EffectKind::MutateGlobal,
         places: 1,
-        extra: 65535,
+        extra: MOST_DIAGNOSTIC,
         role: Role::Diagnosis,
     },
     Row {
         kind: EffectKind::Impure,
         places: 1,
-        extra: 65535,
+        extra: MOST_DIAGNOSTIC,
         role: Role::Diagnosis,
     },
     Row {
@@ -148,10 +146,10 @@ const ROWS: [Row; 18] = [
 pub fn row_of(number: u32) -> Row
     ensures { λ r. ⌜ rowSays r ≡ tableRow number ⌝ }
 {
-    let k = number as usize;
-    if 17 < k {
+    if MOST_KIND < number {
         return ROWS[0];
     }
+    let k = number as usize;
     ROWS[k]
 }
 
@@ -159,26 +157,8 @@ pub fn row_of(number: u32) -> Row
 pub fn role_of(kind: EffectKind) -> Role
     ensures { λ r. ⌜ roleSays r ≡ rowOf (kindSays kind) .role ⌝ }
 {
-    match kind {
-        EffectKind::Freeze => Role::Nothing,
-        EffectKind::Mutate => Role::Mutation,
-        EffectKind::MutateConditionally => Role::Mutation,
-        EffectKind::MutateTransitive => Role::Mutation,
-        EffectKind::MutateTransitiveConditionally => Role::Mutation,
-        EffectKind::Capture => Role::Relation,
-        EffectKind::Alias => Role::Relation,
-        EffectKind::MaybeAlias => Role::Relation,
-        EffectKind::Assign => Role::Relation,
-        EffectKind::Create => Role::Nothing,
-        EffectKind::CreateFrom => Role::Relation,
-        EffectKind::ImmutableCapture => Role::Nothing,
-        EffectKind::Apply => Role::Nothing,
-        EffectKind::CreateFunction => Role::Nothing,
-        EffectKind::MutateFrozen => Role::Diagnosis,
-        EffectKind::MutateGlobal => Role::Diagnosis,
-        EffectKind::Impure => Role::Diagnosis,
-        EffectKind::Render => Role::Render,
-    }
+    let row = row_of(kind.number());
+    row.role
 }
 
 // The extra word: at most the table's; for CreateFunction below the count of inner functions.
@@ -188,7 +168,7 @@ fn extra(c: Cursor, s: &[u32], m: u32, row: Row) -> WordStep
 {
     let kind = row.kind;
     let most = row.extra;
-    if kind.number() == 13 {
+    if kind.is(EffectKind::CreateFunction) {
         c.below(s, m)
     } else {
         c.at_most(s, most)
@@ -201,7 +181,7 @@ pub fn effect(c: Cursor, s: &[u32], n: u32, m: u32) -> EffectStep
 {
     let number: u32;
     let c1: Cursor;
-    match c.at_most(s, 17) {
+    match c.at_most(s, MOST_KIND) {
         WordStep::Got(w, d) => {
             number = w;
             c1 = d;
@@ -229,116 +209,5 @@ pub fn effect(c: Cursor, s: &[u32], n: u32, m: u32) -> EffectStep
             PlaceStep::Refused(k3) => EffectStep::Refused(k3),
         },
         PlaceStep::Refused(k2) => EffectStep::Refused(k2),
-    }
-}
-
-// Places and largest extra word by the kinds' numbers, each row in one word: places + 4 * extra.
-const LIMITS: [u32; 18] = [
-    1 + 4 * 11, // Freeze
-    1 + 4 * 1, // Mutate
-    1 + 4 * 0, // MutateConditionally
-    1 + 4 * 0, // MutateTransitive
-    1 + 4 * 0, // MutateTransitiveConditionally
-    2 + 4 * 0, // Capture
-    2 + 4 * 0, // Alias
-    2 + 4 * 0, // MaybeAlias
-    2 + 4 * 0, // Assign
-    1 + 4 * 71, // Create
-    2 + 4 * 0, // CreateFrom
-    2 + 4 * 0, // ImmutableCapture
-    0 + 4 * 0, // Apply
-    1 + 4 * 63, // CreateFunction
-    1 + 4 * 65535, // MutateFrozen
-    1 + 4 * 65535, // MutateGlobal
-    1 + 4 * 65535, // Impure
-    1 + 4 * 0, // Render
-];
-
-// The word of a kind's number. With an arm for each row the compiled table is read where it stands; an index that varies would copy it first.
-fn word_of(number: u32) -> u32
-    requires { ⌜ number ≤ 17 ⌝ }
-    ensures { λ r. ⌜ limitsIn r ≡ limitsOf number ⌝ }
-{
-    let limits = LIMITS;
-    match number {
-        0 => limits[0],
-        1 => limits[1],
-        2 => limits[2],
-        3 => limits[3],
-        4 => limits[4],
-        5 => limits[5],
-        6 => limits[6],
-        7 => limits[7],
-        8 => limits[8],
-        9 => limits[9],
-        10 => limits[10],
-        11 => limits[11],
-        12 => limits[12],
-        13 => limits[13],
-        14 => limits[14],
-        15 => limits[15],
-        16 => limits[16],
-        17 => limits[17],
-        _ => 0,
-    }
-}
-
-// The first if the test holds, else the second.
-fn pick(test: bool, a: u32, b: u32) -> u32
-    ensures { λ r. ⌜ r ≡ pick test a b ⌝ }
-{
-    if test {
-        return a;
-    }
-    b
-}
-
-// Whether the three words of a place are in their ranges; where the kind does not use it, whether they are 0.
-fn place_fits(s: &[u32], at: usize, n: u32, used: bool) -> bool
-    requires { ⌜ at + 3 ≤ length (now s) ⌝ }
-    ensures { λ r. ⌜ r ≡ placeFits used n (now (s .entry)) at ⌝ }
-{
-    let identifiers = pick(used, n, 1);
-    let traits = pick(used, 15, 0);
-    let span = pick(used, 0, s[at + 2]);
-    (s[at] < identifiers) & (s[at + 1] <= traits) & (span == 0)
-}
-
-// Whether the eight words of an effect are in their ranges. The kind only moves the limits, so that no branch waits for it.
-fn effect_fits(s: &[u32], at: usize, n: u32, m: u32) -> bool
-    requires { ⌜ at + 8 ≤ length (now s) ⌝ }
-    ensures { λ r. ⌜ r ≡ effectFits n m (now (s .entry)) at ⌝ }
-{
-    let number = s[at];
-    if 17 < number {
-        return false;
-    }
-    let word = word_of(number);
-    let places = word % 4;
-    let extras = pick(number == 13, m, word / 4 + 1);
-    let first = place_fits(s, at + 1, n, 1 <= places);
-    let second = place_fits(s, at + 4, n, 2 <= places);
-    first & second & (s[at + 7] < extras)
-}
-
-// The number of the kind of the effect that stands here. Most effects are found good by one test; for any other the first faulty word decides.
-pub fn effect_kind(c: Cursor, s: &[u32], n: u32, m: u32) -> WordStep
-    ensures { λ r. ⌜ wordSays r ≡ effectKind n m (now (s .entry)) (c .at) ⌝ }
-{
-    let at = c.at;
-    let len = s.len();
-    if 8 <= len {
-        if at <= len - 8 {
-            if effect_fits(s, at, n, m) {
-                return WordStep::Got(s[at], Cursor { at: at + 8 });
-            }
-        }
-    }
-    match effect(c, s, n, m) {
-        EffectStep::Got(e, d) => {
-            let kind = e.kind;
-            WordStep::Got(kind.number(), d)
-        }
-        EffectStep::Refused(k) => WordStep::Refused(k),
     }
 }

@@ -5,6 +5,7 @@ ghost use Rattle.hir.specs.Numbers.{effectNumber, kindNumber, terminalNu
 
 pub mod at;
 pub mod effects;
+pub mod limits;
 pub mod parts;
 pub mod places;
 pub mod runs;
@@ -119,6 +120,13 @@ impl EffectKind {
             EffectKind::Impure => 16,
             EffectKind::Render => 17,
         }
+    }
+
+    // Whether both are one kind.
+    pub fn is(self, other: EffectKind) -> bool
+        ensures { λ r. ⌜ r ≡ eqb (kindNumber self) (kindNumber other) ⌝ }
+    {
+        self.number() == other.number()
     }
 }
 

@@ -20,6 +20,13 @@ use crate::MutableRange;
 use crate::OrderStep;
 use crate::TerminalKind;
 use crate::WordStep;
+use crate::limits::FLAG_COUNT;
+use crate::limits::MOST_BLOCK_NUMBER;
+use crate::limits::MOST_FLAG;
+use crate::limits::MOST_ORDER;
+use crate::limits::MOST_RANGE;
+use crate::limits::MOST_TERMINAL;
+use crate::limits::MOST_TYPE;
 
 // The type of a number; one above 2 is refused before.
 pub fn type_of(number: u32) -> IdentifierType
@@ -38,7 +45,7 @@ impl Cursor {
     pub fn order(self, s: &[u32]) -> OrderStep
         ensures { λ r. ⌜ orderSays r ≡ atMost mostOrder (now (s .entry)) (self .at) ⌝ }
     {
-        match self.at_most(s, 999999) {
+        match self.at_most(s, MOST_ORDER) {
             WordStep::Got(w, c) => OrderStep::Got(EvaluationOrder(w), c),
             WordStep::Refused(k) => OrderStep::Refused(k),
         }
@@ -48,7 +55,7 @@ impl Cursor {
     pub fn block_number(self, s: &[u32]) -> BlockStep
         ensures { λ r. ⌜ blockSays r ≡ atMost mostBlockNumber (now (s .entry)) (self .at) ⌝ }
     {
-        match self.at_most(s, 65535) {
+        match self.at_most(s, MOST_BLOCK_NUMBER) {
             WordStep::Got(w, c) => BlockStep::Got(BlockId(w), c),
             WordStep::Refused(k) => BlockStep::Refused(k),
         }
@@ -57,7 +64,7 @@ impl Cursor {
     pub fn terminal_kind(self, s: &[u32]) -> KindStep
         ensures { λ r. ⌜ kindStepSays r ≡ atMost mostTerminal (now (s .entry)) (self .at) ⌝ }
     {
-        match self.at_most(s, 2) {
+        match self.at_most(s, MOST_TERMINAL) {
             WordStep::Got(w, c) => {
                 if w == 0 {
                     return KindStep::Got(TerminalKind::Other, c);
@@ -75,9 +82,9 @@ impl Cursor {
     pub fn flags(self, s: &[u32]) -> FlagsStep
         ensures { λ r. ⌜ flagsSays r ≡ flags (now (s .entry)) (self .at) ⌝ }
     {
-        match self.fixed(s, 2) {
-            WordStep::Got(_, c1) => match c1.at_most(s, 1) {
-                WordStep::Got(expression, c2) => match c2.at_most(s, 1) {
+        match self.fixed(s, FLAG_COUNT) {
+            WordStep::Got(_, c1) => match c1.at_most(s, MOST_FLAG) {
+                WordStep::Got(expression, c2) => match c2.at_most(s, MOST_FLAG) {
                     WordStep::Got(validations, c3) => {
                         let f = Flags {
                             function_expression: expression == 1,
@@ -97,9 +104,9 @@ impl Cursor {
     pub fn identifier(self, s: &[u32]) -> IdentifierStep
         ensures { λ r. ⌜ identifierSays r ≡ identifier (now (s .entry)) (self .at) ⌝ }
     {
-        match self.at_most(s, 1000000) {
-            WordStep::Got(start, c1) => match c1.at_most(s, 1000000) {
-                WordStep::Got(end, c2) => match c2.at_most(s, 2) {
+        match self.at_most(s, MOST_RANGE) {
+            WordStep::Got(start, c1) => match c1.at_most(s, MOST_RANGE) {
+                WordStep::Got(end, c2) => match c2.at_most(s, MOST_TYPE) {
                     WordStep::Got(number, c3) => {
                         let mutable_range = MutableRange {
                             start: EvaluationOrder(start),

@@ -10,6 +10,7 @@ use crate::IdentifierId;
 use crate::Place;
 use crate::PlaceStep;
 use crate::WordStep;
+use crate::limits::MOST_TRAITS;
 
 // The effects by their numbers.
 const EFFECTS: [Effect; 8] = [
@@ -55,7 +56,7 @@ impl Cursor {
         ensures { λ r. ⌜ placeSays r ≡ place n (now (s .entry)) (self .at) ⌝ }
     {
         match self.below(s, n) {
-            WordStep::Got(i, c1) => match c1.at_most(s, 15) {
+            WordStep::Got(i, c1) => match c1.at_most(s, MOST_TRAITS) {
                 WordStep::Got(traits, c2) => match c2.word(s) {
                     WordStep::Got(span, c3) => {
                         let effect = effect_of(traits);

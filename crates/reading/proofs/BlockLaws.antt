@@ -1,24 +1,19 @@
 -- The parts of a block, judged: what is left to read once the words so far were read.
-use Prim.Native.Nat.{ℕ, _+_, _-_, _*_, _≤_, _<_}
+use Prim.Native.Nat.{ℕ, _+_, _<_}
 use native.Mathlib.Numerals.{add-one}
 use mathlib.Core.Path.{_≡_, _∙_, refl}
 use mathlib.Core.Bool.{Bool, true, false, _||_, or-false, or-assoc, or-comm}
 use mathlib.Core.List.{List, []}
 use lib.ListN.{length, drop, getD}
 use lib.Seq.{drop-length, drop-cons}
-use lib.Dec.{leb, eqb}
-use borrow.Author.Tests.{leb-true}
+use lib.Dec.{eqb}
 use Rattle.model.specs.Limits.{mostCount, mostOrder, mostTerminal, mostBlocks}
 use Rattle.model.specs.Lists.{each, among}
 use Rattle.model.specs.Sheet.{Place, EffectList, Operand, Phi, Instruction, Terminal, Return, MaybeThrow, BlockId, EvaluationOrder}
-use Rattle.model.specs.Reading.{Position, got, refused, _>>=_, pure, count, atMost, times, numbered, counted}
+use Rattle.model.specs.Reading.{Position, got, refused, _>>=_, pure, count, atMost, numbered, counted}
 use Rattle.model.specs.Sections.{place, effects, operand, phi, instruction, terminalOf, terminal, block}
-use Rattle.hir.specs.Runs.{noEffect, Run}
-use Rattle.hir.proofs.WordLaws.{and-left, and-right}
-use Rattle.hir.proofs.RunLaws.{run-leaves, emptyFrom, empty-got}
-use Rattle.reading.specs.Empty.{emptyFits}
 use Rattle.reading.specs.Judging.{Told, judge, withRelation, tellEffect, tellOperand, tellPhi, tellInstruction, tellTerminal, tellBlock, blocksOf}
-use Rattle.reading.proofs.JudgeLaws.{judge-got, got-judged, refused-judged, then-got, then-refused, then-made, times-next}
+use Rattle.reading.proofs.JudgeLaws.{got-judged, refused-judged, then-got, then-refused, then-made}
 
 -- a search: what is found or stands from here on, one number later
 pub listed-next : (x : ℕ) (l : List ℕ) (i : ℕ) (found : Bool) → i < length l → found || among x (drop i l) ≡ eqb x (getD l i 0) || found || among x (drop (i + 1) l)
@@ -139,15 +134,3 @@ module _ (n m : ℕ) (t : Told) (ws : List ℕ) (c : Position) where
   pub blocks-refused : (r : ℕ) → count mostBlocks ws c ≡ refused r → judge (blocksOf n m) (each tellBlock) t ws c ≡ refused r
   unfolding blocksOf
   blocks-refused r x = then-refused (count mostBlocks) (λ (k : ℕ). numbered k [] (block n m)) (each tellBlock) t ws c r x
-
--- a run of instructions without effects: they are read, and nothing is told
-pub empty-run : (n m : ℕ) (t : Told) (ws : List ℕ) (r left : ℕ) (c : Position) → Run emptyFits ws c left r →
-    judge (times left (instruction n m)) (each tellInstruction) t ws c ≡ judge (times (left - r) (instruction n m)) (each tellInstruction) t ws (c + 2 * r)
-empty-run n m t ws r left c x =
-    run-leaves emptyFits ws
-    (λ (k : ℕ) (d : Position). judge (times left (instruction n m)) (each tellInstruction) t ws c ≡ judge (times k (instruction n m)) (each tellInstruction) t ws d)
-    (λ k d z i e q.
-    let fits : getD ws d 0 ≤ mostOrder = leb-true _ _ (and-left (leb (getD ws d 0) mostOrder) (noEffect ws d) e) in
-    let none = and-right (leb (getD ws d 0) mostOrder) (noEffect ws d) e in
-    q ∙ times-next (instruction n m) tellInstruction ws k t t d (d + 2) z (judge-got (instruction n m) tellInstruction t ws d (emptyFrom ws d) (d + 2) (empty-got n m ws d i none fits)))
-    r left c x refl

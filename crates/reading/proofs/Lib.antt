@@ -1,9 +1,7 @@
 pub mod JudgeLaws
-pub mod KindLaws
 pub mod BlockLaws
 pub mod OperandLaws
 pub mod SectionLaws
-pub mod FitLaws
 pub mod WholeLaws
 pub mod TotalsLaws
 pub mod VerdictLaws

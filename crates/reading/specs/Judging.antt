@@ -8,7 +8,7 @@ use Rattle.model.specs.Lists.{pick, each}
 use Rattle.model.specs.Sheet.{EffectKind, Effect, Operand, Phi, Instruction, Terminal, Other, Return, MaybeThrow, Block}
 use Rattle.model.specs.Effects.{Role, relation, mutation, render, diagnosis, nothing, rowOf, isAlias}
 use Rattle.model.specs.Reading.{Result, got, refused, Read, _>>=_, count, numbered}
-use Rattle.model.specs.Limits.{mostBlocks}
+use Rattle.model.specs.Limits.{mostBlocks, mostRelations, mostMutations, mostRenders}
 use Rattle.model.specs.Sections.{block}
 
 module _ {A B : Type 0} where
@@ -27,15 +27,15 @@ bump stop x = pick (ltb x stop) (x + 1) x
 
 -- one above each limit of refusal 8
 abbrev pub relationStop : ℕ
-relationStop = 1025
+relationStop = mostRelations + 1
 
 -- the same for mutations
 abbrev pub mutationStop : ℕ
-mutationStop = 513
+mutationStop = mostMutations + 1
 
 -- the same for renders
 abbrev pub renderStop : ℕ
-renderStop = 257
+renderStop = mostRenders + 1
 
 -- the three totals, and 1 if an instruction has an effect of kind 14 to 16
 pub record Told : Type 0 where

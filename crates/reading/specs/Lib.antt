@@ -1,7 +1,5 @@
-pub mod Empty
 pub mod Judging
 pub mod Operands
 pub mod TotalsSays
 pub mod Whole
 pub mod Says
-pub mod Fits

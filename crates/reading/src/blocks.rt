@@ -8,11 +8,14 @@ ghost use Rattle.reading.specs.Judging.{judge, tellEffect, tellInstructi
 ghost use Rattle.reading.specs.TotalsSays.{totalsAre, totalsSays};
 use hir::BlockStep;
 use hir::Cursor;
+use hir::EffectStep;
 use hir::KindStep;
 use hir::OrderStep;
 use hir::PlaceStep;
 use hir::TerminalKind;
 use hir::WordStep;
+use hir::limits::MOST_BLOCKS;
+use hir::limits::MOST_COUNT;
 
 // The relation effects, mutations and renders so far, each no higher than one above its limit; and 1 if an instruction had a diagnosis.
 pub struct Totals {
@@ -34,7 +37,7 @@ fn effects(start: Cursor, s: &[u32], n: u32, m: u32, terminal: bool, totals: Tot
 {
     let mut left: u32;
     let mut c: Cursor;
-    match start.count(s, 1024) {
+    match start.count(s, MOST_COUNT) {
         WordStep::Got(count, d) => {
             left = count;
             c = d;
@@ -45,13 +48,13 @@ fn effects(start: Cursor, s: &[u32], n: u32, m: u32, terminal: bool, totals: Tot
     }
     let mut t = totals;
     while 0 < left {
-        match hir::effects::effect_kind(c, s, n, m) {
-            WordStep::Got(number, d2) => {
-                let kind = crate::counts::kind_of(number);
+        match hir::effects::effect(c, s, n, m) {
+            EffectStep::Got(e, d2) => {
+                let kind = e.kind;
                 t = t.effect(kind, terminal);
                 c = d2;
             }
-            WordStep::Refused(k2) => {
+            EffectStep::Refused(k2) => {
                 return TotalsStep::Refused(k2);
             }
         }
@@ -76,7 +79,7 @@ fn instructions(start: Cursor, s: &[u32], n: u32, m: u32, totals: Totals) -> Tot
 {
     let mut left: u32;
     let mut c: Cursor;
-    match start.count(s, 1024) {
+    match start.count(s, MOST_COUNT) {
         WordStep::Got(count, d) => {
             left = count;
             c = d;
@@ -90,16 +93,13 @@ fn instructions(start: Cursor, s: &[u32], n: u32, m: u32, totals: Totals) -> Tot
         match instruction(c, s, n, m, t) {
             TotalsStep::Got(u, d2) => {
                 t = u;
-                let run = crate::runs::empty_instructions(s, c.at, d2.at, left - 1);
-                left = left - 1 - run;
-                c = Cursor {
-                    at: d2.at + 2 * (run as usize),
-                };
+                c = d2;
             }
             TotalsStep::Refused(k2) => {
                 return TotalsStep::Refused(k2);
             }
         }
+        left -= 1;
     }
     TotalsStep::Got(t, c)
 }
@@ -157,7 +157,7 @@ pub fn blocks(start: Cursor, s: &[u32], n: u32, m: u32) -> TotalsStep
 {
     let mut left: u32;
     let mut c: Cursor;
-    match start.count(s, 256) {
+    match start.count(s, MOST_BLOCKS) {
         WordStep::Got(count, d) => {
             left = count;
             c = d;
@@ -172,8 +172,8 @@ pub fn blocks(start: Cursor, s: &[u32], n: u32, m: u32) -> TotalsStep
         renders: 0,
         diagnoses: 0,
     };
-    let mut used = [0u16; 256];
-    let mut free: usize = 256;
+    let mut used = [0u16; MOST_BLOCKS as usize];
+    let mut free = MOST_BLOCKS as usize;
     let mut above: u32 = 0;
     while 0 < left {
         let number: u32;

@@ -12,11 +12,17 @@ use hir::Cursor;
 use hir::FlagsStep;
 use hir::PlaceStep;
 use hir::WordStep;
+use hir::limits::MOST_CONTEXT;
+use hir::limits::MOST_MUTATIONS;
+use hir::limits::MOST_PARAMS;
+use hir::limits::MOST_RELATIONS;
+use hir::limits::MOST_RENDERS;
+use hir::limits::MOST_SHEET;
+use hir::limits::RETURNS_COUNT;
 
 pub mod blocks;
 mod counts;
 mod phis;
-mod runs;
 mod sections;
 
 // The position after a part of the sheet, or a refusal.
@@ -71,9 +77,9 @@ fn head(c: Cursor, s: &[u32]) -> HeadingStep
 fn place_lists(c: Cursor, s: &[u32], n: u32) -> PlaceStep
     ensures { λ r. ⌜ placeSays r ≡ placeLists n (now (s .entry)) (c .at) ⌝ }
 {
-    match sections::places(c, s, n, 64) {
-        WordStep::Got(_, c1) => match sections::places(c1, s, n, 64) {
-            WordStep::Got(_, c2) => match c2.fixed(s, 1) {
+    match sections::places(c, s, n, MOST_PARAMS) {
+        WordStep::Got(_, c1) => match sections::places(c1, s, n, MOST_CONTEXT) {
+            WordStep::Got(_, c2) => match c2.fixed(s, RETURNS_COUNT) {
                 WordStep::Got(_, c3) => c3.place(s, n),
                 WordStep::Refused(k3) => PlaceStep::Refused(k3),
             },
@@ -87,8 +93,7 @@ fn place_lists(c: Cursor, s: &[u32], n: u32) -> PlaceStep
 pub fn sheet(s: &[u32]) -> TotalsStep
     ensures { λ r. ⌜ totalsSays r ≡ judgedSheet (now (s .entry)) 0 ⌝ }
 {
-    let start = Cursor { at: 0 };
-    match head(start, s) {
+    match head(Cursor::START, s) {
         HeadingStep::Got(h, c1) => {
             let n = h.identifiers;
             let m = h.functions;
@@ -105,14 +110,14 @@ pub fn sheet(s: &[u32]) -> TotalsStep
 fn over(t: Totals) -> bool
     ensures { λ r. ⌜ r ≡ over (totalsOf (totalsAre t)) ⌝ }
 {
-    (1024 < t.relations) | ((512 < t.mutations) | (256 < t.renders))
+    (MOST_RELATIONS < t.relations) | ((MOST_MUTATIONS < t.mutations) | (MOST_RENDERS < t.renders))
 }
 
 // Refusals 2 to 8, or acceptance.
 pub fn read(s: &[u32]) -> Verdict
     ensures { λ r. ⌜ verdictSays r ≡ judgementOf (read (now (s .entry))) ⌝ }
 {
-    if 16384 < s.len() {
+    if MOST_SHEET < s.len() {
         return Verdict::Refused(2);
     }
     match sheet(s) {

@@ -16,6 +16,8 @@ use hir::BlockStep;
 use hir::Cursor;
 use hir::PlaceStep;
 use hir::WordStep;
+use hir::at::OPERAND_WIDTH;
+use hir::limits::MOST_COUNT;
 
 // Whether a number is among those from a position on. Every one is looked at, so that many are compared at once, and more of them in 16 bits.
 pub fn listed(numbers: &[u16], from: usize, number: u16) -> bool
@@ -63,7 +65,7 @@ fn among_operands(s: &[u32], from: usize, to: usize, number: u32) -> bool
     let mut i = from;
     while i < to {
         found = (number == s[i]) | found;
-        i += 4;
+        i += OPERAND_WIDTH;
     }
     found
 }
@@ -126,7 +128,7 @@ pub fn phi(c: Cursor, s: &[u32], n: u32, totals: Totals) -> TotalsStep
     ensures { λ r. ⌜ totalsSays r ≡ judge (phi n) tellPhi (totalsAre totals) (now (s .entry)) (c .at) ⌝ }
 {
     match c.place(s, n) {
-        PlaceStep::Got(_, c1) => match c1.count(s, 1024) {
+        PlaceStep::Got(_, c1) => match c1.count(s, MOST_COUNT) {
             WordStep::Got(count, c2) => operands(c2, s, n, count, totals),
             WordStep::Refused(k2) => TotalsStep::Refused(k2),
         },
@@ -140,7 +142,7 @@ pub fn phis(start: Cursor, s: &[u32], n: u32, totals: Totals) -> TotalsStep
 {
     let mut left: u32;
     let mut c: Cursor;
-    match start.count(s, 1024) {
+    match start.count(s, MOST_COUNT) {
         WordStep::Got(count, d) => {
             left = count;
             c = d;

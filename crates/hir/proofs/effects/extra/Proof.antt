@@ -1,12 +1,11 @@
-use borrow.Author.Tests.{eq-eqb, ne-eqb}
 use Rattle.model.specs.Sections.{extra}
 use Rattle.hir.proofs.EffectKinds.{number-same}
 use borrow.Author.Needs.{needs}
 use Rattle.hir.proofs.effects.extra.Statement.{statement}
 use Rattle.hir.proofs.effects.extra.Tie as tie
 
-number-requires : tie.Need-number-requires
-number-requires c κs = search needs
+is-requires : tie.Need-is-requires
+is-requires c κs = search needs
 
 below-requires : tie.Need-below-requires
 below-requires c κs = search needs
@@ -16,11 +15,11 @@ at-most-requires c κs = search needs
 
 returns : tie.Need-returns
 unfolding extra
-returns c = rw (number-same, ← c .before .before .number .ensures, eq-eqb _ _ (c .before .if1 .taken)) (c .below .ensures)
+returns c = rw (number-same, ← c .before .before .is .ensures, c .before .if1 .taken) (c .below .ensures)
 
 returns-2 : tie.Need-returns-2
 unfolding extra
-returns-2 c = rw (← c .before .before .before .before .pre, number-same, ← c .before .before .number .ensures, ne-eqb _ _ (c .before .if1 .left)) (c .at-most .ensures)
+returns-2 c = rw (← c .before .before .before .before .pre, number-same, ← c .before .before .is .ensures, c .before .if1 .left) (c .at-most .ensures)
 
 pub extra-spec : {M : Type 1} → statement M
-extra-spec = tie.close (tie.spec number-requires below-requires at-most-requires returns returns-2)
+extra-spec = tie.close (tie.spec is-requires below-requires at-most-requires returns returns-2)

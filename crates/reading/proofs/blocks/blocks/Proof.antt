@@ -15,13 +15,13 @@ use mathlib.Core.Path.{_≡_, _∙_, sym, refl}
 use borrow.Author.Needs.{needs}
 use Rattle.hir.proofs.Answers.{says}
 use Rattle.hir.proofs.Ranges.{at-most-reads}
-use Rattle.model.specs.Limits.{mostBlockNumber}
+use Rattle.model.specs.Limits.{mostBlocks, mostBlockNumber}
 use Rattle.reading.proofs.blocks.blocks.Statement.{statement}
 use Rattle.reading.proofs.blocks.blocks.Tie as tie
 
 abbrev Inv-loop : tie.InvT-loop
 Inv-loop s n m left₀ c₀ t₀ used₀ free₀ above₀ left c t used free above = (judge (numbered left₀ [] (block n m)) (each tellBlock) (totalsAre t₀) s (c₀ .at)
-    ≡ judge (numbered left (drop free used) (block n m)) (each tellBlock) (totalsAre t) s (c .at)) × (left ≤ free) × (free ≤ 256) × (length used ≡ 256) × Every (λ (v : ℕ). v < above) (drop free used)
+    ≡ judge (numbered left (drop free used) (block n m)) (each tellBlock) (totalsAre t) s (c .at)) × (left ≤ free) × (free ≤ mostBlocks) × (length used ≡ mostBlocks) × Every (λ (v : ℕ). v < above) (drop free used)
 
 abbrev μ-loop : tie.MeasureT-loop
 μ-loop s n m left₀ c₀ t₀ used₀ free₀ above₀ left c t used free above = left
@@ -40,10 +40,13 @@ returns c =
     let b3 = c .before .before .before in
     sym (blocks-refused _ _ _ _ _ _ (says wordSays (c .before .k1 .given .1) (b3 .count .ensures)))
 
+cast-free : tie.Need-cast-free Inv-loop μ-loop
+cast-free c = omega arith
+
 loop-holds : tie.Need-loop-holds Inv-loop μ-loop
 loop-holds c =
     let b3 = c .before .before .before in
-    (nothing-used _ _ _ _ (replicate 256 0) 256 _ _ refl, count-reads 256 _ _ _ _ (says wordSays (c .before .count2 .given .1) (b3 .count .ensures)), omega arith, refl, below-none 0 256 (replicate 256 0) refl)
+    (nothing-used _ _ _ _ (replicate mostBlocks 0) mostBlocks _ _ refl, count-reads mostBlocks _ _ _ _ (says wordSays (c .before .count2 .given .1) (b3 .count .ensures)), omega arith, refl, below-none 0 mostBlocks (replicate mostBlocks 0) refl)
 
 block-number-requires : tie.Need-block-number-requires Inv-loop μ-loop
 block-number-requires c κs = tt
@@ -98,7 +101,7 @@ cast-used : tie.Need-cast-used Inv-loop μ-loop
 cast-used c =
     let b5 = c .before .before .before .before .before in
     let b7 = b5 .before .before in
-    let few : b5 .b .given .0 .0 .0 ≤ 65535 = at-most-reads mostBlockNumber _ _ _ _ (says blockSays (b5 .b .given .1) (b7 .block-number .ensures)) in omega (arith, few)
+    let few : b5 .b .given .0 .0 .0 ≤ mostBlockNumber = at-most-reads mostBlockNumber _ _ _ _ (says blockSays (b5 .b .given .1) (b7 .block-number .ensures)) in omega (arith, few)
 
 mul-used : tie.Need-mul-used Inv-loop μ-loop
 mul-used c = omega arith
@@ -147,7 +150,7 @@ loop-again c =
     let b11 = b9 .before .before in
     let b12 = b11 .before in
     let l = b12 .before .loop in
-    let e : length (l .used) ≡ 256 = l .inv .3 in
+    let e : length (l .used) ≡ mostBlocks = l .inv .3 in
     (l .inv .0 ∙ numbered-next _ _ _ _ _ _ _ _ _ _ _ (b12 .loop-test .taken) (new-got _ _ _ _ _ (says blockSays (b9 .b .given .1) (b11 .block-number .ensures)) (sym (b6 .repeated .ensures) ∙ b5 .if1 .left)) (says totalsSays (c .before .u .given .1) (b3 .block .ensures)) ∙ one-stored _ _ _ _ (l .used) (l .free) _ _ _ (omega arith) (omega arith), omega arith, omega arith, simp length-set e, below-stored (l .used) (l .free) _ _ _ (omega arith) (omega arith) (l .inv .4) (b4 .raised .ensures))
 
 returns-5 : tie.Need-returns-5 Inv-loop μ-loop
@@ -168,6 +171,7 @@ blocks-spec =
     enum-known-count
     enum-known-k1
     returns
+    cast-free
     loop-holds
     block-number-requires
     enum-known-b

@@ -1,8 +1,7 @@
-use Rattle.reading.proofs.JudgeLaws.{times-next, times-stop, times-done, section-got, section-refused}
-use Rattle.reading.proofs.KindLaws.{kind-judged, kind-refused}
+use Rattle.reading.proofs.JudgeLaws.{judge-got, judge-refused, times-next, times-stop, times-done, section-got, section-refused}
 use Rattle.reading.specs.TotalsSays.{totalsAre}
 use Rattle.reading.specs.Judging.{judge, tellEffect}
-use Rattle.hir.specs.Says.{wordSays}
+use Rattle.hir.specs.Says.{wordSays, effectSays}
 use Rattle.model.specs.Sections.{effect, effects}
 use Rattle.model.specs.Reading.{times}
 use Rattle.model.specs.Lists.{each}
@@ -38,17 +37,14 @@ returns c =
 loop-holds : tie.Need-loop-holds Inv-loop μ-loop
 loop-holds c = refl
 
-effect-kind-requires : tie.Need-effect-kind-requires Inv-loop μ-loop
-effect-kind-requires c κs = tt
-
-enum-known-number : tie.Need-enum-known-number Inv-loop μ-loop
-enum-known-number c = search needs
-
-kind-of-requires : tie.Need-kind-of-requires Inv-loop μ-loop
-kind-of-requires c κs = tt
-
 effect-requires : tie.Need-effect-requires Inv-loop μ-loop
 effect-requires c κs = tt
+
+enum-known-e : tie.Need-enum-known-e Inv-loop μ-loop
+enum-known-e c = search needs
+
+effect-requires-2 : tie.Need-effect-requires-2 Inv-loop μ-loop
+effect-requires-2 c κs = tt
 
 enum-known-k2 : tie.Need-enum-known-k2 Inv-loop μ-loop
 enum-known-k2 c = search needs
@@ -63,7 +59,7 @@ returns-2 c =
     let b9 = b7 .before .before in
     sym (section-got _ _ _ _ _ _ _ _ (says wordSays (b7 .count2 .given .1) (b9 .count .ensures))
     ∙ b5 .loop .inv
-    ∙ times-stop _ _ _ _ _ _ _ (b4 .loop-test .taken) (kind-refused _ _ _ _ _ _ _ (says wordSays (c .before .k2 .given .1) (b3 .effect-kind .ensures))))
+    ∙ times-stop _ _ _ _ _ _ _ (b4 .loop-test .taken) (judge-refused _ _ _ _ _ _ (says effectSays (c .before .k2 .given .1) (b3 .effect .ensures))))
 
 sub-left : tie.Need-sub-left Inv-loop μ-loop
 sub-left c = omega arith
@@ -73,12 +69,10 @@ loop-less c = omega arith
 
 loop-again : tie.Need-loop-again Inv-loop μ-loop
 loop-again c =
-    let b3 = c .before .before .before in
-    let b5 = b3 .before .before in
-    let b6 = b5 .before in
-    let b7 = b6 .before in
-    rw (c .effect .ensures, c .before .kind-of .ensures) (b7 .loop .inv
-    ∙ times-next _ _ _ _ _ _ _ _ (b6 .loop-test .taken) (kind-judged _ _ _ _ _ _ _ _ (says wordSays (b3 .number .given .1) (b5 .effect-kind .ensures))))
+    let b4 = c .before .before .before .before in
+    let b5 = b4 .before in
+    rw (c .effect2 .ensures) (b5 .before .loop .inv
+    ∙ times-next _ _ _ _ _ _ _ _ (b5 .loop-test .taken) (judge-got _ _ _ _ _ _ _ (says effectSays (c .before .before .e .given .1) (b4 .effect .ensures))))
 
 returns-3 : tie.Need-returns-3 Inv-loop μ-loop
 unfolding effects
@@ -100,10 +94,9 @@ effects-spec =
     enum-known-k1
     returns
     loop-holds
-    effect-kind-requires
-    enum-known-number
-    kind-of-requires
     effect-requires
+    enum-known-e
+    effect-requires-2
     enum-known-k2
     returns-2
     sub-left

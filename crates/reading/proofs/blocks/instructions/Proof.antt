@@ -1,18 +1,14 @@
 use Rattle.reading.proofs.JudgeLaws.{times-next, times-stop, times-done, section-got, section-refused}
-use Rattle.reading.proofs.BlockLaws.{empty-run}
-use Rattle.reading.specs.Empty.{emptyFits}
 use Rattle.reading.specs.TotalsSays.{totalsAre, totalsSays}
 use Rattle.reading.specs.Judging.{judge, tellInstruction}
 use Rattle.hir.specs.Says.{wordSays}
 use Rattle.model.specs.Sections.{instruction}
 use Rattle.model.specs.Reading.{times}
 use Rattle.model.specs.Lists.{each}
-use Prim.Native.Nat.{_+_, _*_, _≤_}
 use native.Mathlib.Omega.{arith}
 use mathlib.Core.Path.{_≡_, _∙_, sym, refl}
 use borrow.Author.Needs.{needs}
 use Rattle.hir.proofs.Answers.{says}
-use Rattle.hir.proofs.RunLaws.{run-ends}
 use Rattle.reading.proofs.blocks.instructions.Statement.{statement}
 use Rattle.reading.proofs.blocks.instructions.Tie as tie
 
@@ -46,43 +42,6 @@ instruction-requires c κs = tt
 enum-known-u : tie.Need-enum-known-u Inv-loop μ-loop
 enum-known-u c = search needs
 
-sub-empty-instructions : tie.Need-sub-empty-instructions Inv-loop μ-loop
-sub-empty-instructions c = omega arith
-
-empty-instructions-requires : tie.Need-empty-instructions-requires Inv-loop μ-loop
-empty-instructions-requires c κs = tt
-
-sub-left : tie.Need-sub-left Inv-loop μ-loop
-sub-left c = omega arith
-
-sub-left-2 : tie.Need-sub-left-2 Inv-loop μ-loop
-sub-left-2 c = omega (arith, c .empty-instructions .ensures .most)
-
-cast-t20 : tie.Need-cast-t20 Inv-loop μ-loop
-cast-t20 c = omega arith
-
-mul-t21 : tie.Need-mul-t21 Inv-loop μ-loop
-mul-t21 c = omega arith
-
-add-t22 : tie.Need-add-t22 Inv-loop μ-loop
-add-t22 c =
-    let d = c .before .before .before .u .given .0 .1 .0 .at in
-    let r = c .before .empty-instructions .result in
-    let ends : d + 2 * r ≤ 18446744073709551615 =
-    run-ends emptyFits _ r _ d 18446744073709551615 (c .before .empty-instructions .ensures) (omega (arith, c .struct-known .given)) (omega arith) in
-    omega (arith, ends)
-
-loop-less : tie.Need-loop-less Inv-loop μ-loop
-loop-less c = omega (arith, c .before .empty-instructions .ensures .most)
-
-loop-again : tie.Need-loop-again Inv-loop μ-loop
-loop-again c =
-    let b5 = c .before .before .before .before .before in
-    let b6 = b5 .before in
-    b6 .before .loop .inv
-    ∙ times-next _ _ _ _ _ _ _ _ (b6 .loop-test .taken) (says totalsSays (c .before .before .before .u .given .1) (b5 .instruction .ensures))
-    ∙ empty-run _ _ _ _ _ _ _ (c .before .empty-instructions .ensures)
-
 enum-known-k2 : tie.Need-enum-known-k2 Inv-loop μ-loop
 enum-known-k2 c = search needs
 
@@ -96,6 +55,19 @@ returns-2 c =
     sym (section-got _ _ _ _ _ _ _ _ (says wordSays (b7 .count2 .given .1) (b9 .count .ensures))
     ∙ b5 .loop .inv
     ∙ times-stop _ _ _ _ _ _ _ (b4 .loop-test .taken) (says totalsSays (c .before .k2 .given .1) (b3 .instruction .ensures)))
+
+sub-left : tie.Need-sub-left Inv-loop μ-loop
+sub-left c = omega arith
+
+loop-less : tie.Need-loop-less Inv-loop μ-loop
+loop-less c = omega arith
+
+loop-again : tie.Need-loop-again Inv-loop μ-loop
+loop-again c =
+    let b3 = c .before .before .before in
+    let b4 = b3 .before in
+    b4 .before .loop .inv
+    ∙ times-next _ _ _ _ _ _ _ _ (b4 .loop-test .taken) (says totalsSays (c .before .u .given .1) (b3 .instruction .ensures))
 
 returns-3 : tie.Need-returns-3 Inv-loop μ-loop
 returns-3 c =
@@ -118,15 +90,9 @@ instructions-spec =
     loop-holds
     instruction-requires
     enum-known-u
-    sub-empty-instructions
-    empty-instructions-requires
-    sub-left
-    sub-left-2
-    cast-t20
-    mul-t21
-    add-t22
-    loop-less
-    loop-again
     enum-known-k2
     returns-2
+    sub-left
+    loop-less
+    loop-again
     returns-3)

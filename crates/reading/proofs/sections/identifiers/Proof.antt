@@ -1,86 +1,97 @@
-use native.Mathlib.Omega.{arith}
-use mathlib.Core.Path.{_∙_, sym}
-use Rattle.hir.specs.Says.{wordSays}
-use Rattle.hir.proofs.Answers.{says}
-use Rattle.reading.specs.Says.{cursorSays}
 use Rattle.reading.proofs.SectionLaws.{section-read, section-stopped, count-stopped}
-use Rattle.reading.proofs.FitLaws.{identifiers-got}
+use Rattle.reading.proofs.JudgeLaws.{judge-got, judge-refused, times-next, times-stop, times-done}
+use Rattle.hir.specs.Says.{wordSays, identifierSays}
+use Rattle.reading.specs.Whole.{skip}
+use Rattle.reading.specs.Judging.{judge}
+use Rattle.model.specs.Sections.{identifier}
+use Rattle.model.specs.Reading.{times}
+use Rattle.model.specs.Lists.{each}
+use native.Mathlib.Omega.{arith}
+use mathlib.Core.Path.{_≡_, _∙_, sym, refl}
 use borrow.Author.Needs.{needs}
+use Rattle.hir.proofs.Answers.{says}
 use Rattle.reading.proofs.sections.identifiers.Statement.{statement}
 use Rattle.reading.proofs.sections.identifiers.Tie as tie
 
-count-requires : tie.Need-count-requires
-count-requires c κs = search needs
+abbrev Inv-loop : tie.InvT-loop
+Inv-loop s count c₀ left₀ c left = judge (times left₀ identifier) (each skip) tt s (c₀ .at) ≡ judge (times left identifier) (each skip) tt s (c .at)
 
-enum-known-k : tie.Need-enum-known-k
+abbrev μ-loop : tie.MeasureT-loop
+μ-loop s count c₀ left₀ c left = left
+
+count-requires : tie.Need-count-requires Inv-loop μ-loop
+count-requires c κs = tt
+
+enum-known-k : tie.Need-enum-known-k Inv-loop μ-loop
 enum-known-k c = search needs
 
-enum-known-k1 : tie.Need-enum-known-k1
+enum-known-k1 : tie.Need-enum-known-k1 Inv-loop μ-loop
 enum-known-k1 c = search needs
 
-returns : tie.Need-returns
+returns : tie.Need-returns Inv-loop μ-loop
 returns c =
     let b3 = c .before .before .before in
     sym (count-stopped _ _ _ _ _ (says wordSays (c .before .k1 .given .1) (b3 .count .ensures)))
 
-cast-words : tie.Need-cast-words
-cast-words c = search needs
+loop-holds : tie.Need-loop-holds Inv-loop μ-loop
+loop-holds c = refl
 
-mul-words : tie.Need-mul-words
-mul-words c = search needs
+identifier-requires : tie.Need-identifier-requires Inv-loop μ-loop
+identifier-requires c κs = tt
 
-identifiers-fit-requires : tie.Need-identifiers-fit-requires
-identifiers-fit-requires c κs = search needs
-
-add-t19 : tie.Need-add-t19
-add-t19 c = search needs
-
-returns-2 : tie.Need-returns-2
-returns-2 c =
-    let b3 = c .before .before .before in
-    let b5 = b3 .before .before in
-    let b7 = b5 .before .before in
-    sym (section-read _ _ _ _ _ _ _ (says wordSays (b5 .k .given .1) (b7 .count .ensures))
-    (identifiers-got _ _ _ (omega (arith, c .before .before .if2 .taken, b3 .if1 .taken)) (sym (c .before .identifiers-fit .ensures) ∙ c .if3 .taken)))
-
-each-identifier-requires : tie.Need-each-identifier-requires
-each-identifier-requires c κs = search needs
-
-enum-known-d2 : tie.Need-enum-known-d2
+enum-known-d2 : tie.Need-enum-known-d2 Inv-loop μ-loop
 enum-known-d2 c = search needs
 
-enum-known-k2 : tie.Need-enum-known-k2
+enum-known-k2 : tie.Need-enum-known-k2 Inv-loop μ-loop
 enum-known-k2 c = search needs
 
-returns-3 : tie.Need-returns-3
+returns-2 : tie.Need-returns-2 Inv-loop μ-loop
+returns-2 c =
+    let b3 = c .before .before .before in
+    let b4 = b3 .before in
+    let b5 = b4 .before in
+    let b7 = b5 .before .before in
+    let b9 = b7 .before .before in
+    sym (section-stopped _ _ _ _ _ _ _ (says wordSays (b7 .k .given .1) (b9 .count .ensures)) (b5 .loop .inv
+    ∙ times-stop _ _ _ _ _ _ _ (b4 .loop-test .taken) (judge-refused _ _ _ _ _ _ (says identifierSays (c .before .k2 .given .1) (b3 .identifier .ensures)))))
+
+sub-left : tie.Need-sub-left Inv-loop μ-loop
+sub-left c = omega arith
+
+loop-less : tie.Need-loop-less Inv-loop μ-loop
+loop-less c = omega arith
+
+loop-again : tie.Need-loop-again Inv-loop μ-loop
+loop-again c =
+    let b3 = c .before .before .before in
+    let b4 = b3 .before in
+    let b5 = b4 .before in
+    b5 .loop .inv
+    ∙ times-next _ _ _ _ _ _ _ _ (b4 .loop-test .taken) (judge-got _ _ _ _ _ _ _ (says identifierSays (c .before .d2 .given .1) (b3 .identifier .ensures)))
+
+returns-3 : tie.Need-returns-3 Inv-loop μ-loop
 returns-3 c =
     let b3 = c .before .before .before in
-    let b6 = b3 .before .before .before in
-    let b8 = b6 .before .before in
-    sym (section-read _ _ _ _ _ _ _ (says wordSays (b6 .k .given .1) (b8 .count .ensures)) (says cursorSays (c .before .d2 .given .1) (b3 .each-identifier .ensures)))
-
-returns-4 : tie.Need-returns-4
-returns-4 c =
-    let b3 = c .before .before .before in
-    let b6 = b3 .before .before .before in
-    let b8 = b6 .before .before in
-    sym (section-stopped _ _ _ _ _ _ _ (says wordSays (b6 .k .given .1) (b8 .count .ensures)) (says cursorSays (c .before .k2 .given .1) (b3 .each-identifier .ensures)))
+    let b5 = b3 .before .before in
+    sym (section-read _ _ _ _ _ _ _ (says wordSays (b3 .k .given .1) (b5 .count .ensures)) (c .before .loop .inv
+    ∙ times-done _ _ _ _ _ _ (c .loop-test .left)))
 
 pub identifiers-spec : {M : Type 1} → statement M
 identifiers-spec =
     tie.close
     (tie.spec
+    Inv-loop
+    μ-loop
     count-requires
     enum-known-k
     enum-known-k1
     returns
-    cast-words
-    mul-words
-    identifiers-fit-requires
-    add-t19
-    returns-2
-    each-identifier-requires
+    loop-holds
+    identifier-requires
     enum-known-d2
     enum-known-k2
-    returns-3
-    returns-4)
+    returns-2
+    sub-left
+    loop-less
+    loop-again
+    returns-3)

@@ -1,64 +1,101 @@
-use native.Mathlib.Omega.{arith}
-use mathlib.Core.Path.{_∙_, sym}
-use Rattle.hir.specs.Says.{wordSays}
-use Rattle.hir.proofs.Answers.{says}
 use Rattle.reading.proofs.SectionLaws.{inner-got, inner-refused}
-use Rattle.reading.proofs.FitLaws.{diagnostics-got}
+use Rattle.reading.proofs.JudgeLaws.{judge-got, judge-refused, times-next, times-stop, times-done}
+use Rattle.hir.specs.Says.{wordSays}
+use Rattle.reading.specs.Whole.{skip}
+use Rattle.reading.specs.Judging.{judge}
+use Rattle.model.specs.Sections.{diagnostic}
+use Rattle.model.specs.Reading.{times}
+use Rattle.model.specs.Lists.{each}
+use native.Mathlib.Omega.{arith}
+use mathlib.Core.Path.{_≡_, _∙_, sym, refl}
 use borrow.Author.Needs.{needs}
+use Rattle.hir.proofs.Answers.{says}
 use Rattle.reading.proofs.sections.inner_function.Statement.{statement}
 use Rattle.reading.proofs.sections.inner_function.Tie as tie
 
-count-requires : tie.Need-count-requires
-count-requires c κs = search needs
+abbrev Inv-loop : tie.InvT-loop
+Inv-loop s left₀ c₀ left c = judge (times left₀ diagnostic) (each skip) tt s (c₀ .at) ≡ judge (times left diagnostic) (each skip) tt s (c .at)
 
-enum-known-k : tie.Need-enum-known-k
+abbrev μ-loop : tie.MeasureT-loop
+μ-loop s left₀ c₀ left c = left
+
+count-requires : tie.Need-count-requires Inv-loop μ-loop
+count-requires c κs = tt
+
+enum-known-k : tie.Need-enum-known-k Inv-loop μ-loop
 enum-known-k c = search needs
 
-enum-known-k1 : tie.Need-enum-known-k1
+enum-known-k1 : tie.Need-enum-known-k1 Inv-loop μ-loop
 enum-known-k1 c = search needs
 
-returns : tie.Need-returns
+returns : tie.Need-returns Inv-loop μ-loop
 returns c =
     let b3 = c .before .before .before in
     sym (inner-refused _ _ _ (says wordSays (c .before .k1 .given .1) (b3 .count .ensures)))
 
-cast-words : tie.Need-cast-words
-cast-words c = search needs
+loop-holds : tie.Need-loop-holds Inv-loop μ-loop
+loop-holds c = refl
 
-diagnostics-fit-requires : tie.Need-diagnostics-fit-requires
-diagnostics-fit-requires c κs = search needs
+at-most-requires : tie.Need-at-most-requires Inv-loop μ-loop
+at-most-requires c κs = tt
 
-add-t16 : tie.Need-add-t16
-add-t16 c = search needs
+enum-known-d2 : tie.Need-enum-known-d2 Inv-loop μ-loop
+enum-known-d2 c = search needs
 
-returns-2 : tie.Need-returns-2
+enum-known-k2 : tie.Need-enum-known-k2 Inv-loop μ-loop
+enum-known-k2 c = search needs
+
+returns-2 : tie.Need-returns-2 Inv-loop μ-loop
+unfolding diagnostic
 returns-2 c =
     let b3 = c .before .before .before in
-    let b5 = b3 .before .before in
+    let b4 = b3 .before in
+    let b5 = b4 .before in
     let b7 = b5 .before .before in
-    sym (inner-got _ _ _ _ (says wordSays (b5 .k .given .1) (b7 .count .ensures))
-    ∙ diagnostics-got _ _ _ (omega (arith, c .before .before .if2 .taken, b3 .if1 .taken)) (sym (c .before .diagnostics-fit .ensures) ∙ c .if3 .taken))
+    let b9 = b7 .before .before in
+    sym (inner-got _ _ _ _ (says wordSays (b7 .k .given .1) (b9 .count .ensures))
+    ∙ b5 .loop .inv
+    ∙ times-stop _ _ _ _ _ _ _ (b4 .loop-test .taken) (judge-refused _ _ _ _ _ _ (says wordSays (c .before .k2 .given .1) (b3 .at-most .ensures))))
 
-each-diagnostic-requires : tie.Need-each-diagnostic-requires
-each-diagnostic-requires c κs = search needs
+sub-left : tie.Need-sub-left Inv-loop μ-loop
+sub-left c = omega arith
 
-returns-3 : tie.Need-returns-3
+loop-less : tie.Need-loop-less Inv-loop μ-loop
+loop-less c = omega arith
+
+loop-again : tie.Need-loop-again Inv-loop μ-loop
+unfolding diagnostic
+loop-again c =
+    let b3 = c .before .before .before in
+    let b4 = b3 .before in
+    let b5 = b4 .before in
+    b5 .loop .inv
+    ∙ times-next _ _ _ _ _ _ _ _ (b4 .loop-test .taken) (judge-got _ _ _ _ _ _ _ (says wordSays (c .before .d2 .given .1) (b3 .at-most .ensures)))
+
+returns-3 : tie.Need-returns-3 Inv-loop μ-loop
 returns-3 c =
     let b3 = c .before .before .before in
     let b5 = b3 .before .before in
-    c .each-diagnostic .ensures ∙ sym (inner-got _ _ _ _ (says wordSays (b3 .k .given .1) (b5 .count .ensures)))
+    sym (inner-got _ _ _ _ (says wordSays (b3 .k .given .1) (b5 .count .ensures))
+    ∙ c .before .loop .inv
+    ∙ times-done _ _ _ _ _ _ (c .loop-test .left))
 
 pub inner-function-spec : {M : Type 1} → statement M
 inner-function-spec =
     tie.close
     (tie.spec
+    Inv-loop
+    μ-loop
     count-requires
     enum-known-k
     enum-known-k1
     returns
-    cast-words
-    diagnostics-fit-requires
-    add-t16
+    loop-holds
+    at-most-requires
+    enum-known-d2
+    enum-known-k2
     returns-2
-    each-diagnostic-requires
+    sub-left
+    loop-less
+    loop-again
     returns-3)

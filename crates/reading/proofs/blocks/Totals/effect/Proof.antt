@@ -1,12 +1,11 @@
-use borrow.Author.Tests.{eq-eqb, ne-eqb}
 use Rattle.hir.proofs.EffectKinds.{number-same}
 use Rattle.reading.specs.Judging.{tellKind}
 use borrow.Author.Needs.{needs}
 use Rattle.reading.proofs.blocks.Totals.effect.Statement.{statement}
 use Rattle.reading.proofs.blocks.Totals.effect.Tie as tie
 
-number-requires : tie.Need-number-requires
-number-requires c κs = search needs
+is-requires : tie.Need-is-requires
+is-requires c κs = search needs
 
 relation-requires : tie.Need-relation-requires
 relation-requires c κs = search needs
@@ -18,13 +17,13 @@ returns c =
     rw (
       b3 .if1 .taken,
       number-same,
-      ← c .before .before .number .ensures,
-      eq-eqb _ _ (c .before .if2 .taken),
+      ← c .before .before .is .ensures,
+      c .before .if2 .taken,
     ) (c .relation .ensures)
 
 returns-2 : tie.Need-returns-2
 unfolding tellKind
-returns-2 c = rw (c .before .before .if1 .taken, number-same, ← c .before .number .ensures, ne-eqb _ _ (c .if2 .left))
+returns-2 c = rw (c .before .before .if1 .taken, number-same, ← c .before .is .ensures, c .if2 .left)
 
 role-of-requires : tie.Need-role-of-requires
 role-of-requires c κs = search needs
@@ -114,7 +113,7 @@ pub effect-spec : {M : Type 1} → statement M
 effect-spec =
     tie.close
     (tie.spec
-    number-requires
+    is-requires
     relation-requires
     returns
     returns-2

@@ -3,15 +3,15 @@ use borrow.Author.Needs.{needs}
 use Rattle.reading.proofs.blocks.Totals.relation.Statement.{statement}
 use Rattle.reading.proofs.blocks.Totals.relation.Tie as tie
 
+add-bump : tie.Need-add-bump
+add-bump c = search needs
+
 bump-requires : tie.Need-bump-requires
 bump-requires c κs = search needs
 
-totals-requires : tie.Need-totals-requires
-totals-requires c κs = search needs
-
 returns : tie.Need-returns
 unfolding withRelation
-returns c = rw (c .totals .ensures, c .before .bump .ensures)
+returns c = rw (c .bump .ensures)
 
 pub relation-spec : {M : Type 1} → statement M
-relation-spec = tie.close (tie.spec bump-requires totals-requires returns)
+relation-spec = tie.close (tie.spec add-bump bump-requires returns)
