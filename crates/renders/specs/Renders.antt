@@ -7,6 +7,7 @@ use mathlib.Core.Path.{_≡_}
 use lib.ListN.{length}
 use lib.Seq.{slice}
 use lib.Dec.{eqb}
+use Rattle.model.specs.Limits.{mostIdentifiers}
 use Rattle.model.specs.Lists.{pick, oneIf, tally}
 use Rattle.model.specs.Mutation.{RenderOf}
 use Rattle.model.specs.Size.{entries}
@@ -49,7 +50,7 @@ pub record Ready (ws : List ℕ) (top hand : ℕ) : Type 0 where
   pub size : LEAST ≤ length ws
   pub low : QUEUE ≤ top
   pub good : Good (rowsOf ws)
-  pub fits : top + phi (seenOf ws) (rowsOf ws) 512 ≤ HANDED
+  pub fits : top + phi (seenOf ws) (rowsOf ws) mostIdentifiers ≤ HANDED
   pub from : HANDED ≤ hand
   pub room : hand + unseen (seenOf ws) ≤ MUTATIONS
 
@@ -62,7 +63,7 @@ pub record Unmoved (ws ws′ : List ℕ) : Type 0 where
 pub record Stepped (index : ℕ) (ws : List ℕ) (top hand : ℕ) (ws′ : List ℕ) (top′ hand′ : ℕ) : Type 0 where
   pub follows : (w : RenderWalk) → Shows ws top hand w → Shows ws′ top′ hand′ (renderStep index (w .queue) w)
   pub ready : Ready ws′ top′ hand′
-  pub falls : top′ + phi (seenOf ws′) (rowsOf ws′) 512 < top + phi (seenOf ws) (rowsOf ws) 512
+  pub falls : top′ + phi (seenOf ws′) (rowsOf ws′) mostIdentifiers < top + phi (seenOf ws) (rowsOf ws) mostIdentifiers
   pub unmoved : Unmoved ws ws′
 
 -- all entries were taken, `count` of them
