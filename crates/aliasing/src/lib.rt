@@ -52,9 +52,9 @@ pub struct Mutation {
 }
 
 // What a step leaves: the queue's top, and where the next function is to be handed over.
-struct StepLeft {
-    top: usize,
-    hand: usize,
+pub struct StepLeft {
+    pub top: usize,
+    pub hand: usize,
 }
 
 // What a walk leaves: the entries taken, and where the next function is to be handed over.

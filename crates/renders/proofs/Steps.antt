@@ -6,21 +6,21 @@ use mathlib.Core.List.{List, [], _∷_, _++_, map, reverseAux}
 use mathlib.Core.Logic.{_⊎_, ⊎-map}
 use mathlib.Core.Option.{none}
 use mathlib.Core.Path.{_≡_, refl, sym, ap, subst, _∙_}
-use lib.ListN.{length, getD, set}
-use lib.Seq.{slice, getD-set-other}
+use lib.ListN.{length, getD, set, take}
+use lib.Seq.{slice, getD-set-other, getD-take}
 use lib.Dec.{eqb}
 use Rattle.model.specs.Limits.{mostIdentifiers}
 use Rattle.model.specs.Graph.{Node, nodeAt}
 use Rattle.model.specs.State.{noRecord, hasRecord, functionOf, State}
 use Rattle.model.specs.Renders.{RenderWalk, renderPushes, handOver, passBy, renderNode, renderStep}
-use Rattle.workspace.specs.Layout.{LEAST, SEEN, BASE, VALUE, QUEUE, HANDED, MUTATIONS}
-use Rattle.workspace.specs.Rows.{rowsOf, limit, value, rowF, rowB, Good, Kept}
+use Rattle.workspace.specs.Layout.{RECORD, SEEN, BASE, VALUE, QUEUE, HANDED, MUTATIONS}
+use Rattle.workspace.specs.Rows.{rowsOf, value, rowF, rowB, Good, Kept}
 use Rattle.workspace.specs.Graph.{valueOf, ownNode, graphOfRows}
-use Rattle.workspace.proofs.Rows.{node-below, limit-at, value-at, value-beyond, rows-length}
+use Rattle.workspace.proofs.Rows.{value-at, rows-length}
 use Rattle.workspace.proofs.Parts.{drop-more}
 use Rattle.aliasing.specs.Pushes.{Pushed, Room, deg}
-use Rattle.aliasing.proofs.PushLaws.{value-bounded, pushed-part, pushed-kept}
-use Rattle.aliasing.specs.State.{fieldAt, nodesOf, seenOf, recordsOf, endsOf, stateOf}
+use Rattle.aliasing.proofs.PushLaws.{pushed-part, pushed-kept}
+use Rattle.aliasing.specs.State.{nodesOf, seenOf, recordsOf, endsOf, stateOf}
 use Rattle.aliasing.specs.Accepts.{functionW}
 use Rattle.aliasing.specs.Potential.{phi}
 use Rattle.aliasing.proofs.Hands.{function-is}
@@ -38,17 +38,10 @@ queue-head ws top more fit = ap placesOf (queue-last ws top more fit) ∙ places
 shows-to : {ws : List ℕ} {top hand : ℕ} (w v : RenderWalk) → Shows ws top hand v → w ≡ v → Shows ws top hand w
 shows-to {ws} {top} {hand} w v s p = subst (Shows ws top hand) (sym p) s
 
--- ---- the value of x, as it is read
-pub value-below : (ws : List ℕ) → LEAST ≤ length ws → (x : ℕ) → x < mostIdentifiers → x < getD ws 8322 0 → getD ws (VALUE + x) 0 ≡ value (rowsOf ws) x
-value-below ws size x h k = sym (value-at ws size x h (omega (arith, k, limit-at ws size)))
-
-pub value-none : (ws : List ℕ) → LEAST ≤ length ws → (x : ℕ) → getD ws 8322 0 ≤ x → 0 ≡ value (rowsOf ws) x
-value-none ws size x k = sym (value-beyond (rowsOf ws) x (omega (arith, k, limit-at ws size)))
-
 -- ---- the state by its parts
-record-at : (ws : List ℕ) (hand x : ℕ) → x < mostIdentifiers → hasRecord (getD (stateOf ws hand .records) x noRecord) ≡ not (eqb (fieldAt (nodesOf ws) 0 x % 16) 0)
-unfolding stateOf
-record-at ws hand x h = has-record (nodesOf ws) x h
+record-at : (ws : List ℕ) (hand x : ℕ) → x < mostIdentifiers → hasRecord (getD (stateOf ws hand .records) x noRecord) ≡ not (eqb (getD ws (RECORD + x) 0 % 16) 0)
+unfolding stateOf nodesOf
+record-at ws hand x h = has-record (take SEEN ws) x h ∙ ap (λ (w : ℕ). not (eqb (w % 16) 0)) (getD-take SEEN ws (RECORD + x) 0 (omega arith))
 
 state-more : (ws ws′ : List ℕ) (hand hand′ : ℕ) (fs : List ℕ) → rowsOf ws′ ≡ rowsOf ws → nodesOf ws′ ≡ nodesOf ws → slice HANDED hand′ ws′ ≡ slice HANDED hand ws ++ fs → stateOf ws′ hand′ ≡ handOver fs (stateOf ws hand)
 unfolding stateOf
@@ -83,9 +76,8 @@ module _ (index : ℕ) (ws : List ℕ) (top hand : ℕ) (ready : Ready ws top ha
       unmoved = record { nodes = refl; aside = record { graph = refl; behind = refl; same = refl } };
     }
 
-  -- ---- taken for the first time; v is the value and u the record's word that are read once it is marked
-  module _ (first : getD ws (SEEN + placeAt ws top) 0 ≤ 0) (v : ℕ) (is : v ≡ value (rowsOf (set ws (SEEN + placeAt ws top) 1)) (placeAt ws top))
-      (u : ℕ) (word-is : u ≡ fieldAt (nodesOf (set ws (SEEN + placeAt ws top) 1)) 0 (placeAt ws top)) where
+  -- ---- taken for the first time
+  module _ (first : getD ws (SEEN + placeAt ws top) 0 ≤ 0) where
     abbrev marked : List ℕ
     marked = set ws (SEEN + placeAt ws top) 1
 
@@ -98,13 +90,13 @@ module _ (index : ℕ) (ws : List ℕ) (top hand : ℕ) (ready : Ready ws top ha
     word-kept : (j : ℕ) → (j ≡ SEEN + placeAt ws top → ⊥) → getD marked j 0 ≡ getD ws j 0
     word-kept j h = getD-set-other ws (SEEN + placeAt ws top) j 1 0 h
 
-    value-is : v ≡ value (rowsOf ws) (placeAt ws top)
-    value-is = is ∙ ap (λ (g : List ℕ). value g (placeAt ws top)) (rows-above mark (omega arith))
+    value-kept : getD marked (VALUE + placeAt ws top) 0 ≡ value (rowsOf ws) (placeAt ws top)
+    value-kept = word-kept (VALUE + placeAt ws top) (λ e. omega (arith, e)) ∙ sym (value-at ws (ready .size) (placeAt ws top) x-below)
 
-    passes-is : passesW v u ≡ passesW (value (rowsOf ws) (placeAt ws top)) (fieldAt (nodesOf ws) 0 (placeAt ws top))
+    passes-is : passesW (getD marked (VALUE + placeAt ws top) 0) (getD marked (RECORD + placeAt ws top) 0) ≡ passesW (value (rowsOf ws) (placeAt ws top)) (getD ws (RECORD + placeAt ws top) 0)
     passes-is =
-        ap (λ (y : ℕ). passesW y u) value-is
-        ∙ ap (passesW (value (rowsOf ws) (placeAt ws top))) (word-is ∙ ap (λ (l : List ℕ). fieldAt l 0 (placeAt ws top)) (nodes-below mark (omega arith)))
+        ap (λ (v : ℕ). passesW v (getD marked (RECORD + placeAt ws top) 0)) value-kept
+        ∙ ap (passesW (value (rowsOf ws) (placeAt ws top))) (word-kept (RECORD + placeAt ws top) (λ e. omega (arith, e)))
 
     not-seen : getD (seenOf ws) (placeAt ws top) 0 ≡ 0
     not-seen = omega (arith, seen-at ws (placeAt ws top) x-below)
@@ -123,12 +115,12 @@ module _ (index : ℕ) (ws : List ℕ) (top hand : ℕ) (ready : Ready ws top ha
       remembered = mark-set (seenOf ws) (placeAt ws top) ∙ ap (λ (l : List Bool). set l (placeAt ws top) true) (s .seen)
 
     -- ---- passed by
-    module _ (passed : passesW v u ≡ true) where
+    module _ (passed : passesW (getD marked (VALUE + placeAt ws top) 0) (getD marked (RECORD + placeAt ws top) 0) ≡ true) where
       why : (nodeAt (stateOf ws hand .graph) (placeAt ws top) ≡ none) ⊎ (hasRecord (getD (stateOf ws hand .records) (placeAt ws top) noRecord) ≡ true)
       why =
           ⊎-map (λ (e : value (rowsOf ws) (placeAt ws top) ≡ 0). graph-missing ws hand (placeAt ws top) x-below e)
-          (λ (e : not (eqb (fieldAt (nodesOf ws) 0 (placeAt ws top) % 16) 0) ≡ true). record-at ws hand (placeAt ws top) x-below ∙ e)
-          (passes-true (value (rowsOf ws) (placeAt ws top)) (fieldAt (nodesOf ws) 0 (placeAt ws top)) (sym passes-is ∙ passed))
+          (λ (e : not (eqb (getD ws (RECORD + placeAt ws top) 0 % 16) 0) ≡ true). record-at ws hand (placeAt ws top) x-below ∙ e)
+          (passes-true (value (rowsOf ws) (placeAt ws top)) (getD ws (RECORD + placeAt ws top) 0) (sym passes-is ∙ passed))
 
       passes : (w : RenderWalk) → Shows ws top hand w → Shows marked (top - 1) hand (renderStep index (w .queue) w)
       passes w s =
@@ -162,13 +154,6 @@ module _ (index : ℕ) (ws : List ℕ) (top hand : ℕ) (ready : Ready ws top ha
         };
       }
 
-    -- ---- one that is not passed by has a node
-    bare : passesW v u ≡ false → (value (rowsOf ws) (placeAt ws top) ≡ 0 → ⊥) × (not (eqb (fieldAt (nodesOf ws) 0 (placeAt ws top) % 16) 0) ≡ false)
-    bare passed = passes-false (value (rowsOf ws) (placeAt ws top)) (fieldAt (nodesOf ws) 0 (placeAt ws top)) (sym passes-is ∙ passed)
-
-    has-node : passesW v u ≡ false → placeAt ws top < limit (rowsOf ws)
-    has-node passed = node-below (rowsOf ws) (placeAt ws top) (bare passed .0)
-
     -- ---- rendered: the function handed over, the entries pushed
     module _ (wsH : List ℕ) (h : ℕ) (ph : Pushed marked hand (functionW (getD marked (VALUE + placeAt ws top) 0)) wsH h) where
       hand-room : h + unseen (set (seenOf ws) (placeAt ws top) 1) ≤ MUTATIONS
@@ -191,7 +176,7 @@ module _ (index : ℕ) (ws : List ℕ) (top hand : ℕ) (ready : Ready ws top ha
         room = omega (arith, falls-by, ready .fits, ap (λ (g : List ℕ). deg g (placeAt ws top)) rows₁);
       }
 
-      module _ (passed : passesW v u ≡ false)
+      module _ (passed : passesW (getD marked (VALUE + placeAt ws top) 0) (getD marked (RECORD + placeAt ws top) 0) ≡ false)
           (ws₂ : List ℕ) (r : ℕ) (p : Pushed wsH (top - 1) (originsW (rowsOf wsH) (placeAt ws top) index) ws₂ r) where
         abbrev pushed : List ℕ
         pushed = originsW (rowsOf ws) (placeAt ws top) index
@@ -222,19 +207,19 @@ module _ (index : ℕ) (ws : List ℕ) (top hand : ℕ) (ready : Ready ws top ha
             pushed-part QUEUE p′ (omega arith) (omega (arith, room, length₁, ready .size))
             ∙ ap (λ (q : List ℕ). q ++ pushed) (slice-below kept-hand QUEUE (top - 1) (omega (arith, ready .fits)) ∙ slice-above mark QUEUE (top - 1) (omega arith) (omega arith))
 
-        value-kept : getD marked (VALUE + placeAt ws top) 0 ≡ value (rowsOf ws) (placeAt ws top)
-        value-kept = word-kept (VALUE + placeAt ws top) (λ e. omega (arith, e)) ∙ sym (value-bounded ws (ready .size) (ready .good) (placeAt ws top) (has-node passed))
-
         handed₂ : slice HANDED h ws₂ ≡ slice HANDED hand ws ++ functionOf (valueOf (value (rowsOf ws) (placeAt ws top)))
         handed₂ =
             slice-above kept-queue HANDED h (omega arith) (omega (arith, ph .next, ready .from))
             ∙ pushed-part HANDED ph (ready .from) (omega (arith, hand-room, mark .same, ready .size))
             ∙ ap (λ (q : List ℕ). q ++ functionW (getD marked (VALUE + placeAt ws top) 0)) (slice-above mark HANDED hand (omega arith) (ready .from))
-            ∙ ap (λ (u : ℕ). slice HANDED hand ws ++ functionW u) value-kept
+            ∙ ap (λ (v : ℕ). slice HANDED hand ws ++ functionW v) value-kept
             ∙ ap (λ (fs : List ℕ). slice HANDED hand ws ++ fs) (function-is (value (rowsOf ws) (placeAt ws top)))
 
         abbrev own : Node
         own = ownNode (value (rowsOf ws) (placeAt ws top)) (rowF (rowsOf ws)) (rowB (rowsOf ws)) (placeAt ws top)
+
+        bare : (value (rowsOf ws) (placeAt ws top) ≡ 0 → ⊥) × (not (eqb (getD ws (RECORD + placeAt ws top) 0 % 16) 0) ≡ false)
+        bare = passes-false (value (rowsOf ws) (placeAt ws top)) (getD ws (RECORD + placeAt ws top) 0) (sym passes-is ∙ passed)
 
         entries₂ : placesOf (slice QUEUE r ws₂) ≡ reverseAux (renderPushes index own) (placesOf (slice QUEUE (top - 1) ws))
         entries₂ =
@@ -251,8 +236,8 @@ module _ (index : ℕ) (ws : List ℕ) (top hand : ℕ) (ready : Ready ws top ha
                   ∙ ap (handOver (functionOf (valueOf (value (rowsOf ws) (placeAt ws top))))) (s .state);
             })
             (step-renders index w (placeAt ws top) (placesOf (slice QUEUE (top - 1) ws)) (head w s) own (fresh w s)
-            (ap (λ (t : State). nodeAt (t .graph) (placeAt ws top)) (sym (s .state)) ∙ graph-there ws hand (placeAt ws top) x-below (bare passed .0))
-            (ap (λ (t : State). hasRecord (getD (t .records) (placeAt ws top) noRecord)) (sym (s .state)) ∙ record-at ws hand (placeAt ws top) x-below ∙ bare passed .1))
+            (ap (λ (t : State). nodeAt (t .graph) (placeAt ws top)) (sym (s .state)) ∙ graph-there ws hand (placeAt ws top) x-below (bare .0))
+            (ap (λ (t : State). hasRecord (getD (t .records) (placeAt ws top) noRecord)) (sym (s .state)) ∙ record-at ws hand (placeAt ws top) x-below ∙ bare .1))
 
         phi₂ : phi (seenOf ws₂) (rowsOf ws₂) mostIdentifiers ≡ phi (set (seenOf ws) (placeAt ws top) 1) (rowsOf ws) mostIdentifiers
         phi₂ = ap (λ (l : List ℕ). phi l (rowsOf ws₂) mostIdentifiers) seen₂ ∙ ap (λ (g : List ℕ). phi (set (seenOf ws) (placeAt ws top) 1) g mostIdentifiers) rows₂

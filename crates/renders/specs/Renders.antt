@@ -12,6 +12,7 @@ use Rattle.model.specs.Lists.{pick, oneIf, tally}
 use Rattle.model.specs.Mutation.{RenderOf}
 use Rattle.model.specs.Size.{entries}
 use Rattle.model.specs.Renders.{RenderWalk, renderStep, renderRun, renderWalk}
+use Rattle.workspace.specs.Graph.{ALIASES, CAPTURES, MISSING}
 use Rattle.workspace.specs.Layout.{LEAST, QUEUE, HANDED, MUTATIONS}
 use Rattle.workspace.specs.Rows.{rowsOf, rowB, Good}
 use Rattle.aliasing.specs.Pushes.{entriesW}
@@ -21,11 +22,11 @@ use Rattle.aliasing.specs.Walks.{Aside}
 
 -- whether the walk passes by a node, by the words of its value and of its record: it is missing, or has a record
 abbrev pub passesW : ℕ → ℕ → Bool
-passesW v w = pick (eqb v 0) true (not (eqb (w % 16) 0))
+passesW v w = pick (eqb v MISSING) true (not (eqb (w % 16) 0))
 
 -- what a node pushes: created-from, aliases, captures
 unfoldable pub originsW : List ℕ → ℕ → ℕ → List ℕ
-originsW g x index = entriesW index 0 0 (rowB g (4 * x)) ++ (entriesW index 0 0 (rowB g (4 * x + 1)) ++ entriesW index 0 0 (rowB g (4 * x + 3)))
+originsW g x index = entriesW index 0 0 (rowB g (4 * x)) ++ (entriesW index 0 0 (rowB g (4 * x + ALIASES)) ++ entriesW index 0 0 (rowB g (4 * x + CAPTURES)))
 
 -- the queue by its words, of which the last was pushed last
 unfoldable pub placesOf : List ℕ → List ℕ
