@@ -6,7 +6,8 @@ use mathlib.Core.Path.{_≡_}
 use lib.ListN.{getD, set}
 use lib.Dec.{eqb}
 use borrow.Author.Tests.{lt-ltb, le-ltb}
-use Rattle.workspace.specs.Layout.{SEEN, VALUE, NODES}
+use Rattle.workspace.specs.Graph.{MISSING}
+use Rattle.workspace.specs.Layout.{SEEN, VALUE}
 use Rattle.aliasing.specs.Accepts.{freshW, enterW, entersW}
 
 module _ (ws : List ℕ) (x level : ℕ) where
@@ -14,14 +15,10 @@ module _ (ws : List ℕ) (x level : ℕ) where
   abbrev pub Enters : List ℕ → Bool → Type 0
   Enters ws₁ r = (ws₁ ≡ enterW ws x level) × (r ≡ entersW ws x level)
 
-  pub enters-beyond : getD ws NODES 0 ≤ x → Enters ws false
+  pub enters-seen : level < getD ws (SEEN + x) 0 → Enters ws false
   unfolding enterW entersW freshW
-  enters-beyond h = (rw (le-ltb x (getD ws NODES 0) h), rw (le-ltb x (getD ws NODES 0) h))
+  enters-seen h = (rw (lt-ltb level (getD ws (SEEN + x) 0) h), rw (lt-ltb level (getD ws (SEEN + x) 0) h))
 
-  pub enters-seen : x < getD ws NODES 0 → level < getD ws (SEEN + x) 0 → Enters ws false
+  pub enters-marked : getD ws (SEEN + x) 0 ≤ level → Enters (set ws (SEEN + x) (level + 1)) (not (eqb (getD ws (VALUE + x) 0) MISSING))
   unfolding enterW entersW freshW
-  enters-seen h k = (rw (lt-ltb x (getD ws NODES 0) h, lt-ltb level (getD ws (SEEN + x) 0) k), rw (lt-ltb x (getD ws NODES 0) h, lt-ltb level (getD ws (SEEN + x) 0) k))
-
-  pub enters-marked : x < getD ws NODES 0 → getD ws (SEEN + x) 0 ≤ level → Enters (set ws (SEEN + x) (level + 1)) (not (eqb (getD ws (VALUE + x) 0) 0))
-  unfolding enterW entersW freshW
-  enters-marked h k = (rw (lt-ltb x (getD ws NODES 0) h, le-ltb level (getD ws (SEEN + x) 0) k), rw (lt-ltb x (getD ws NODES 0) h, le-ltb level (getD ws (SEEN + x) 0) k))
+  enters-marked h = (rw (le-ltb level (getD ws (SEEN + x) 0) h), rw (le-ltb level (getD ws (SEEN + x) 0) h))

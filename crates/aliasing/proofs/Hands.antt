@@ -9,21 +9,21 @@ use lib.ListN.{length, getD, set, take}
 use lib.Seq.{getD-take}
 use lib.Dec.{eqb}
 use borrow.Author.Tests.{le-ltb}
+use Rattle.model.specs.Limits.{mostIdentifiers}
 use Rattle.model.specs.Lists.{pick, listIf, isSome, oneIf}
 use Rattle.model.specs.Graph.{Value, object, phi, function}
 use Rattle.model.specs.Mutation.{Mutation}
 use Rattle.model.specs.State.{Info, Record, noRecord, hasRecord, recordsErrors, highest, touch, functionOf}
-use Rattle.workspace.specs.Layout.{BASE, HANDED, QUEUE}
+use Rattle.workspace.specs.Layout.{RECORD, LSPAN, TSPAN, SEEN, BASE, QUEUE, HANDED}
 use Rattle.workspace.specs.Rows.{rowsOf, Kept}
 use Rattle.workspace.specs.Graph.{valueOf}
 use Rattle.workspace.proofs.Tables.{tab-at, tab-length}
 use Rattle.aliasing.specs.declared.Mutation.{Mutation as CodeMutation}
 use Rattle.aliasing.specs.Says.{modeOf, modeSays}
-use Rattle.aliasing.specs.State.{nodesOf, NoneAbove, fieldAt, recordAt, recordsOf, bare, Handing}
+use Rattle.aliasing.specs.State.{nodesOf, NoneAbove, recordAt, recordsOf, bare, Handing}
 use Rattle.aliasing.specs.Accepts.{functionW, handW}
 use Rattle.aliasing.specs.Walks.{Callable}
 use Rattle.aliasing.proofs.Packed.{has-word}
-use Rattle.aliasing.proofs.Fields.{field-there, covered-nodes}
 use Rattle.aliasing.proofs.Parts.{nodes-below, seen-below, rows-below, base-below}
 use Rattle.aliasing.proofs.Levels.{above-as}
 
@@ -45,21 +45,20 @@ errors-are zero errors q = q refl
 errors-are (suc e) errors q = refl
 
 -- the function of x, as document 01 has it
-pub handed-is : (ns : List ℕ) (v x : ℕ) (m : CodeMutation) → x < 512 → x < getD ns 2048 0 → Callable m
+pub handed-is : (ns : List ℕ) (v x : ℕ) (m : CodeMutation) → x < mostIdentifiers → Callable m
     → handW ns v x (m .«should_record_errors») ≡ listIf (recordsErrors (modeSays m) && not (hasRecord (getD (recordsOf ns) x noRecord))) (functionOf (valueOf v))
 unfolding handW recordsOf recordAt modeSays
-handed-is ns v x m hx there callable =
-    hand-is (m .«should_record_errors») (eqb (getD ns (0 + x) 0 % 16) 0) (functionW v)
-    ∙ ap (λ (w : ℕ). listIf (m .«should_record_errors» && not (not (eqb (w % 16) 0))) (functionW v)) (sym (field-there ns 0 x there))
-    ∙ ap (λ (b : Bool). listIf (m .«should_record_errors» && not b) (functionW v)) (sym (has-word (fieldAt ns 0 x) (getD ns (1536 + x) 0) (getD ns (512 + x) 0)))
+handed-is ns v x m hx callable =
+    hand-is (m .«should_record_errors») (eqb (getD ns (RECORD + x) 0 % 16) 0) (functionW v)
+    ∙ ap (λ (b : Bool). listIf (m .«should_record_errors» && not b) (functionW v)) (sym (has-word (getD ns (RECORD + x) 0) (getD ns (TSPAN + x) 0) (getD ns (LSPAN + x) 0)))
     ∙ ap (listIf (m .«should_record_errors» && not (hasRecord (recordAt ns x)))) (function-is v)
     ∙ ap (λ (b : Bool). listIf (b && not (hasRecord (recordAt ns x))) (functionOf (valueOf v))) (errors-are (m .end .0) (m .«should_record_errors») (callable .quiet))
-    ∙ ap (λ (r : Record). listIf (recordsErrors (modeOf (m .end .0) (m .«should_record_errors»)) && not (hasRecord r)) (functionOf (valueOf v))) (sym (tab-at 512 (recordAt ns) x noRecord hx))
+    ∙ ap (λ (r : Record). listIf (recordsErrors (modeOf (m .end .0) (m .«should_record_errors»)) && not (hasRecord r)) (functionOf (valueOf v))) (sym (tab-at mostIdentifiers (recordAt ns) x noRecord hx))
 
 -- it looks at the node fields alone
-pub hand-same : (ws : List ℕ) (v x : ℕ) (errors : Bool) → x < 512 → handW ws v x errors ≡ handW (take 2624 ws) v x errors
+pub hand-same : (ws : List ℕ) (v x : ℕ) (errors : Bool) → x < mostIdentifiers → handW ws v x errors ≡ handW (take SEEN ws) v x errors
 unfolding handW
-hand-same ws v x errors h = ap (λ (w : ℕ). pick errors (pick (eqb (w % 16) 0) (functionW v) []) []) (sym (getD-take 2624 ws (0 + x) 0 (omega arith)))
+hand-same ws v x errors h = ap (λ (w : ℕ). pick errors (pick (eqb (w % 16) 0) (functionW v) []) []) (sym (getD-take SEEN ws (RECORD + x) 0 (omega arith)))
 
 -- ---- the room
 pub bare-top : (rs : List Record) → bare rs ≤ length rs
@@ -102,19 +101,19 @@ pub room-kept : (rs : List Record) (x : ℕ) (e : Bool) (v : Value) (t : Bool) (
 room-kept rs x e v t m i h =
     omega (arith, bare-set rs x (touch t m i (getD rs x noRecord)) h (touched-has t m i (getD rs x noRecord)), function-few e (not (hasRecord (getD rs x noRecord))) v)
 
-pub records-length : (ns : List ℕ) → length (recordsOf ns) ≡ 512
+pub records-length : (ns : List ℕ) → length (recordsOf ns) ≡ mostIdentifiers
 unfolding recordsOf
-records-length ns = tab-length 512 (recordAt ns)
+records-length ns = tab-length mostIdentifiers (recordAt ns)
 
 -- ---- what one mutation after another keeps true, kept
-pub handing-as : (ws ws′ : List ℕ) (hand : ℕ) → rowsOf ws′ ≡ rowsOf ws → nodesOf ws′ ≡ nodesOf ws → NoneAbove (getD ws′ BASE 0) ws′ → Handing ws hand → Handing ws′ hand
-handing-as ws ws′ hand rows nodes marks h = record { low = h .low; covered = covered-nodes ws ws′ rows nodes (h .covered); marks = marks; room = omega (arith, h .room, ap (λ (ns : List ℕ). bare (recordsOf ns)) nodes) }
+pub handing-as : (ws ws′ : List ℕ) (hand : ℕ) → nodesOf ws′ ≡ nodesOf ws → NoneAbove (getD ws′ BASE 0) ws′ → Handing ws hand → Handing ws′ hand
+handing-as ws ws′ hand nodes marks h = record { low = h .low; marks = marks; room = omega (arith, h .room, ap (λ (ns : List ℕ). bare (recordsOf ns)) nodes) }
 
 -- by a write behind the graph
 pub handing-behind : {b e : ℕ} {ws ws′ : List ℕ} (hand : ℕ) → Kept b e ws ws′ → QUEUE ≤ b → Handing ws hand → Handing ws′ hand
 handing-behind {b} {e} {ws} {ws′} hand k q h =
-    handing-as ws ws′ hand (rows-below k q) (nodes-below k (omega (arith, q))) (above-as (seen-below k (omega (arith, q))) (rows-below k q) (omega (arith, base-below k (omega (arith, q)))) (h .marks)) h
+    handing-as ws ws′ hand (nodes-below k (omega (arith, q))) (above-as (seen-below k (omega (arith, q))) (omega (arith, base-below k (omega (arith, q)))) (h .marks)) h
 
 -- where the functions handed over are forgotten
 pub handing-anew : {ws : List ℕ} {hand : ℕ} → Handing ws hand → Handing ws HANDED
-handing-anew h = record { low = omega arith; covered = h .covered; marks = h .marks; room = omega (arith, h .low, h .room) }
+handing-anew h = record { low = omega arith; marks = h .marks; room = omega (arith, h .low, h .room) }

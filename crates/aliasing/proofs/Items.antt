@@ -6,6 +6,7 @@ use mathlib.Core.List.{List, [], _∷_, _++_, map, reverseAux, reverseAux-append
 use mathlib.Core.Path.{_≡_, refl, sym, ap, _∙_}
 use lib.Dec.{ltb, eqb}
 use borrow.Author.Tests.{ne-eqb}
+use Rattle.model.specs.Limits.{mostIdentifiers}
 use Rattle.model.specs.Lists.{pick, consIf, consOrStop, listIf}
 use Rattle.model.specs.Graph.{edgeKind, Entry, Node}
 use Rattle.model.specs.Walks.{backwards, Item, kindOver, stepForward, stepCreated, stepAlias, stepMaybe, untilIndex, belowIndex, looksBack, rule2, rule3, rule4, pushes}
@@ -19,7 +20,7 @@ low-bit : (t u : ℕ) → t < 2 → (t + 2 * u) % 2 ≡ t
 low-bit t u h = omega arith
 
 -- what is put into a word comes out of it again
-pub item-entry : (x t d k : ℕ) → x < 512 → t < 2 → d < 2 → k < 2
+pub item-entry : (x t d k : ℕ) → x < mostIdentifiers → t < 2 → d < 2 → k < 2
     → itemOf (entryW x t d k) ≡ record { identifier = x; direction = directionOf d; transitive = eqb t 1; kind = kindOf k }
 unfolding itemOf
 item-entry x t d k hx ht hd hk =

@@ -1,11 +1,9 @@
 pub mod Sizes
 pub mod Pushing
 pub mod PushLaws
-pub mod Whole
 pub mod Items
 pub mod Packed
 pub mod Writes
-pub mod Fields
 pub mod Records
 pub mod Hands
 pub mod Parts
@@ -14,7 +12,6 @@ pub mod Potential
 pub mod Cases
 pub mod Enters
 pub mod Steps
-pub mod Conditional
 pub mod Walks
 pub mod Begin
 pub mod Start

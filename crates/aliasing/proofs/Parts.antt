@@ -5,6 +5,8 @@ use mathlib.Core.List.{List}
 use mathlib.Core.Path.{_≡_, refl}
 use lib.ListN.{length, getD, set}
 use lib.Seq.{slice, length-slice, length-take-le}
+use Rattle.model.specs.Limits.{mostIdentifiers}
+use Rattle.workspace.specs.Layout.{LEAST, SEEN, BASE, VALUE, QUEUE}
 use Rattle.workspace.specs.Rows.{rowsOf, Kept}
 use Rattle.workspace.proofs.Parts.{slice-at, slice-take, slice-drop, slice-set-in, take-less, drop-word, kept-none, kept-set, kept-at}
 use Rattle.aliasing.specs.declared.Mutation.{Mutation}
@@ -19,56 +21,56 @@ module _ {b e : ℕ} {ws ws′ : List ℕ} (k : Kept b e ws ws′) where
   pub slice-above : (f t : ℕ) → e ≤ f → f ≤ t → slice f t ws′ ≡ slice f t ws
   slice-above f t h q = slice-drop e f t ws′ ws h q (k .high)
 
-  pub nodes-below : 2624 ≤ b → nodesOf ws′ ≡ nodesOf ws
+  pub nodes-below : SEEN ≤ b → nodesOf ws′ ≡ nodesOf ws
   unfolding nodesOf
-  nodes-below h = take-less 2624 b ws′ ws h (k .low)
+  nodes-below h = take-less SEEN b ws′ ws h (k .low)
 
-  pub seen-below : 3136 ≤ b → seenOf ws′ ≡ seenOf ws
+  pub seen-below : BASE ≤ b → seenOf ws′ ≡ seenOf ws
   unfolding seenOf
-  seen-below h = slice-below 2624 3136 h
+  seen-below h = slice-below SEEN BASE h
 
-  pub seen-above : e ≤ 2624 → seenOf ws′ ≡ seenOf ws
+  pub seen-above : e ≤ SEEN → seenOf ws′ ≡ seenOf ws
   unfolding seenOf
-  seen-above h = slice-above 2624 3136 h (omega arith)
+  seen-above h = slice-above SEEN BASE h (omega arith)
 
-  pub rows-below : 8528 ≤ b → rowsOf ws′ ≡ rowsOf ws
+  pub rows-below : QUEUE ≤ b → rowsOf ws′ ≡ rowsOf ws
   unfolding rowsOf
-  rows-below h = slice-below 3200 8528 h
+  rows-below h = slice-below VALUE QUEUE h
 
-  pub rows-above : e ≤ 3200 → rowsOf ws′ ≡ rowsOf ws
+  pub rows-above : e ≤ VALUE → rowsOf ws′ ≡ rowsOf ws
   unfolding rowsOf
-  rows-above h = slice-above 3200 8528 h (omega arith)
+  rows-above h = slice-above VALUE QUEUE h (omega arith)
 
-  pub base-below : 3136 < b → getD ws′ 3136 0 ≡ getD ws 3136 0
-  base-below h = kept-at k 3136 h
+  pub base-below : BASE < b → getD ws′ BASE 0 ≡ getD ws BASE 0
+  base-below h = kept-at k BASE h
 
-  pub base-above : e ≤ 3136 → getD ws′ 3136 0 ≡ getD ws 3136 0
-  base-above h = drop-word e 3136 ws ws′ h (k .high)
+  pub base-above : e ≤ BASE → getD ws′ BASE 0 ≡ getD ws BASE 0
+  base-above h = drop-word e BASE ws ws′ h (k .high)
 
 -- ---- a level
-pub mark-kept : (ws : List ℕ) (x l : ℕ) → x < 512 → Kept 2624 3136 ws (set ws (2624 + x) l)
-mark-kept ws x l h = kept-set (kept-none 2624 3136 ws) (2624 + x) l (omega arith) (omega arith)
+pub mark-kept : (ws : List ℕ) (x l : ℕ) → x < mostIdentifiers → Kept SEEN BASE ws (set ws (SEEN + x) l)
+mark-kept ws x l h = kept-set (kept-none SEEN BASE ws) (SEEN + x) l (omega arith) (omega arith)
 
-pub mark-seen : (ws : List ℕ) (x l : ℕ) → x < 512 → seenOf (set ws (2624 + x) l) ≡ set (seenOf ws) x l
+pub mark-seen : (ws : List ℕ) (x l : ℕ) → x < mostIdentifiers → seenOf (set ws (SEEN + x) l) ≡ set (seenOf ws) x l
 unfolding seenOf
-mark-seen ws x l h = slice-set-in 2624 3136 x ws l (omega arith)
+mark-seen ws x l h = slice-set-in SEEN BASE x ws l (omega arith)
 
-pub seen-at : (ws : List ℕ) (x : ℕ) → x < 512 → getD (seenOf ws) x 0 ≡ getD ws (2624 + x) 0
+pub seen-at : (ws : List ℕ) (x : ℕ) → x < mostIdentifiers → getD (seenOf ws) x 0 ≡ getD ws (SEEN + x) 0
 unfolding seenOf
-seen-at ws x h = slice-at 2624 3136 x ws (omega arith)
+seen-at ws x h = slice-at SEEN BASE x ws (omega arith)
 
-pub seen-length : (ws : List ℕ) → 16384 ≤ length ws → length (seenOf ws) ≡ 512
+pub seen-length : (ws : List ℕ) → LEAST ≤ length ws → length (seenOf ws) ≡ mostIdentifiers
 unfolding seenOf
-seen-length ws h = length-slice 2624 3136 ws (omega arith)
+seen-length ws h = length-slice SEEN BASE ws (omega arith)
 
 -- ---- an accepted node
-pub accept-kept : (ws : List ℕ) (x t k : ℕ) (m : Mutation) → x < 512 → Kept 0 2624 ws (acceptW ws x t k m)
+pub accept-kept : (ws : List ℕ) (x t k : ℕ) (m : Mutation) → x < mostIdentifiers → Kept 0 SEEN ws (acceptW ws x t k m)
 accept-kept ws x t k m h = record { low = refl; high = local-accept x t k m h .post ws; same = local-accept x t k m h .len ws }
 
-pub accept-nodes : (ws : List ℕ) (x t k : ℕ) (m : Mutation) → x < 512 → nodesOf (acceptW ws x t k m) ≡ acceptW (nodesOf ws) x t k m
+pub accept-nodes : (ws : List ℕ) (x t k : ℕ) (m : Mutation) → x < mostIdentifiers → nodesOf (acceptW ws x t k m) ≡ acceptW (nodesOf ws) x t k m
 unfolding nodesOf
 accept-nodes ws x t k m h = local-accept x t k m h .pre ws
 
-pub nodes-length : (ws : List ℕ) → 16384 ≤ length ws → length (nodesOf ws) ≡ 2624
+pub nodes-length : (ws : List ℕ) → LEAST ≤ length ws → length (nodesOf ws) ≡ SEEN
 unfolding nodesOf
-nodes-length ws h = length-take-le 2624 ws (omega arith)
+nodes-length ws h = length-take-le SEEN ws (omega arith)

@@ -8,11 +8,13 @@ use mathlib.Core.Path.{_≡_, refl, sym, ap, subst, _∙_}
 use lib.ListN.{length, getD, set, drop, length-set}
 use lib.Seq.{getD-set-same, getD-set-other, drop-set-lt}
 use lib.Dec.{eqb}
+use Rattle.model.specs.Limits.{mostOrder}
 use Rattle.model.specs.Lists.{Every}
 use Rattle.model.specs.Mutation.{definite, Mutation}
 use Rattle.model.specs.State.{State, Mode, real}
 use Rattle.model.specs.Walks.{Walk, mutate}
 use Rattle.model.specs.Runs.{walksOf, after}
+use Rattle.workspace.specs.Layout.{HANDED, MUTATIONS, RENDERS}
 use Rattle.workspace.specs.Rows.{rowsOf, Good, Indexed, Kept}
 use Rattle.workspace.specs.Graph.{tab}
 use Rattle.workspace.specs.Pending.{kindOf, mutationOf, mutationAt, mutationsOf}
@@ -23,7 +25,6 @@ use Rattle.aliasing.specs.declared.MutationKind.{MutationKind}
 use Rattle.aliasing.specs.declared.Mutation.{Mutation as CodeMutation}
 use Rattle.aliasing.specs.Says.{kindSays, modeOf, modeSays, mutationSays}
 use Rattle.aliasing.specs.State.{stateOf, Handing}
-use Rattle.aliasing.proofs.Fields.{covered-nodes}
 use Rattle.aliasing.specs.Walks.{Unmarked, Mutated}
 use Rattle.aliasing.specs.Pending.{Pending, Made, takenOf, Processed}
 use Rattle.aliasing.proofs.Parts.{slice-below, nodes-below, rows-below}
@@ -63,14 +64,14 @@ every-drop P l zero h = h
 every-drop P [] (suc i) h = h
 every-drop P (m ∷ l) (suc i) h = every-drop P l i (h .1)
 
-order-at : (ws : List ℕ) (i : ℕ) → mutationAt ws i .order ≡ getD ws (13827 + 3 * i + 1) 0
+order-at : (ws : List ℕ) (i : ℕ) → mutationAt ws i .order ≡ getD ws (MUTATIONS + 3 * i + 1) 0
 unfolding mutationAt mutationOf
 order-at ws i = refl
 
-order-most : (ws : List ℕ) (count : ℕ) → Pending ws count → (i : ℕ) → i < count → getD ws (13827 + 3 * i + 1) 0 ≤ 999999
+order-most : (ws : List ℕ) (count : ℕ) → Pending ws count → (i : ℕ) → i < count → getD ws (MUTATIONS + 3 * i + 1) 0 ≤ mostOrder
 order-most ws count p i h =
-    let all : Every (λ (m : Mutation). m .order ≤ 999999) (mutationAt ws i ∷ drop (i + 1) (mutationsOf ws count))
-    = subst (Every (λ (m : Mutation). m .order ≤ 999999)) (mutations-next ws count i h) (every-drop (λ (m : Mutation). m .order ≤ 999999) (mutationsOf ws count) i (p .orders)) in
+    let all : Every (λ (m : Mutation). m .order ≤ mostOrder) (mutationAt ws i ∷ drop (i + 1) (mutationsOf ws count))
+    = subst (Every (λ (m : Mutation). m .order ≤ mostOrder)) (mutations-next ws count i h) (every-drop (λ (m : Mutation). m .order ≤ mostOrder) (mutationsOf ws count) i (p .orders)) in
     omega (arith, all .0, order-at ws i)
 
 -- ---- the lists, one mutation further
@@ -94,20 +95,20 @@ unfolding walksOf
 walks-end how s = refl
 
 -- ---- a word of the mutations written
-module _ (ws : List ℕ) (i v : ℕ) (low : 13827 ≤ i) where
-  kept-word : Kept 13827 (i + 1) ws (set ws i v)
-  kept-word = kept-set (kept-none 13827 (i + 1) ws) i v low (omega arith)
+module _ (ws : List ℕ) (i v : ℕ) (low : MUTATIONS ≤ i) where
+  kept-word : Kept MUTATIONS (i + 1) ws (set ws i v)
+  kept-word = kept-set (kept-none MUTATIONS (i + 1) ws) i v low (omega arith)
 
-  state-word : (hand : ℕ) → hand ≤ 13827 → stateOf (set ws i v) hand ≡ stateOf ws hand
-  state-word hand h = state-same ws (set ws i v) hand hand (rows-below kept-word (omega arith)) (nodes-below kept-word (omega arith)) (slice-below kept-word 13315 hand h)
+  state-word : (hand : ℕ) → hand ≤ MUTATIONS → stateOf (set ws i v) hand ≡ stateOf ws hand
+  state-word hand h = state-same ws (set ws i v) hand hand (rows-below kept-word (omega arith)) (nodes-below kept-word (omega arith)) (slice-below kept-word HANDED hand h)
 
-taken-next : (ws ws′ : List ℕ) (i c : ℕ) → ((j : ℕ) → j < i → getD ws′ (13827 + 3 * j + 2) 0 ≡ getD ws (13827 + 3 * j + 2) 0) → getD ws′ (13827 + 3 * i + 2) 0 ≡ c
+taken-next : (ws ws′ : List ℕ) (i c : ℕ) → ((j : ℕ) → j < i → getD ws′ (MUTATIONS + 3 * j + 2) 0 ≡ getD ws (MUTATIONS + 3 * j + 2) 0) → getD ws′ (MUTATIONS + 3 * i + 2) 0 ≡ c
     → takenOf ws′ (i + 1) ≡ takenOf ws i ++ (c ∷ [])
 unfolding takenOf tab
 taken-next ws ws′ i c same is =
-    ap (λ (n : ℕ). tab n (λ (j : ℕ). getD ws′ (13827 + 3 * j + 2) 0)) (add-one i)
-    ∙ ap (λ (l : List ℕ). l ++ (getD ws′ (13827 + 3 * i + 2) 0 ∷ [])) (tab-same i (λ (j : ℕ). getD ws′ (13827 + 3 * j + 2) 0) (λ (j : ℕ). getD ws (13827 + 3 * j + 2) 0) same)
-    ∙ ap (λ (n : ℕ). tab i (λ (j : ℕ). getD ws (13827 + 3 * j + 2) 0) ++ (n ∷ [])) is
+    ap (λ (n : ℕ). tab n (λ (j : ℕ). getD ws′ (MUTATIONS + 3 * j + 2) 0)) (add-one i)
+    ∙ ap (λ (l : List ℕ). l ++ (getD ws′ (MUTATIONS + 3 * i + 2) 0 ∷ [])) (tab-same i (λ (j : ℕ). getD ws′ (MUTATIONS + 3 * j + 2) 0) (λ (j : ℕ). getD ws (MUTATIONS + 3 * j + 2) 0) same)
+    ∙ ap (λ (n : ℕ). tab i (λ (j : ℕ). getD ws (MUTATIONS + 3 * j + 2) 0) ++ (n ∷ [])) is
 
 taken-none : (ws : List ℕ) → takenOf ws 0 ≡ []
 unfolding takenOf tab
@@ -119,13 +120,13 @@ pub record Processing (errors : Bool) (ws₀ : List ℕ) (count : ℕ) (ws : Lis
   pub mid : i ≤ count
   pub indexed : Indexed ws
   pub handing : Handing ws hand
-  pub rest : drop (13827 + 3 * i) ws ≡ drop (13827 + 3 * i) ws₀
-  pub state : after (real errors) (drop i (mutationsOf ws₀ count)) (stateOf ws hand) ≡ after (real errors) (mutationsOf ws₀ count) (stateOf ws₀ 13315)
-  pub counts : takenOf ws i ++ takens (walksOf (real errors) (drop i (mutationsOf ws₀ count)) (stateOf ws hand)) ≡ takens (walksOf (real errors) (mutationsOf ws₀ count) (stateOf ws₀ 13315))
+  pub rest : drop (MUTATIONS + 3 * i) ws ≡ drop (MUTATIONS + 3 * i) ws₀
+  pub state : after (real errors) (drop i (mutationsOf ws₀ count)) (stateOf ws hand) ≡ after (real errors) (mutationsOf ws₀ count) (stateOf ws₀ HANDED)
+  pub counts : takenOf ws i ++ takens (walksOf (real errors) (drop i (mutationsOf ws₀ count)) (stateOf ws hand)) ≡ takens (walksOf (real errors) (mutationsOf ws₀ count) (stateOf ws₀ HANDED))
   pub graph : rowsOf ws ≡ rowsOf ws₀
   pub same : length ws ≡ length ws₀
 
-pub process-start : (errors : Bool) (ws : List ℕ) (count : ℕ) → Indexed ws → Pending ws count → Handing ws 13315 → Processing errors ws count ws 0 13315
+pub process-start : (errors : Bool) (ws : List ℕ) (count : ℕ) → Indexed ws → Pending ws count → Handing ws HANDED → Processing errors ws count ws 0 HANDED
 process-start errors ws count indexed pending handing = record {
   pending = pending;
   mid = omega arith;
@@ -133,56 +134,56 @@ process-start errors ws count indexed pending handing = record {
   handing = handing;
   rest = refl;
   state = refl;
-  counts = ap (λ (l : List ℕ). l ++ takens (walksOf (real errors) (mutationsOf ws count) (stateOf ws 13315))) (taken-none ws);
+  counts = ap (λ (l : List ℕ). l ++ takens (walksOf (real errors) (mutationsOf ws count) (stateOf ws HANDED))) (taken-none ws);
   graph = refl;
   same = refl;
 }
 
 module _ (errors : Bool) (ws₀ : List ℕ) (count : ℕ) (ws : List ℕ) (i hand : ℕ) (p : Processing errors ws₀ count ws i hand) (more : i < count) where
-  word-is : (j : ℕ) → getD ws (13827 + 3 * i + j) 0 ≡ getD ws₀ (13827 + 3 * i + j) 0
-  word-is j = drop-word (13827 + 3 * i) (13827 + 3 * i + j) ws₀ ws (omega arith) (p .rest)
+  word-is : (j : ℕ) → getD ws (MUTATIONS + 3 * i + j) 0 ≡ getD ws₀ (MUTATIONS + 3 * i + j) 0
+  word-is j = drop-word (MUTATIONS + 3 * i) (MUTATIONS + 3 * i + j) ws₀ ws (omega arith) (p .rest)
 
-  pub order-few : getD ws (13827 + 3 * i + 1) 0 ≤ 999999
+  pub order-few : getD ws (MUTATIONS + 3 * i + 1) 0 ≤ mostOrder
   order-few = omega (arith, word-is 1, order-most ws₀ count (p .pending) i more)
 
-  mutation-is : mutationOf (getD ws (13827 + 3 * i) 0) (getD ws (13827 + 3 * i + 1) 0) (getD ws (13827 + 3 * i + 2) 0) ≡ mutationAt ws₀ i
+  mutation-is : mutationOf (getD ws (MUTATIONS + 3 * i) 0) (getD ws (MUTATIONS + 3 * i + 1) 0) (getD ws (MUTATIONS + 3 * i + 2) 0) ≡ mutationAt ws₀ i
   unfolding mutationAt
   mutation-is =
-      let z : 13827 + 3 * i ≡ 13827 + 3 * i + 0 = omega arith in
-      let a : getD ws (13827 + 3 * i) 0 ≡ getD ws₀ (13827 + 3 * i) 0 = ap (λ (n : ℕ). getD ws n 0) z ∙ word-is 0 ∙ ap (λ (n : ℕ). getD ws₀ n 0) (sym z) in
+      let z : MUTATIONS + 3 * i ≡ MUTATIONS + 3 * i + 0 = omega arith in
+      let a : getD ws (MUTATIONS + 3 * i) 0 ≡ getD ws₀ (MUTATIONS + 3 * i) 0 = ap (λ (n : ℕ). getD ws n 0) z ∙ word-is 0 ∙ ap (λ (n : ℕ). getD ws₀ n 0) (sym z) in
       rw (a, word-is 1, word-is 2)
 
-  module _ (m : CodeMutation) (is : Made (getD ws (13827 + 3 * i) 0) (getD ws (13827 + 3 * i + 1) 0) (getD ws (13827 + 3 * i + 2) 0) errors m)
+  module _ (m : CodeMutation) (is : Made (getD ws (MUTATIONS + 3 * i) 0) (getD ws (MUTATIONS + 3 * i + 1) 0) (getD ws (MUTATIONS + 3 * i + 2) 0) errors m)
       (ws₁ : List ℕ) (c h : ℕ) (w : Mutated m ws hand ws₁ c h) where
     walk-is : mutate (modeSays m) (mutationSays m) (stateOf ws hand) ≡ mutate (real errors) (mutationAt ws₀ i) (stateOf ws hand)
     walk-is = ap (λ (k : Mode). mutate k (mutationSays m) (stateOf ws hand)) (is .how) ∙ ap (λ (n : Mutation). mutate (real errors) n (stateOf ws hand)) (is .is ∙ mutation-is)
 
-    pub long : 13827 + 3 * i + 2 < length ws₁
+    pub long : MUTATIONS + 3 * i + 2 < length ws₁
     long = omega (arith, w .aside .same, p .indexed .size, p .pending .few)
 
     abbrev next : List ℕ
-    next = set ws₁ (13827 + 3 * i + 2) c
+    next = set ws₁ (MUTATIONS + 3 * i + 2) c
 
     state-next : stateOf next h ≡ mutate (real errors) (mutationAt ws₀ i) (stateOf ws hand) .state
-    state-next = state-word ws₁ (13827 + 3 * i + 2) c (omega arith) h (omega (arith, w .handing .room)) ∙ w .state ∙ ap (λ (v : Walk). v .state) walk-is
+    state-next = state-word ws₁ (MUTATIONS + 3 * i + 2) c (omega arith) h (omega (arith, w .handing .room)) ∙ w .state ∙ ap (λ (v : Walk). v .state) walk-is
 
     counts-next : takenOf next (i + 1) ≡ takenOf ws i ++ (mutate (real errors) (mutationAt ws₀ i) (stateOf ws hand) .taken ∷ [])
     counts-next =
         taken-next ws next i (mutate (real errors) (mutationAt ws₀ i) (stateOf ws hand) .taken)
-        (λ j q. getD-set-other ws₁ (13827 + 3 * i + 2) (13827 + 3 * j + 2) c 0 (λ e. omega (arith, e)) ∙ drop-word 13827 (13827 + 3 * j + 2) ws ws₁ (omega arith) (w .aside .behind))
-        (getD-set-same ws₁ (13827 + 3 * i + 2) c 0 long ∙ w .counts ∙ ap (λ (v : Walk). v .taken) walk-is)
+        (λ j q. getD-set-other ws₁ (MUTATIONS + 3 * i + 2) (MUTATIONS + 3 * j + 2) c 0 (λ e. omega (arith, e)) ∙ drop-word MUTATIONS (MUTATIONS + 3 * j + 2) ws ws₁ (omega arith) (w .aside .behind))
+        (getD-set-same ws₁ (MUTATIONS + 3 * i + 2) c 0 long ∙ w .counts ∙ ap (λ (v : Walk). v .taken) walk-is)
 
     pub process-turn : Processing errors ws₀ count next (i + 1) h
     process-turn = record {
       pending = p .pending;
       mid = more-mid;
       indexed = record {
-        size = omega (arith, length-set ws₁ (13827 + 3 * i + 2) c, w .aside .same, p .indexed .size);
+        size = omega (arith, length-set ws₁ (MUTATIONS + 3 * i + 2) c, w .aside .same, p .indexed .size);
         good = subst Good (sym rows-next) (p .indexed .good);
       };
-      handing = handing-behind h (kept-word ws₁ (13827 + 3 * i + 2) c (omega arith)) (omega arith) (w .handing);
-      rest = drop-set-lt (13827 + 3 * (i + 1)) ws₁ (13827 + 3 * i + 2) c (omega arith)
-          ∙ drop-more 13827 (13827 + 3 * (i + 1)) ws₁ ws (omega arith) (w .aside .behind) ∙ drop-more (13827 + 3 * i) (13827 + 3 * (i + 1)) ws ws₀ (omega arith) (p .rest);
+      handing = handing-behind h (kept-word ws₁ (MUTATIONS + 3 * i + 2) c (omega arith)) (omega arith) (w .handing);
+      rest = drop-set-lt (MUTATIONS + 3 * (i + 1)) ws₁ (MUTATIONS + 3 * i + 2) c (omega arith)
+          ∙ drop-more MUTATIONS (MUTATIONS + 3 * (i + 1)) ws₁ ws (omega arith) (w .aside .behind) ∙ drop-more (MUTATIONS + 3 * i) (MUTATIONS + 3 * (i + 1)) ws ws₀ (omega arith) (p .rest);
       state = ap (after (real errors) (drop (i + 1) (mutationsOf ws₀ count))) state-next
           ∙ sym (after-next (real errors) (mutationAt ws₀ i) (drop (i + 1) (mutationsOf ws₀ count)) (stateOf ws hand))
           ∙ ap (λ (l : List Mutation). after (real errors) l (stateOf ws hand)) (sym (mutations-next ws₀ count i more)) ∙ p .state;
@@ -192,14 +193,14 @@ module _ (errors : Bool) (ws₀ : List ℕ) (count : ℕ) (ws : List ℕ) (i han
           ∙ ap (λ (l : List ℕ). takenOf ws i ++ l) (sym (walks-next (real errors) (mutationAt ws₀ i) (drop (i + 1) (mutationsOf ws₀ count)) (stateOf ws hand)))
           ∙ ap (λ (l : List Mutation). takenOf ws i ++ takens (walksOf (real errors) l (stateOf ws hand))) (sym (mutations-next ws₀ count i more)) ∙ p .counts;
       graph = rows-next ∙ p .graph;
-      same = length-set ws₁ (13827 + 3 * i + 2) c ∙ w .aside .same ∙ p .same;
+      same = length-set ws₁ (MUTATIONS + 3 * i + 2) c ∙ w .aside .same ∙ p .same;
     }
       where
         more-mid : i + 1 ≤ count
         more-mid = omega arith
 
         rows-next : rowsOf next ≡ rowsOf ws
-        rows-next = rows-below (kept-word ws₁ (13827 + 3 * i + 2) c (omega arith)) (omega arith) ∙ w .aside .graph
+        rows-next = rows-below (kept-word ws₁ (MUTATIONS + 3 * i + 2) c (omega arith)) (omega arith) ∙ w .aside .graph
 
 pub process-end : (errors : Bool) (ws₀ : List ℕ) (count : ℕ) (ws : List ℕ) (i hand : ℕ) → Processing errors ws₀ count ws i hand → count ≤ i → Processed errors ws₀ count ws hand
 process-end errors ws₀ count ws i hand p done =
@@ -210,7 +211,7 @@ process-end errors ws₀ count ws i hand p done =
       counts = ap (takenOf ws) e ∙ sym (append-nil (takenOf ws i)) ∙ ap (λ (l : List ℕ). takenOf ws i ++ l) (sym (walks-end (real errors) (stateOf ws hand)))
           ∙ ap (λ (l : List Mutation). takenOf ws i ++ takens (walksOf (real errors) l (stateOf ws hand))) (sym nil) ∙ p .counts;
       graph = p .graph;
-      behind = drop-more (13827 + 3 * i) 15363 ws ws₀ (omega (arith, p .mid, p .pending .few)) (p .rest);
+      behind = drop-more (MUTATIONS + 3 * i) RENDERS ws ws₀ (omega (arith, p .mid, p .pending .few)) (p .rest);
       same = p .same;
       handing = p .handing;
     }
@@ -223,22 +224,22 @@ module _ (ws : List ℕ) (indexed : Indexed ws) (l : List ℕ) (clear : Unmarked
   mutations-are : mutationsOf l count ≡ mutationsOf ws count
   mutations-are = mutations-kept ws l count (u .aside .behind)
 
-  pub cleared-start : (errors : Bool) → Processing errors l count l 0 13315
+  pub cleared-start : (errors : Bool) → Processing errors l count l 0 HANDED
   cleared-start errors =
       process-start errors l count (u .indexed)
-      (record { few = pending .few; covered = covered-nodes ws l (u .aside .graph) (u .nodes) (pending .covered); orders = subst (Every (λ (m : Mutation). m .order ≤ 999999)) (sym mutations-are) (pending .orders) })
-      (unmarked-handing ws l clear (pending .covered))
+      (record { few = pending .few; orders = subst (Every (λ (m : Mutation). m .order ≤ mostOrder)) (sym mutations-are) (pending .orders) })
+      (unmarked-handing ws l clear)
 
   pub cleared-end : (errors : Bool) (ws′ : List ℕ) (hand : ℕ) → Processed errors l count ws′ hand → Processed errors ws count ws′ hand
   cleared-end errors ws′ hand p = record {
-    state = p .state ∙ ap (λ (ms : List Mutation). after (real errors) ms (stateOf l 13315)) mutations-are ∙ ap (after (real errors) (mutationsOf ws count)) start-is;
-    counts = p .counts ∙ ap (λ (ms : List Mutation). takens (walksOf (real errors) ms (stateOf l 13315))) mutations-are
+    state = p .state ∙ ap (λ (ms : List Mutation). after (real errors) ms (stateOf l HANDED)) mutations-are ∙ ap (after (real errors) (mutationsOf ws count)) start-is;
+    counts = p .counts ∙ ap (λ (ms : List Mutation). takens (walksOf (real errors) ms (stateOf l HANDED))) mutations-are
         ∙ ap (λ (s : State). takens (walksOf (real errors) (mutationsOf ws count) s)) start-is;
     graph = p .graph ∙ u .aside .graph;
-    behind = p .behind ∙ drop-more 13827 15363 l ws (omega arith) (u .aside .behind);
+    behind = p .behind ∙ drop-more MUTATIONS RENDERS l ws (omega arith) (u .aside .behind);
     same = p .same ∙ u .aside .same;
     handing = p .handing;
   }
     where
-      start-is : stateOf l 13315 ≡ stateOf ws 13315
-      start-is = u .state 13315 (omega arith)
+      start-is : stateOf l HANDED ≡ stateOf ws HANDED
+      start-is = u .state HANDED (omega arith)

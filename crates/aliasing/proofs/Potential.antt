@@ -6,6 +6,7 @@ use mathlib.Core.List.{List}
 use mathlib.Core.Path.{_≡_, refl, ap, _∙_}
 use lib.ListN.{length, getD, set}
 use lib.Seq.{getD-set-same, getD-set-other}
+use Rattle.model.specs.Limits.{mostIdentifiers}
 use Rattle.workspace.specs.Rows.{fb, bb, Good}
 use Rattle.aliasing.specs.Pushes.{deg}
 use Rattle.aliasing.specs.Potential.{left, phi}
@@ -49,7 +50,7 @@ phi-falls seen g x k (suc n) h l s q = go (decLt x n) (λ d. phi-falls seen g x 
     go (no d) ih = here (omega arith)
 
 -- ---- the potential at the start: at most twice the relations
-pub phi-top : (seen g : List ℕ) → Good g → (n : ℕ) → n ≤ 512 → phi seen g n ≤ 2 * (fb g n + bb g (4 * n))
+pub phi-top : (seen g : List ℕ) → Good g → (n : ℕ) → n ≤ mostIdentifiers → phi seen g n ≤ 2 * (fb g n + bb g (4 * n))
 unfolding phi
 phi-top seen g good zero h = omega arith
 phi-top seen g good (suc n) h =
@@ -64,5 +65,5 @@ phi-top seen g good (suc n) h =
     let e₅ : fb g (suc n) ≡ fb g (n + 1) = ap (fb g) (omega arith) in
     omega (arith, left-top (getD seen n 0) (deg g n), good .f-up n (omega arith), phi-top seen g good n (omega arith))
 
-pub phi-bound : (seen g : List ℕ) → Good g → phi seen g 512 ≤ 4096
-phi-bound seen g good = omega (arith, phi-top seen g good 512 (omega arith), good .f-top 512 (omega arith), good .b-top (4 * 512) (omega arith))
+pub phi-bound : (seen g : List ℕ) → Good g → phi seen g mostIdentifiers ≤ 4096
+phi-bound seen g good = omega (arith, phi-top seen g good mostIdentifiers (omega arith), good .f-top mostIdentifiers (omega arith), good .b-top (4 * mostIdentifiers) (omega arith))

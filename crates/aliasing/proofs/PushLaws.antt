@@ -2,20 +2,18 @@
 use Prim.Native.Nat.{ℕ, _+_, _-_, _*_, _≤_, _<_}
 use native.Mathlib.Omega.{arith}
 use mathlib.Core.Bool.{true, false}
-use mathlib.Core.List.{List, [], _∷_, _++_, append-assoc}
+use mathlib.Core.List.{List, [], _++_, append-assoc}
 use mathlib.Core.Path.{_≡_, refl, sym, ap, subst, _∙_}
-use lib.ListN.{length, getD, take, drop, length-append}
+use lib.ListN.{length, take, drop, length-append}
 use lib.Seq.{slice, sets, sets-eq, length-sets, length-take-le, take-at, drop-append-le}
 use borrow.Author.Tests.{eq-eqb, ne-eqb}
-use Rattle.workspace.specs.Rows.{rowsOf, limit, value, rowF, rowB, Good, Kept}
+use Rattle.model.specs.Limits.{mostIdentifiers}
+use Rattle.workspace.specs.Layout.{VALUE, QUEUE}
+use Rattle.workspace.specs.Rows.{rowsOf, value, rowF, rowB, Good, Kept}
 use Rattle.aliasing.specs.Pushes.{Room, Pushed, wordsF, wordsB, deg, forwardW, entriesW, blockedW, aliasesW, capturesW, pushedW}
 use Rattle.workspace.proofs.Parts.{slice-take, take-sets, drop-sets, sets-append}
-use Rattle.workspace.proofs.Rows.{rows-length, value-at, fb-beyond, bb-beyond}
-use Rattle.aliasing.proofs.Sizes.{deg-is, forward-le, rowF-length, list-le, aliases-le, pushed-le}
-
--- the value of an identifier whose rows have bounds
-pub value-bounded : (ws : List ℕ) → 16384 ≤ length ws → Good (rowsOf ws) → (x : ℕ) → x < limit (rowsOf ws) → value (rowsOf ws) x ≡ getD ws (3200 + x) 0
-value-bounded ws size good x u = value-at ws size x (omega (arith, u, good .few)) u
+use Rattle.workspace.proofs.Rows.{rows-length}
+use Rattle.aliasing.proofs.Sizes.{deg-is, forward-le, rowF-length, list-le, aliases-le}
 
 pub pushed-then : {ws : List ℕ} {top : ℕ} {a ws₁ : List ℕ} {t₁ : ℕ} {b ws₂ : List ℕ} {t₂ : ℕ} → Pushed ws top a ws₁ t₁ → Pushed ws₁ t₁ b ws₂ t₂ → Pushed ws top (a ++ b) ws₂ t₂
 pushed-then {ws} {top} {a} {ws₁} {t₁} {b} {ws₂} {t₂} p q = record {
@@ -29,15 +27,12 @@ pushed-none ws top = record { words = refl; next = omega arith }
 pub pushed-length : {ws : List ℕ} {top : ℕ} {vs ws′ : List ℕ} {r : ℕ} → Pushed ws top vs ws′ r → length ws′ ≡ length ws
 pushed-length {ws} {top} {vs} p = ap length (p .words) ∙ length-sets ws top vs
 
-pub pushed-below : {ws : List ℕ} {top : ℕ} {vs ws′ : List ℕ} {r : ℕ} → Pushed ws top vs ws′ r → 8528 ≤ top → take 8528 ws′ ≡ take 8528 ws
-pushed-below {ws} {top} {vs} p h = ap (take 8528) (p .words) ∙ take-sets 8528 vs ws top h
+pub pushed-below : {ws : List ℕ} {top : ℕ} {vs ws′ : List ℕ} {r : ℕ} → Pushed ws top vs ws′ r → QUEUE ≤ top → take QUEUE ws′ ≡ take QUEUE ws
+pushed-below {ws} {top} {vs} p h = ap (take QUEUE) (p .words) ∙ take-sets QUEUE vs ws top h
 
-pub pushed-graph : {ws : List ℕ} {top : ℕ} {vs ws′ : List ℕ} {r : ℕ} → Pushed ws top vs ws′ r → 8528 ≤ top → rowsOf ws′ ≡ rowsOf ws
+pub pushed-graph : {ws : List ℕ} {top : ℕ} {vs ws′ : List ℕ} {r : ℕ} → Pushed ws top vs ws′ r → QUEUE ≤ top → rowsOf ws′ ≡ rowsOf ws
 unfolding rowsOf
-pushed-graph {ws} {top} {vs} {ws′} p h = slice-take 8528 3200 8528 ws′ ws (omega arith) (pushed-below p h)
-
-pub pushed-limit : {ws : List ℕ} {top : ℕ} {vs ws′ : List ℕ} {r : ℕ} → Pushed ws top vs ws′ r → 8528 ≤ top → limit (rowsOf ws′) ≡ limit (rowsOf ws)
-pushed-limit p h = ap limit (pushed-graph p h)
+pushed-graph {ws} {top} {vs} {ws′} p h = slice-take QUEUE VALUE QUEUE ws′ ws (omega arith) (pushed-below p h)
 
 -- the part of the words that the push makes longer
 pub pushed-part : (base : ℕ) {ws : List ℕ} {top : ℕ} {vs ws′ : List ℕ} {r : ℕ} → Pushed ws top vs ws′ r → base ≤ top → r ≤ length ws → slice base r ws′ ≡ slice base top ws ++ vs
@@ -67,7 +62,7 @@ room-then f a {ws} {top} {vs} {ws′} {r} room p h =
       room = omega (arith, room .room, p .next, ap f e);
     }
 
-pub pushed-on : (f : List ℕ → List ℕ) {ws : List ℕ} {top : ℕ} {a ws₁ : List ℕ} {t₁ : ℕ} {ws₂ : List ℕ} {t₂ : ℕ} → 8528 ≤ top → Pushed ws top a ws₁ t₁ → Pushed ws₁ t₁ (f (rowsOf ws₁)) ws₂ t₂ → Pushed ws top (a ++ f (rowsOf ws)) ws₂ t₂
+pub pushed-on : (f : List ℕ → List ℕ) {ws : List ℕ} {top : ℕ} {a ws₁ : List ℕ} {t₁ : ℕ} {ws₂ : List ℕ} {t₂ : ℕ} → QUEUE ≤ top → Pushed ws top a ws₁ t₁ → Pushed ws₁ t₁ (f (rowsOf ws₁)) ws₂ t₂ → Pushed ws top (a ++ f (rowsOf ws)) ws₂ t₂
 pushed-on f {ws} {top} {a} {ws₁} {t₁} {ws₂} {t₂} h p q = pushed-then p (subst (λ (g : List ℕ). Pushed ws₁ t₁ (f g) ws₂ t₂) (pushed-graph p h) q)
 
 pub aliases-open : (g : List ℕ) (x direction index transitive kind : ℕ) → blockedW (value g x) direction ≡ false
@@ -91,8 +86,8 @@ pub room-less : (a b : ℕ) {ws : List ℕ} {top : ℕ} → a ≤ b → Room ws 
 room-less a b h room = record { size = room .size; low = room .low; good = room .good; room = omega (arith, room .room) }
 
 -- ---- the four pushes
-module _ (ws : List ℕ) (top x direction index transitive kind : ℕ) (room : Room ws top (deg (rowsOf ws) x)) (h : x < 512) where
-  size : length (rowsOf ws) ≡ 5328
+module _ (ws : List ℕ) (top x direction index transitive kind : ℕ) (room : Room ws top (deg (rowsOf ws) x)) (h : x < mostIdentifiers) where
+  size : length (rowsOf ws) ≡ QUEUE - VALUE
   size = rows-length ws (room .size)
 
   is : deg (rowsOf ws) x ≡ (wordsF (rowsOf ws) x + wordsB (rowsOf ws) (4 * x)) + ((wordsB (rowsOf ws) (4 * x + 1) + wordsB (rowsOf ws) (4 * x + 2)) + wordsB (rowsOf ws) (4 * x + 3))
@@ -105,9 +100,6 @@ module _ (ws : List ℕ) (top x direction index transitive kind : ℕ) (room : R
   room-edges = room-less _ _ (omega (arith, is)) room
 
   module _ (ws₁ : List ℕ) (t₁ : ℕ) (p₁ : Pushed ws top (forwardW index transitive kind (rowF (rowsOf ws) x)) ws₁ t₁) where
-    pub limit-created : limit (rowsOf ws₁) ≡ limit (rowsOf ws)
-    limit-created = pushed-limit p₁ (room .low)
-
     pub room-created : Room ws₁ t₁ (wordsB (rowsOf ws₁) (4 * x))
     room-created = room-then (λ g. wordsB g (4 * x)) (wordsF (rowsOf ws) x) (room-less _ _ (omega (arith, is)) room) p₁ F-le
 
@@ -118,9 +110,6 @@ module _ (ws : List ℕ) (top x direction index transitive kind : ℕ) (room : R
       two-le : length (forwardW index transitive kind (rowF (rowsOf ws) x) ++ entriesW index 1 kind (rowB (rowsOf ws) (4 * x))) ≤ wordsF (rowsOf ws) x + wordsB (rowsOf ws) (4 * x)
       two-le = omega (arith, F-le, list-le (rowsOf ws) size (room .good) index 1 kind (4 * x) (omega arith), length-append (forwardW index transitive kind (rowF (rowsOf ws) x)) (entriesW index 1 kind (rowB (rowsOf ws) (4 * x))))
 
-      pub limit-aliases : limit (rowsOf ws₂) ≡ limit (rowsOf ws)
-      limit-aliases = pushed-limit two (room .low)
-
       pub room-aliases : Room ws₂ t₂ (wordsB (rowsOf ws₂) (4 * x + 1) + wordsB (rowsOf ws₂) (4 * x + 2))
       room-aliases =
           room-then (λ g. wordsB g (4 * x + 1) + wordsB g (4 * x + 2)) (wordsF (rowsOf ws) x + wordsB (rowsOf ws) (4 * x)) (room-less _ _ (omega (arith, is)) room) two two-le
@@ -128,9 +117,6 @@ module _ (ws : List ℕ) (top x direction index transitive kind : ℕ) (room : R
       module _ (ws₃ : List ℕ) (t₃ : ℕ) (p₃ : Pushed ws₂ t₂ (aliasesW (rowsOf ws₂) x direction index transitive kind) ws₃ t₃) where
         three : Pushed ws top ((forwardW index transitive kind (rowF (rowsOf ws) x) ++ entriesW index 1 kind (rowB (rowsOf ws) (4 * x))) ++ aliasesW (rowsOf ws) x direction index transitive kind) ws₃ t₃
         three = pushed-on (λ g. aliasesW g x direction index transitive kind) (room .low) two p₃
-
-        pub limit-captures : limit (rowsOf ws₃) ≡ limit (rowsOf ws)
-        limit-captures = pushed-limit three (room .low)
 
         pub room-captures : Room ws₃ t₃ (wordsB (rowsOf ws₃) (4 * x + 3))
         room-captures =
@@ -145,26 +131,3 @@ module _ (ws : List ℕ) (top x direction index transitive kind : ℕ) (room : R
             (append-assoc (forwardW index transitive kind (rowF (rowsOf ws) x) ++ entriesW index 1 kind (rowB (rowsOf ws) (4 * x))) (aliasesW (rowsOf ws) x direction index transitive kind) (capturesW (rowsOf ws) x index transitive kind)
             ∙ append-assoc (forwardW index transitive kind (rowF (rowsOf ws) x)) (entriesW index 1 kind (rowB (rowsOf ws) (4 * x))) (aliasesW (rowsOf ws) x direction index transitive kind ++ capturesW (rowsOf ws) x index transitive kind))
             (pushed-on (λ g. capturesW g x index transitive kind) (room .low) three p₄)
-
--- ---- rows without bounds push nothing
-none-pushed : (ws : List ℕ) (top : ℕ) (vs : List ℕ) → length vs ≤ 0 → Pushed ws top vs ws top
-none-pushed ws top [] h = pushed-none ws top
-none-pushed ws top (v ∷ vs) h = absurd (omega (arith, h))
-
-module _ (ws : List ℕ) (size : 16384 ≤ length ws) (good : Good (rowsOf ws)) (top : ℕ) where
-  pub list-beyond : (k index transitive kind : ℕ) → k < 2048 → 4 * limit (rowsOf ws) ≤ k → Pushed ws top (entriesW index transitive kind (rowB (rowsOf ws) k)) ws top
-  list-beyond k index transitive kind h far =
-      none-pushed ws top (entriesW index transitive kind (rowB (rowsOf ws) k))
-      (omega (arith, list-le (rowsOf ws) (rows-length ws size) good index transitive kind k h, bb-beyond (rowsOf ws) good k far, bb-beyond (rowsOf ws) good (k + 1) (omega (arith, far))))
-
-  pub all-beyond : (x direction index transitive kind : ℕ) → x < 512 → limit (rowsOf ws) ≤ x → Pushed ws top (pushedW (rowsOf ws) x direction index transitive kind) ws top
-  all-beyond x direction index transitive kind h far =
-      none-pushed ws top (pushedW (rowsOf ws) x direction index transitive kind)
-      (omega (
-        arith,
-        pushed-le (rowsOf ws) (rows-length ws size) good x direction index transitive kind h,
-        fb-beyond (rowsOf ws) good x far,
-        fb-beyond (rowsOf ws) good (x + 1) (omega (arith, far)),
-        bb-beyond (rowsOf ws) good (4 * x) (omega (arith, far)),
-        bb-beyond (rowsOf ws) good (4 * x + 4) (omega (arith, far)),
-      ))

@@ -10,19 +10,20 @@ use lib.ListN.{length, getD, set, length-set}
 use lib.Seq.{set-getD, getD-set-same, getD-set-other}
 use lib.Dec.{ltb, eqb}
 use borrow.Author.Tests.{ltb-true, ltb-false, lt-ltb, le-ltb}
+use Rattle.model.specs.Limits.{mostIdentifiers}
 use Rattle.model.specs.Lists.{pick}
 use Rattle.model.specs.Mutation.{level, reasonOf}
 use Rattle.model.specs.State.{Info, noRecord, moves, firstReason, highest, touch, raised}
+use Rattle.workspace.specs.Layout.{RECORD, LSPAN, TSPAN, END, SEEN}
 use Rattle.workspace.specs.Pending.{kindOf}
 use Rattle.workspace.specs.Graph.{tab}
 use Rattle.workspace.proofs.Tables.{tab-at, tab-set, tab-same}
 use Rattle.aliasing.specs.declared.Mutation.{Mutation as CodeMutation}
 use Rattle.aliasing.specs.Says.{modeOf, modeSays, mutationSays}
-use Rattle.aliasing.specs.State.{infoOf, recordIn, fieldAt, recordAt, recordsOf, endsOf}
+use Rattle.aliasing.specs.State.{infoOf, recordIn, endAt, recordAt, recordsOf, endsOf}
 use Rattle.aliasing.specs.Accepts.{raiseW, recordWord, keptWord, spanW, writeW, recordW, acceptW}
 use Rattle.aliasing.proofs.Packed.{word-record}
 use Rattle.aliasing.proofs.Writes.{raise-other, raise-same, span-other, span-same, span-below, local-record}
-use Rattle.aliasing.proofs.Fields.{field-there, field-same}
 
 -- ---- field by field
 reason-is : (a v : ℕ) → reasonOf (max a v) ≡ firstReason (reasonOf a) (reasonOf v)
@@ -63,18 +64,18 @@ info-is a sp k s h = ap (λ (n : ℕ). infoOf n (pick (ltb a (k + 1)) s sp)) (ma
 
 -- ---- all records
 -- the write of an end is above them
-records-end : (l : List ℕ) (x v : ℕ) → recordsOf (raiseW l (2112 + x) v) ≡ recordsOf l
+records-end : (l : List ℕ) (x v : ℕ) → recordsOf (raiseW l (END + x) v) ≡ recordsOf l
 unfolding recordsOf recordAt
 records-end l x v =
-    tab-same 512 (recordAt (raiseW l (2112 + x) v)) (recordAt l)
-    (λ y h. λ j. recordIn (field-same l (raiseW l (2112 + x) v) 0 y (same 2048 (omega arith)) (same (0 + y) (omega arith)) j) (same (1536 + y) (omega arith) j) (same (512 + y) (omega arith) j))
+    tab-same mostIdentifiers (recordAt (raiseW l (END + x) v)) (recordAt l)
+    (λ y h. λ j. recordIn (same (RECORD + y) (omega arith) j) (same (TSPAN + y) (omega arith) j) (same (LSPAN + y) (omega arith) j))
   where
-    same : (i : ℕ) → i < 2112 → getD (raiseW l (2112 + x) v) i 0 ≡ getD l i 0
-    same i h = raise-other l (2112 + x) v i (λ p. omega (arith, p))
+    same : (i : ℕ) → i < END → getD (raiseW l (END + x) v) i 0 ≡ getD l i 0
+    same i h = raise-other l (END + x) v i (λ p. omega (arith, p))
 
-module _ (ns : List ℕ) (size : length ns ≡ 2624) (x k : ℕ) (hx : x < 512) (there : x < getD ns 2048 0) (hk : k < 2) (m : CodeMutation) (hr : m .reason < 2) where
+module _ (ns : List ℕ) (size : length ns ≡ SEEN) (x k : ℕ) (hx : x < mostIdentifiers) (hk : k < 2) (m : CodeMutation) (hr : m .reason < 2) where
   abbrev w : ℕ
-  w = getD ns (0 + x) 0
+  w = getD ns (RECORD + x) 0
 
   abbrev info : Info
   info = record { kind = kindOf k; span = m .span }
@@ -84,47 +85,39 @@ module _ (ns : List ℕ) (size : length ns ≡ 2624) (x k : ℕ) (hx : x < 512) 
   word b = recordWord (pick b (w % 4) (max (w % 4) (k + 1))) (pick b (max (w / 4 % 4) (k + 1)) (w / 4 % 4)) (max (w / 16 % 2) (m .reason)) (max (w / 32) (m .index))
 
   abbrev spanAt : Bool → ℕ
-  spanAt b = pick b (1536 + x) (512 + x)
+  spanAt b = pick b (TSPAN + x) (LSPAN + x)
 
   abbrev kindAt : Bool → ℕ
   kindAt b = pick b (w / 4 % 4) (w % 4)
 
   abbrev worded : Bool → List ℕ
-  worded b = set ns (0 + x) (word b)
+  worded b = set ns (RECORD + x) (word b)
 
   abbrev after : Bool → List ℕ
   after b = spanW (worded b) (spanAt b) (kindAt b) (k + 1) (m .span)
 
   after-other : (b : Bool) (j : ℕ) → (j ≡ 0 + x → ⊥) → (j ≡ spanAt b → ⊥) → getD (after b) j 0 ≡ getD ns j 0
-  after-other b j p q = span-other (worded b) (spanAt b) (kindAt b) (k + 1) (m .span) j q ∙ getD-set-other ns (0 + x) j (word b) 0 p
+  after-other b j p q = span-other (worded b) (spanAt b) (kindAt b) (k + 1) (m .span) j q ∙ getD-set-other ns (RECORD + x) j (word b) 0 p
 
-  after-word : (b : Bool) → (0 + x ≡ spanAt b → ⊥) → getD (after b) (0 + x) 0 ≡ word b
+  after-word : (b : Bool) → (RECORD + x ≡ spanAt b → ⊥) → getD (after b) (RECORD + x) 0 ≡ word b
   after-word b p =
-      span-other (worded b) (spanAt b) (kindAt b) (k + 1) (m .span) (0 + x) p
-      ∙ getD-set-same ns (0 + x) (word b) 0 (omega (arith, size, hx))
+      span-other (worded b) (spanAt b) (kindAt b) (k + 1) (m .span) (RECORD + x) p
+      ∙ getD-set-same ns (RECORD + x) (word b) 0 (omega (arith, size, hx))
 
   after-span : (b : Bool) → (spanAt b ≡ 0 + x → ⊥) → getD (after b) (spanAt b) 0 ≡ pick (ltb (kindAt b) (k + 1)) (m .span) (getD ns (spanAt b) 0)
   after-span b p =
-      span-same (worded b) (spanAt b) (kindAt b) (k + 1) (m .span) (omega (arith, length-set ns (0 + x) (word b), size, span-below b x hx))
-      ∙ ap (pick (ltb (kindAt b) (k + 1)) (m .span)) (getD-set-other ns (0 + x) (spanAt b) (word b) 0 p)
-
-  -- how many are kept stays
-  after-kept : (b : Bool) → getD (after b) 2048 0 ≡ getD ns 2048 0
-  after-kept true = after-other true 2048 (λ p. omega (arith, p)) (λ p. omega (arith, p))
-  after-kept false = after-other false 2048 (λ p. omega (arith, p)) (λ p. omega (arith, p))
-
-  after-field : (b : Bool) → (0 + x ≡ spanAt b → ⊥) → fieldAt (after b) 0 x ≡ word b
-  after-field b p = field-there (after b) 0 x (omega (arith, after-kept b, there)) ∙ after-word b p
+      span-same (worded b) (spanAt b) (kindAt b) (k + 1) (m .span) (omega (arith, length-set ns (RECORD + x) (word b), size, span-below b x hx))
+      ∙ ap (pick (ltb (kindAt b) (k + 1)) (m .span)) (getD-set-other ns (RECORD + x) (spanAt b) (word b) 0 p)
 
   -- the record of x
   written : (b : Bool) → recordAt (after b) x ≡ touch b (mutationSays m) info (recordAt ns x)
   unfolding recordAt mutationSays
   written true =
-      let l : ℕ = getD ns (512 + x) 0 in
-      let t : ℕ = getD ns (1536 + x) 0 in
+      let l : ℕ = getD ns (LSPAN + x) 0 in
+      let t : ℕ = getD ns (TSPAN + x) 0 in
       let t′ : ℕ = pick (ltb (w / 4 % 4) (k + 1)) (m .span) t in
-      (λ j. recordIn (after-field true (λ p. omega (arith, p)) j) (after-span true (λ p. omega (arith, p)) j)
-      (after-other true (512 + x) (λ p. omega (arith, p)) (λ p. omega (arith, p)) j))
+      (λ j. recordIn (after-word true (λ p. omega (arith, p)) j) (after-span true (λ p. omega (arith, p)) j)
+      (after-other true (LSPAN + x) (λ p. omega (arith, p)) (λ p. omega (arith, p)) j))
       ∙ word-record (w % 4) (max (w / 4 % 4) (k + 1)) (max (w / 16 % 2) (m .reason)) (max (w / 32) (m .index)) (omega arith) (omega (arith, hk)) (omega (arith, hr)) t′ l
       ∙ (λ j. record {
         reason = reason-is (w / 16 % 2) (m .reason) j;
@@ -132,13 +125,12 @@ module _ (ns : List ℕ) (size : length ns ≡ 2624) (x k : ℕ) (hx : x < 512) 
         transitive = info-is (w / 4 % 4) t k (m .span) hk j;
         local = infoOf (w % 4) l;
       })
-      ∙ (λ j. touch true (mutationSays m) info (recordIn (sym (field-there ns 0 x there) j) t l))
   written false =
-      let l : ℕ = getD ns (512 + x) 0 in
-      let t : ℕ = getD ns (1536 + x) 0 in
+      let l : ℕ = getD ns (LSPAN + x) 0 in
+      let t : ℕ = getD ns (TSPAN + x) 0 in
       let l′ : ℕ = pick (ltb (w % 4) (k + 1)) (m .span) l in
-      (λ j. recordIn (after-field false (λ p. omega (arith, p)) j)
-      (after-other false (1536 + x) (λ p. omega (arith, p)) (λ p. omega (arith, p)) j) (after-span false (λ p. omega (arith, p)) j))
+      (λ j. recordIn (after-word false (λ p. omega (arith, p)) j)
+      (after-other false (TSPAN + x) (λ p. omega (arith, p)) (λ p. omega (arith, p)) j) (after-span false (λ p. omega (arith, p)) j))
       ∙ word-record (max (w % 4) (k + 1)) (w / 4 % 4) (max (w / 16 % 2) (m .reason)) (max (w / 32) (m .index)) (omega (arith, hk)) (omega arith) (omega (arith, hr)) t l′
       ∙ (λ j. record {
         reason = reason-is (w / 16 % 2) (m .reason) j;
@@ -146,22 +138,21 @@ module _ (ns : List ℕ) (size : length ns ≡ 2624) (x k : ℕ) (hx : x < 512) 
         transitive = infoOf (w / 4 % 4) t;
         local = info-is (w % 4) l k (m .span) hk j;
       })
-      ∙ (λ j. touch false (mutationSays m) info (recordIn (sym (field-there ns 0 x there) j) t l))
 
   -- another identifier's
-  written-other : (b : Bool) (y : ℕ) → y < 512 → (y ≡ x → ⊥) → recordAt (after b) y ≡ recordAt ns y
+  written-other : (b : Bool) (y : ℕ) → y < mostIdentifiers → (y ≡ x → ⊥) → recordAt (after b) y ≡ recordAt ns y
   unfolding recordAt
-  written-other b y hy ne = λ j. recordIn (field-same ns (after b) 0 y (after-kept b) (kept b 0 (omega arith) (omega arith)) j) (kept b 1536 (omega arith) (omega arith) j) (kept b 512 (omega arith) (omega arith) j)
+  written-other b y hy ne = λ j. recordIn (kept b RECORD (omega arith) (omega arith) j) (kept b TSPAN (omega arith) (omega arith) j) (kept b LSPAN (omega arith) (omega arith) j)
     where
-      kept : (b : Bool) (f : ℕ) → f < 2112 → f % 512 ≡ 0 → getD (after b) (f + y) 0 ≡ getD ns (f + y) 0
+      kept : (b : Bool) (f : ℕ) → f < END → f % mostIdentifiers ≡ 0 → getD (after b) (f + y) 0 ≡ getD ns (f + y) 0
       kept true f hf e = after-other true (f + y) (λ p. ne (omega (arith, p))) (λ p. ne (omega (arith, p)))
       kept false f hf e = after-other false (f + y) (λ p. ne (omega (arith, p))) (λ p. ne (omega (arith, p)))
 
   record-records : (t : ℕ) → recordsOf (recordW ns x t (k + 1) m) ≡ set (recordsOf ns) x (touch (eqb t 1) (mutationSays m) info (getD (recordsOf ns) x noRecord))
   unfolding recordsOf recordW writeW keptWord
   record-records t =
-      tab-set 512 x (recordAt ns) (recordAt (after (eqb t 1))) (touch (eqb t 1) (mutationSays m) info (getD (tab 512 (recordAt ns)) x noRecord))
-      (written (eqb t 1) ∙ ap (touch (eqb t 1) (mutationSays m) info) (sym (tab-at 512 (recordAt ns) x noRecord hx)))
+      tab-set mostIdentifiers x (recordAt ns) (recordAt (after (eqb t 1))) (touch (eqb t 1) (mutationSays m) info (getD (tab mostIdentifiers (recordAt ns)) x noRecord))
+      (written (eqb t 1) ∙ ap (touch (eqb t 1) (mutationSays m) info) (sym (tab-at mostIdentifiers (recordAt ns) x noRecord hx)))
       (written-other (eqb t 1))
 
   pub accept-records : (t : ℕ) → recordsOf (acceptW ns x t (k + 1) m) ≡ set (recordsOf ns) x (touch (eqb t 1) (mutationSays m) info (getD (recordsOf ns) x noRecord))
@@ -184,57 +175,48 @@ raised-is ends x (suc o) errors = go (ltb (getD ends x 0) (suc o)) refl
         sym (set-getD ends x 0) ∙ ap (set ends x) p
 
 -- a write below the ends
-record-below : (ns : List ℕ) (x t k : ℕ) (m : CodeMutation) → x < 512 → (i : ℕ) → 2048 ≤ i → getD (recordW ns x t k m) i 0 ≡ getD ns i 0
+record-below : (ns : List ℕ) (x t k : ℕ) (m : CodeMutation) → x < mostIdentifiers → (i : ℕ) → END ≤ i → getD (recordW ns x t k m) i 0 ≡ getD ns i 0
 unfolding recordW writeW
 record-below ns x t k m hx i h =
-    let w : ℕ = getD ns (0 + x) 0 in
+    let w : ℕ = getD ns (RECORD + x) 0 in
     let v : ℕ = keptWord w t k (m .reason) (m .index) in
-    span-other (set ns (0 + x) v) (pick (eqb t 1) (1536 + x) (512 + x)) (pick (eqb t 1) (w / 4 % 4) (w % 4)) k (m .span) i (λ p. omega (arith, p, span-below (eqb t 1) x hx, h))
-    ∙ getD-set-other ns (0 + x) i v 0 (λ p. omega (arith, p))
+    span-other (set ns (RECORD + x) v) (pick (eqb t 1) (TSPAN + x) (LSPAN + x)) (pick (eqb t 1) (w / 4 % 4) (w % 4)) k (m .span) i (λ p. omega (arith, p, span-below (eqb t 1) x hx, h))
+    ∙ getD-set-other ns (RECORD + x) i v 0 (λ p. omega (arith, p))
 
-module _ (ns : List ℕ) (size : length ns ≡ 2624) (x t k : ℕ) (m : CodeMutation) (hx : x < 512) (there : x < getD ns 2048 0) where
+module _ (ns : List ℕ) (size : length ns ≡ SEEN) (x t k : ℕ) (m : CodeMutation) (hx : x < mostIdentifiers) where
   abbrev written-words : List ℕ
   written-words = recordW ns x t k m
 
-  accept-other : (i : ℕ) → 2048 ≤ i → (i ≡ 2112 + x → ⊥) → getD (acceptW ns x t k m) i 0 ≡ getD ns i 0
+  accept-other : (i : ℕ) → END ≤ i → (i ≡ END + x → ⊥) → getD (acceptW ns x t k m) i 0 ≡ getD ns i 0
   unfolding acceptW
-  accept-other i h ne = raise-other written-words (2112 + x) (m .end .0) i ne ∙ record-below ns x t k m hx i h
+  accept-other i h ne = raise-other written-words (END + x) (m .end .0) i ne ∙ record-below ns x t k m hx i h
 
-  pub accept-kept-count : getD (acceptW ns x t k m) 2048 0 ≡ getD ns 2048 0
-  accept-kept-count = accept-other 2048 (omega arith) (λ p. omega (arith, p))
-
-  accept-same : getD (acceptW ns x t k m) (2112 + x) 0 ≡ pick (ltb (getD ns (2112 + x) 0) (m .end .0)) (m .end .0) (getD ns (2112 + x) 0)
+  accept-same : getD (acceptW ns x t k m) (END + x) 0 ≡ pick (ltb (getD ns (END + x) 0) (m .end .0)) (m .end .0) (getD ns (END + x) 0)
   unfolding acceptW
   accept-same =
-      raise-same written-words (2112 + x) (m .end .0) (omega (arith, local-record x t k m hx .len ns, size))
-      ∙ ap (λ (w : ℕ). pick (ltb w (m .end .0)) (m .end .0) w) (record-below ns x t k m hx (2112 + x) (omega arith))
+      raise-same written-words (END + x) (m .end .0) (omega (arith, local-record x t k m hx .len ns, size))
+      ∙ ap (λ (w : ℕ). pick (ltb w (m .end .0)) (m .end .0) w) (record-below ns x t k m hx (END + x) (omega arith))
 
-  end-there : fieldAt ns 2112 x ≡ getD ns (2112 + x) 0
-  end-there = field-there ns 2112 x there
+  end-other : (y : ℕ) → y < mostIdentifiers → (y ≡ x → ⊥) → endAt (acceptW ns x t k m) y ≡ endAt ns y
+  end-other y hy ne = accept-other (END + y) (omega arith) (λ p. ne (omega (arith, p)))
 
-  end-after : fieldAt (acceptW ns x t k m) 2112 x ≡ pick (ltb (getD ns (2112 + x) 0) (m .end .0)) (m .end .0) (getD ns (2112 + x) 0)
-  end-after = field-there (acceptW ns x t k m) 2112 x (omega (arith, accept-kept-count, there)) ∙ accept-same
-
-  end-other : (y : ℕ) → y < 512 → (y ≡ x → ⊥) → fieldAt (acceptW ns x t k m) 2112 y ≡ fieldAt ns 2112 y
-  end-other y hy ne = field-same ns (acceptW ns x t k m) 2112 y accept-kept-count (accept-other (2112 + y) (omega arith) (λ p. ne (omega (arith, p))))
-
-  ends-raise : tab 512 (fieldAt (acceptW ns x t k m) 2112) ≡ raiseW (tab 512 (fieldAt ns 2112)) x (m .end .0)
+  ends-raise : tab mostIdentifiers (endAt (acceptW ns x t k m)) ≡ raiseW (tab mostIdentifiers (endAt ns)) x (m .end .0)
   unfolding raiseW
   ends-raise =
-      go (ltb (getD ns (2112 + x) 0) (m .end .0)) end-after
-      ∙ ap (λ (w : ℕ). pick (ltb w (m .end .0)) (set (tab 512 (fieldAt ns 2112)) x (m .end .0)) (tab 512 (fieldAt ns 2112))) (sym (tab-at 512 (fieldAt ns 2112) x 0 hx ∙ end-there))
+      go (ltb (getD ns (END + x) 0) (m .end .0)) accept-same
+      ∙ ap (λ (w : ℕ). pick (ltb w (m .end .0)) (set (tab mostIdentifiers (endAt ns)) x (m .end .0)) (tab mostIdentifiers (endAt ns))) (sym (tab-at mostIdentifiers (endAt ns) x 0 hx))
     where
-      go : (b : Bool) → fieldAt (acceptW ns x t k m) 2112 x ≡ pick b (m .end .0) (getD ns (2112 + x) 0)
-          → tab 512 (fieldAt (acceptW ns x t k m) 2112) ≡ pick b (set (tab 512 (fieldAt ns 2112)) x (m .end .0)) (tab 512 (fieldAt ns 2112))
-      go true e = tab-set 512 x (fieldAt ns 2112) (fieldAt (acceptW ns x t k m) 2112) (m .end .0) e end-other
+      go : (b : Bool) → endAt (acceptW ns x t k m) x ≡ pick b (m .end .0) (getD ns (END + x) 0)
+          → tab mostIdentifiers (endAt (acceptW ns x t k m)) ≡ pick b (set (tab mostIdentifiers (endAt ns)) x (m .end .0)) (tab mostIdentifiers (endAt ns))
+      go true e = tab-set mostIdentifiers x (endAt ns) (endAt (acceptW ns x t k m)) (m .end .0) e end-other
       go false e =
-          tab-same 512 (fieldAt (acceptW ns x t k m) 2112) (fieldAt ns 2112)
+          tab-same mostIdentifiers (endAt (acceptW ns x t k m)) (endAt ns)
           (λ y h. either y h (ℕ-discrete y x) e)
         where
-          either : (y : ℕ) → y < 512 → Dec (y ≡ x) → fieldAt (acceptW ns x t k m) 2112 x ≡ getD ns (2112 + x) 0 → fieldAt (acceptW ns x t k m) 2112 y ≡ fieldAt ns 2112 y
+          either : (y : ℕ) → y < mostIdentifiers → Dec (y ≡ x) → endAt (acceptW ns x t k m) x ≡ getD ns (END + x) 0 → endAt (acceptW ns x t k m) y ≡ endAt ns y
           either y h (no n) q = end-other y h n
-          either y h (yes z) q = ap (fieldAt (acceptW ns x t k m) 2112) z ∙ q ∙ sym end-there ∙ ap (fieldAt ns 2112) (sym z)
+          either y h (yes z) q = ap (endAt (acceptW ns x t k m)) z ∙ q ∙ ap (endAt ns) (sym z)
 
   pub accept-ends : endsOf (acceptW ns x t k m) ≡ raised (moves (modeSays m)) x (mutationSays m .order) (endsOf ns)
   unfolding endsOf modeSays mutationSays
-  accept-ends = ends-raise ∙ raised-is (tab 512 (fieldAt ns 2112)) x (m .end .0) (m .«should_record_errors»)
+  accept-ends = ends-raise ∙ raised-is (tab mostIdentifiers (endAt ns)) x (m .end .0) (m .«should_record_errors»)

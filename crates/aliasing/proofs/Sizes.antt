@@ -7,8 +7,10 @@ use mathlib.Core.Path.{_≡_, ap, _∙_}
 use lib.ListN.{length, length-append}
 use lib.Seq.{length-slice}
 use lib.Dec.{ltb, eqb}
+use Rattle.model.specs.Limits.{mostIdentifiers}
 use Rattle.model.specs.Lists.{pick}
-use Rattle.workspace.specs.Rows.{value, fb, bb, rowF, rowB, Good}
+use Rattle.workspace.specs.Layout.{VALUE, QUEUE}
+use Rattle.workspace.specs.Rows.{fedges, bentries, mostLists, value, fb, bb, rowF, rowB, Good}
 use Rattle.aliasing.specs.Pushes.{forwardW, entriesW, forwardE, entryW, wordsF, wordsB, deg, aliasesW, capturesW, pushedW, blockedW}
 
 pub forward-le : (index transitive kind : ℕ) (row : List ℕ) → length (forwardW index transitive kind row) ≤ length row
@@ -34,7 +36,7 @@ pick-le true xs ys n h k = h
 pick-le false xs ys n h k = k
 
 -- what x can push, rule by rule
-pub deg-is : (g : List ℕ) (x : ℕ) → Good g → x < 512 → deg g x ≡ (wordsF g x + wordsB g (4 * x)) + ((wordsB g (4 * x + 1) + wordsB g (4 * x + 2)) + wordsB g (4 * x + 3))
+pub deg-is : (g : List ℕ) (x : ℕ) → Good g → x < mostIdentifiers → deg g x ≡ (wordsF g x + wordsB g (4 * x)) + ((wordsB g (4 * x + 1) + wordsB g (4 * x + 2)) + wordsB g (4 * x + 3))
 deg-is g x good h =
     let up₀ = good .b-up (4 * x) (omega arith) in
     let up₁ = good .b-up (4 * x + 1) (omega arith) in
@@ -45,19 +47,19 @@ deg-is g x good h =
     let e₃ : bb g (4 * x + 3 + 1) ≡ bb g (4 * x + 4) = ap (bb g) (omega arith) in
     omega arith
 
-module _ (g : List ℕ) (size : length g ≡ 5328) (good : Good g) where
-  pub rowF-length : (x : ℕ) → x < 512 → length (rowF g x) ≡ fb g (x + 1) - fb g x
+module _ (g : List ℕ) (size : length g ≡ QUEUE - VALUE) (good : Good g) where
+  pub rowF-length : (x : ℕ) → x < mostIdentifiers → length (rowF g x) ≡ fb g (x + 1) - fb g x
   unfolding rowF
-  rowF-length x h = length-slice (1025 + fb g x) (1025 + fb g (x + 1)) g (omega (arith, good .f-top (x + 1) (omega arith))) ∙ omega arith
+  rowF-length x h = length-slice (fedges + fb g x) (fedges + fb g (x + 1)) g (omega (arith, good .f-top (x + 1) (omega arith))) ∙ omega arith
 
-  pub rowB-length : (k : ℕ) → k < 2048 → length (rowB g k) ≡ bb g (k + 1) - bb g k
+  pub rowB-length : (k : ℕ) → k < mostLists → length (rowB g k) ≡ bb g (k + 1) - bb g k
   unfolding rowB
-  rowB-length k h = length-slice (4098 + bb g k) (4098 + bb g (k + 1)) g (omega (arith, good .b-top (k + 1) (omega arith))) ∙ omega arith
+  rowB-length k h = length-slice (bentries + bb g k) (bentries + bb g (k + 1)) g (omega (arith, good .b-top (k + 1) (omega arith))) ∙ omega arith
 
-  pub list-le : (index transitive kind k : ℕ) → k < 2048 → length (entriesW index transitive kind (rowB g k)) ≤ bb g (k + 1) - bb g k
+  pub list-le : (index transitive kind k : ℕ) → k < mostLists → length (entriesW index transitive kind (rowB g k)) ≤ bb g (k + 1) - bb g k
   list-le index transitive kind k h = omega (arith, entries-le index transitive kind (rowB g k), rowB-length k h)
 
-  pub aliases-le : (x direction index transitive kind : ℕ) → x < 512 → length (aliasesW g x direction index transitive kind) ≤ (bb g (4 * x + 1 + 1) - bb g (4 * x + 1)) + (bb g (4 * x + 2 + 1) - bb g (4 * x + 2))
+  pub aliases-le : (x direction index transitive kind : ℕ) → x < mostIdentifiers → length (aliasesW g x direction index transitive kind) ≤ (bb g (4 * x + 1 + 1) - bb g (4 * x + 1)) + (bb g (4 * x + 2 + 1) - bb g (4 * x + 2))
   unfolding aliasesW
   aliases-le x direction index transitive kind h =
       pick-le (blockedW (value g x) direction) [] _ _ (omega arith)
@@ -68,11 +70,11 @@ module _ (g : List ℕ) (size : length g ≡ 5328) (good : Good g) where
         list-le index transitive 0 (4 * x + 2) (omega arith),
       ))
 
-  pub captures-le : (x index transitive kind : ℕ) → x < 512 → length (capturesW g x index transitive kind) ≤ bb g (4 * x + 3 + 1) - bb g (4 * x + 3)
+  pub captures-le : (x index transitive kind : ℕ) → x < mostIdentifiers → length (capturesW g x index transitive kind) ≤ bb g (4 * x + 3 + 1) - bb g (4 * x + 3)
   unfolding capturesW
   captures-le x index transitive kind h = pick-le (eqb transitive 1) _ [] _ (list-le index transitive kind (4 * x + 3) (omega arith)) (omega arith)
 
-  pub pushed-le : (x direction index transitive kind : ℕ) → x < 512 → length (pushedW g x direction index transitive kind) ≤ deg g x
+  pub pushed-le : (x direction index transitive kind : ℕ) → x < mostIdentifiers → length (pushedW g x direction index transitive kind) ≤ deg g x
   unfolding pushedW
   pushed-le x direction index transitive kind h =
       let F : List ℕ = forwardW index transitive kind (rowF g x) in

@@ -5,17 +5,18 @@ use native.Mathlib.Nat.{add-comm}
 use mathlib.Core.Bool.{Bool, true, false}
 use mathlib.Core.List.{List, [], _∷_}
 use mathlib.Core.Path.{_≡_, refl, sym, ap, subst, _∙_}
-use lib.ListN.{length, set, take}
+use lib.ListN.{length, set}
 use lib.Seq.{slice, slice-empty}
 use lib.Dec.{eqb}
-use Rattle.model.specs.Lists.{Every}
+use Rattle.model.specs.Limits.{mostIdentifiers}
 use Rattle.model.specs.Size.{enough}
 use Rattle.model.specs.Mutation.{Mutation}
 use Rattle.model.specs.State.{State, Mode}
 use Rattle.model.specs.Walks.{Item, Walk, run, startItem, start, walkOf, mutate}
 use Rattle.model.proofs.Fuel.{run-add, run-rest}
 use Rattle.model.proofs.Potential.{walk-ends, walk-enough}
-use Rattle.workspace.specs.Rows.{rowsOf, limit, Indexed}
+use Rattle.workspace.specs.Layout.{QUEUE, HANDED}
+use Rattle.workspace.specs.Rows.{rowsOf, Indexed}
 use Rattle.workspace.specs.Pending.{kindOf}
 use Rattle.aliasing.specs.Pushes.{entryW}
 use Rattle.aliasing.specs.Items.{itemOf, queueOf}
@@ -26,7 +27,7 @@ use Rattle.aliasing.specs.declared.Mutation.{Mutation as CodeMutation}
 use Rattle.aliasing.specs.Says.{bit, kindBit, kindSays, modeSays, mutationSays}
 use Rattle.aliasing.specs.State.{seenOf, levels, NoneAbove, stateOf, Handing}
 use Rattle.aliasing.specs.Potential.{phi}
-use Rattle.aliasing.specs.Walks.{Shows, Ready, TransitiveConditional, AllConditional, Callable, Walked, BaseTaken, Mutated}
+use Rattle.aliasing.specs.Walks.{Shows, Ready, Callable, Walked, BaseTaken, Mutated}
 use Rattle.aliasing.proofs.Parts.{seen-below, base-below}
 use Rattle.aliasing.proofs.Hands.{handing-as, handing-behind}
 use Rattle.aliasing.proofs.Walks.{aside-then}
@@ -61,23 +62,22 @@ kind-is Conditional = refl
 kind-is Definite = refl
 
 -- of the two bits that the code makes
-start-item : (m : CodeMutation) (e t k : ℕ) → m .start .0 < 512 → t ≡ bit (m .transitive) → k ≡ kindBit (m .kind) → e ≡ entryW (m .start .0) t 0 k → itemOf e ≡ startItem (mutationSays m)
+start-item : (m : CodeMutation) (e t k : ℕ) → m .start .0 < mostIdentifiers → t ≡ bit (m .transitive) → k ≡ kindBit (m .kind) → e ≡ entryW (m .start .0) t 0 k → itemOf e ≡ startItem (mutationSays m)
 unfolding mutationSays
 start-item m e t k h p q is =
     ap itemOf (is ∙ rw (p, q)) ∙ item-entry (m .start .0) (bit (m .transitive)) 0 (kindBit (m .kind)) h (bit-below (m .transitive)) (omega arith) (kind-below (m .kind))
     ∙ rw (bit-is (m .transitive), kind-is (m .kind))
 
 -- ---- the walk can begin, and is the definition's
-pub record Started (m : CodeMutation) (ws : List ℕ) (hand base k : ℕ) (first-words : List ℕ) : Type 0 where
-  pub ready : Ready base first-words 8529 hand
-  pub conditional : m .transitive ≡ true → k ≡ 0 → AllConditional first-words 8529
-  pub mutated : (ws′ : List ℕ) (count hand′ : ℕ) → Walked m base first-words 8529 hand ws′ count hand′ → Mutated m ws hand ws′ count hand′
+pub record Started (m : CodeMutation) (ws : List ℕ) (hand base : ℕ) (first-words : List ℕ) : Type 0 where
+  pub ready : Ready base first-words (QUEUE + 1) hand
+  pub mutated : (ws′ : List ℕ) (count hand′ : ℕ) → Walked m base first-words (QUEUE + 1) hand ws′ count hand′ → Mutated m ws hand ws′ count hand′
   pub same : length first-words ≡ length ws
 
 module _ (ws : List ℕ) (hand : ℕ) (m : CodeMutation) (indexed : Indexed ws) (handing : Handing ws hand) (callable : Callable m)
     (l : List ℕ) (base : ℕ) (new : BaseTaken ws l base) (e t k : ℕ) (t-is : t ≡ bit (m .transitive)) (k-is : k ≡ kindBit (m .kind)) (e-is : e ≡ entryW (m .start .0) t 0 k) where
   abbrev first-words : List ℕ
-  first-words = set l 8528 e
+  first-words = set l QUEUE e
 
   u : Remarked ws l
   u = remarked ws l indexed (new .kept)
@@ -86,19 +86,19 @@ module _ (ws : List ℕ) (hand : ℕ) (m : CodeMutation) (indexed : Indexed ws) 
   b = entered l (u .indexed) e
 
   start-marked : NoneAbove base first-words
-  start-marked = above-as (seen-below (b .kept) (omega arith)) (b .aside .graph) (omega arith) (new .marks)
+  start-marked = above-as (seen-below (b .kept) (omega arith)) (omega arith) (new .marks)
 
-  first-fits : 8529 + phi (levels base (seenOf first-words)) (rowsOf first-words) 512 ≤ 13315
+  first-fits : QUEUE + 1 + phi (levels base (seenOf first-words)) (rowsOf first-words) mostIdentifiers ≤ HANDED
   first-fits = omega (arith, phi-bound (levels base (seenOf first-words)) (rowsOf first-words) (b .good))
 
-  queue-is : queueOf (slice 8528 8529 first-words) ≡ startItem (mutationSays m) ∷ []
+  queue-is : queueOf (slice QUEUE (QUEUE + 1) first-words) ≡ startItem (mutationSays m) ∷ []
   unfolding queueOf
   queue-is = ap queueOf (b .entry) ∙ ap (λ (i : Item). i ∷ []) (start-item m e t k (callable .start) t-is k-is e-is)
 
-  shows-start : Shows base first-words 8529 hand (start (mutationSays m) (stateOf ws hand))
-  shows-start = record { queue = queue-is; seen = levels-none base first-words (b .good) start-marked ∙ ap (take (limit (rowsOf first-words))) (levels-long ws hand); state = b .state hand (handing .low) ∙ u .state hand (handing .low) }
+  shows-start : Shows base first-words (QUEUE + 1) hand (start (mutationSays m) (stateOf ws hand))
+  shows-start = record { queue = queue-is; seen = levels-none base first-words start-marked ∙ levels-long ws hand; state = b .state hand (handing .low) ∙ u .state hand (handing .low) }
 
-  start-ready : Ready base first-words 8529 hand
+  start-ready : Ready base first-words (QUEUE + 1) hand
   start-ready = record {
     size = b .size;
     low = omega arith;
@@ -106,21 +106,16 @@ module _ (ws : List ℕ) (hand : ℕ) (m : CodeMutation) (indexed : Indexed ws) 
     fits = first-fits;
     few = new .few;
     next = base-below (b .kept) (omega arith) ∙ new .next;
-    handing = handing-behind hand (b .kept) (omega arith) (handing-as ws l hand (u .aside .graph) (u .nodes) (above-as refl refl (omega (arith, new .next)) (new .marks)) handing);
+    handing = handing-behind hand (b .kept) (omega arith) (handing-as ws l hand (u .nodes) (above-as refl (omega (arith, new .next)) (new .marks)) handing);
   }
 
-  -- the queue of a mutation that is transitive and Conditional
-  start-conditional : m .transitive ≡ true → k ≡ 0 → AllConditional first-words 8529
-  unfolding mutationSays
-  start-conditional is zero = record { each = subst (Every TransitiveConditional) (sym queue-is) ((is, sym (kind-is (m .kind)) ∙ ap kindOf (sym k-is ∙ zero)), tt) }
-
-  walked-is : (ws′ : List ℕ) (count hand′ : ℕ) → Walked m base first-words 8529 hand ws′ count hand′ → Mutated m ws hand ws′ count hand′
+  walked-is : (ws′ : List ℕ) (count hand′ : ℕ) → Walked m base first-words (QUEUE + 1) hand ws′ count hand′ → Mutated m ws hand ws′ count hand′
   unfolding queueOf enough walkOf
   walked-is ws′ count hand′ w =
       let first : Walk = start (mutationSays m) (stateOf ws hand) in
       let done = w .follows first shows-start in
       let same : run (modeSays m) (mutationSays m) count first ≡ mutate (modeSays m) (mutationSays m) (stateOf ws hand) =
-      at-rest (modeSays m) (mutationSays m) (stateOf ws hand) count (sym (done .queue) ∙ ap queueOf (slice-empty 8528 ws′)) in
+      at-rest (modeSays m) (mutationSays m) (stateOf ws hand) count (sym (done .queue) ∙ ap queueOf (slice-empty QUEUE ws′)) in
       let counted : run (modeSays m) (mutationSays m) count first .taken ≡ 0 + count = w .counts first shows-start in
       record {
         state = done .state ∙ ap (λ (v : Walk). v .state) same;
@@ -131,5 +126,5 @@ module _ (ws : List ℕ) (hand : ℕ) (m : CodeMutation) (indexed : Indexed ws) 
         aside = aside-then (u .aside) (aside-then (b .aside) (w .aside));
       }
 
-  pub started : Started m ws hand base k first-words
-  started = record { ready = start-ready; conditional = start-conditional; mutated = walked-is; same = b .aside .same ∙ u .aside .same }
+  pub started : Started m ws hand base first-words
+  started = record { ready = start-ready; mutated = walked-is; same = b .aside .same ∙ u .aside .same }

@@ -7,17 +7,19 @@ use mathlib.Core.List.{List, [], _∷_, _++_, reverseAux}
 use mathlib.Core.Option.{none, some}
 use mathlib.Core.Path.{_≡_, refl, sym, ap, subst, _∙_}
 use lib.ListN.{length, getD, set, take, drop}
-use lib.Seq.{slice, length-take-le, take-suc, drop-append-le, getD-set-other, getD-take, take-set-le, take-set-lt}
+use lib.Seq.{slice, length-take-le, take-suc, drop-append-le, getD-set-other}
 use lib.Dec.{eqb}
 use borrow.Author.Tests.{eqb-true, eqb-false, not-true, not-false}
+use Rattle.model.specs.Limits.{mostIdentifiers}
 use Rattle.model.specs.Lists.{listIf}
 use Rattle.model.specs.Graph.{Graph, Node, nodeAt}
 use Rattle.model.specs.Mutation.{level}
 use Rattle.model.specs.State.{Record, noRecord, hasRecord, recordsErrors, touch, functionOf, State, accepts}
 use Rattle.model.specs.Walks.{Item, Walk, pushes, remember, skipped, missed, accept, step}
-use Rattle.workspace.specs.Rows.{rowsOf, limit, value, rowF, rowB, Good, Kept}
-use Rattle.workspace.specs.Graph.{valueOf, ownNode, graphOfRows}
-use Rattle.workspace.proofs.Rows.{limit-at, value-at, value-beyond, rows-length}
+use Rattle.workspace.specs.Layout.{SEEN, BASE, VALUE, QUEUE, HANDED, MUTATIONS}
+use Rattle.workspace.specs.Rows.{rowsOf, value, rowF, rowB, Good, Kept}
+use Rattle.workspace.specs.Graph.{MISSING, valueOf, ownNode, graphOfRows}
+use Rattle.workspace.proofs.Rows.{value-at, rows-length}
 use Rattle.workspace.proofs.Graph.{row-there, row-missing}
 use Rattle.workspace.proofs.Parts.{drop-more}
 use Rattle.aliasing.specs.Pushes.{pushedW, Pushed, Room, deg}
@@ -33,11 +35,10 @@ use Rattle.aliasing.specs.Potential.{phi}
 use Rattle.aliasing.specs.Walks.{Shows, Ready, Callable, Stepped}
 use Rattle.aliasing.proofs.Parts.{slice-below, slice-above, nodes-below, seen-below, seen-above, rows-below, rows-above, base-below, base-above, mark-kept, mark-seen, seen-at, seen-length, accept-kept, accept-nodes, nodes-length}
 use Rattle.aliasing.proofs.Levels.{levels-length, levels-at, levels-set, above-as, above-set}
-use Rattle.aliasing.proofs.Records.{level-is, accept-records, accept-kept-count, accept-ends}
-use Rattle.aliasing.proofs.Fields.{covered-as}
+use Rattle.aliasing.proofs.Records.{level-is, accept-records, accept-ends}
 use Rattle.aliasing.proofs.Hands.{handed-is, hand-same, room-kept, records-length, handing-as}
 use Rattle.aliasing.proofs.Potential.{phi-falls}
-use Rattle.aliasing.proofs.Enters.{Enters, enters-beyond, enters-seen, enters-marked}
+use Rattle.aliasing.proofs.Enters.{Enters, enters-seen, enters-marked}
 use Rattle.aliasing.proofs.Cases.{step-skips, step-misses, step-accepts}
 
 -- ---- the entry
@@ -56,14 +57,14 @@ transitiveAt ws top = last ws top / 512 % 2
 abbrev pub directionAt : List ℕ → ℕ → ℕ
 directionAt ws top = last ws top / 1024 % 2
 
-pub queue-last : (ws : List ℕ) (top : ℕ) → 8528 < top → top ≤ length ws → slice 8528 top ws ≡ slice 8528 (top - 1) ws ++ (last ws top ∷ [])
+pub queue-last : (ws : List ℕ) (top : ℕ) → QUEUE < top → top ≤ length ws → slice QUEUE top ws ≡ slice QUEUE (top - 1) ws ++ (last ws top ∷ [])
 queue-last ws top more fit =
     let e : top ≡ suc (top - 1) = omega arith in
-    ap (λ (t : ℕ). drop 8528 (take t ws)) e ∙ ap (drop 8528) (take-suc ws (top - 1) 0 (omega arith))
-    ∙ drop-append-le 8528 (take (top - 1) ws) (last ws top ∷ []) (omega (arith, length-take-le (top - 1) ws (omega arith)))
+    ap (λ (t : ℕ). drop QUEUE (take t ws)) e ∙ ap (drop QUEUE) (take-suc ws (top - 1) 0 (omega arith))
+    ∙ drop-append-le QUEUE (take (top - 1) ws) (last ws top ∷ []) (omega (arith, length-take-le (top - 1) ws (omega arith)))
 
-pub queue-head : (ws : List ℕ) (top : ℕ) → 8528 < top → top ≤ length ws → queueOf (slice 8528 top ws) ≡ itemOf (last ws top) ∷ queueOf (slice 8528 (top - 1) ws)
-queue-head ws top more fit = ap queueOf (queue-last ws top more fit) ∙ queue-push (slice 8528 (top - 1) ws) (last ws top ∷ [])
+pub queue-head : (ws : List ℕ) (top : ℕ) → QUEUE < top → top ≤ length ws → queueOf (slice QUEUE top ws) ≡ itemOf (last ws top) ∷ queueOf (slice QUEUE (top - 1) ws)
+queue-head ws top more fit = ap queueOf (queue-last ws top more fit) ∙ queue-push (slice QUEUE (top - 1) ws) (last ws top ∷ [])
 
 item-level : (e : ℕ) → level (itemOf e .kind) ≡ e / 2048 % 2 + 1
 unfolding itemOf
@@ -74,7 +75,7 @@ unfolding itemOf
 item-place e = refl
 
 -- ---- the state by its parts
-pub state-same : (ws ws′ : List ℕ) (hand hand′ : ℕ) → rowsOf ws′ ≡ rowsOf ws → nodesOf ws′ ≡ nodesOf ws → slice 13315 hand′ ws′ ≡ slice 13315 hand ws → stateOf ws′ hand′ ≡ stateOf ws hand
+pub state-same : (ws ws′ : List ℕ) (hand hand′ : ℕ) → rowsOf ws′ ≡ rowsOf ws → nodesOf ws′ ≡ nodesOf ws → slice HANDED hand′ ws′ ≡ slice HANDED hand ws → stateOf ws′ hand′ ≡ stateOf ws hand
 unfolding stateOf
 state-same ws ws′ hand hand′ p q r = λ j. record { graph = graphOfRows (p j); records = recordsOf (q j); ends = endsOf (q j); handed = r j }
 
@@ -82,10 +83,10 @@ pub graph-is : (ws : List ℕ) (hand : ℕ) → stateOf ws hand .graph ≡ graph
 unfolding stateOf
 graph-is ws hand = refl
 
-pub graph-missing : (ws : List ℕ) (hand x : ℕ) → x < 512 → value (rowsOf ws) x ≡ 0 → nodeAt (stateOf ws hand .graph) x ≡ none
+pub graph-missing : (ws : List ℕ) (hand x : ℕ) → x < mostIdentifiers → value (rowsOf ws) x ≡ 0 → nodeAt (stateOf ws hand .graph) x ≡ none
 graph-missing ws hand x h e = ap (λ (g : Graph). nodeAt g x) (graph-is ws hand) ∙ row-missing (rowsOf ws) x h e
 
-pub graph-there : (ws : List ℕ) (hand x : ℕ) → x < 512 → (value (rowsOf ws) x ≡ 0 → ⊥) → nodeAt (stateOf ws hand .graph) x ≡ some (ownNode (value (rowsOf ws) x) (rowF (rowsOf ws)) (rowB (rowsOf ws)) x)
+pub graph-there : (ws : List ℕ) (hand x : ℕ) → x < mostIdentifiers → (value (rowsOf ws) x ≡ 0 → ⊥) → nodeAt (stateOf ws hand .graph) x ≡ some (ownNode (value (rowsOf ws) x) (rowF (rowsOf ws)) (rowB (rowsOf ws)) x)
 graph-there ws hand x h e = ap (λ (g : Graph). nodeAt g x) (graph-is ws hand) ∙ row-there (rowsOf ws) x h e
 
 shows-to : {base : ℕ} {ws : List ℕ} {top hand : ℕ} (w v : Walk) → Shows base ws top hand v → w ≡ v → Shows base ws top hand w
@@ -95,92 +96,55 @@ shows-to {base} {ws} {top} {hand} w v s p = subst (Shows base ws top hand) (sym 
 -- its fields are written in ws₂, and the next function is to be handed over at h
 pub record Accepting (m : Mutation) (base : ℕ) (ws : List ℕ) (top hand transitive kind h : ℕ) (ws₂ : List ℕ) : Type 0 where
   pub room : Room ws₂ (top - 1) (deg (rowsOf ws₂) (placeAt ws top))
-  -- its rows have bounds
-  pub below : placeAt ws top < limit (rowsOf ws₂)
   pub stepped : (ws₃ : List ℕ) (r : ℕ) → Pushed ws₂ (top - 1) (pushedW (rowsOf ws₂) (placeAt ws top) (directionAt ws top) (m .index) transitive kind) ws₃ r → Stepped m base ws top hand ws₃ r h
 
 -- whether it is entered, and the words then
 pub record Entering (m : Mutation) (base : ℕ) (ws : List ℕ) (top hand transitive kind level : ℕ) (ws₁ : List ℕ) (enters : Bool) : Type 0 where
   pub passed : enters ≡ false → Stepped m base ws top hand ws₁ (top - 1) hand
   pub accepted : enters ≡ true
-      → (wsH : List ℕ) (h : ℕ) → Pushed ws₁ hand (handW ws₁ (getD ws₁ (3200 + placeAt ws top) 0) (placeAt ws top) (m .«should_record_errors»)) wsH h
+      → (wsH : List ℕ) (h : ℕ) → Pushed ws₁ hand (handW ws₁ (getD ws₁ (VALUE + placeAt ws top) 0) (placeAt ws top) (m .«should_record_errors»)) wsH h
       → (ws₂ : List ℕ) → ws₂ ≡ acceptW wsH (placeAt ws top) transitive level m → Accepting m base ws top hand transitive kind h ws₂
 
-module _ (m : Mutation) (base : ℕ) (ws : List ℕ) (top hand : ℕ) (ready : Ready base ws top hand) (callable : Callable m) (more : 8528 < top) where
+module _ (m : Mutation) (base : ℕ) (ws : List ℕ) (top hand : ℕ) (ready : Ready base ws top hand) (callable : Callable m) (more : QUEUE < top) where
   fit : top ≤ length ws
   fit = omega (arith, ready .fits, ready .size)
 
-  x-below : placeAt ws top < 512
+  x-below : placeAt ws top < mostIdentifiers
   x-below = omega arith
 
   k-below : kindAt ws top < 2
   k-below = omega arith
 
   module _ (w : Walk) (s : Shows base ws top hand w) where
-    head : w .queue ≡ itemOf (last ws top) ∷ queueOf (slice 8528 (top - 1) ws)
+    head : w .queue ≡ itemOf (last ws top) ∷ queueOf (slice QUEUE (top - 1) ws)
     head = sym (s .queue) ∙ queue-head ws top more fit
 
-    at-seen : placeAt ws top < limit (rowsOf ws) → getD (w .seen) (itemOf (last ws top) .identifier) 0 ≡ getD ws (2624 + placeAt ws top) 0 - base
+    at-seen : getD (w .seen) (itemOf (last ws top) .identifier) 0 ≡ getD ws (SEEN + placeAt ws top) 0 - base
     unfolding itemOf
-    at-seen under =
-        sym (getD-take (limit (rowsOf ws)) (w .seen) (placeAt ws top) 0 under) ∙ ap (λ (l : List ℕ). getD l (placeAt ws top) 0) (sym (s .seen))
-        ∙ getD-take (limit (rowsOf ws)) (levels base (seenOf ws)) (placeAt ws top) 0 under ∙ levels-at base (seenOf ws) (placeAt ws top) x-below
+    at-seen =
+        ap (λ (l : List ℕ). getD l (placeAt ws top) 0) (sym (s .seen)) ∙ levels-at base (seenOf ws) (placeAt ws top) x-below
         ∙ ap (λ (v : ℕ). v - base) (seen-at ws (placeAt ws top) x-below)
 
     skips : level (itemOf (last ws top) .kind) ≤ getD (w .seen) (itemOf (last ws top) .identifier) 0 → Shows base ws (top - 1) hand (step (modeSays m) (mutationSays m) (w .queue) w)
     skips seen =
-        shows-to (step (modeSays m) (mutationSays m) (w .queue) w) (skipped (queueOf (slice 8528 (top - 1) ws)) w) (record { queue = refl; seen = s .seen; state = s .state })
-        (step-skips (modeSays m) (mutationSays m) w (itemOf (last ws top)) (queueOf (slice 8528 (top - 1) ws)) head seen)
+        shows-to (step (modeSays m) (mutationSays m) (w .queue) w) (skipped (queueOf (slice QUEUE (top - 1) ws)) w) (record { queue = refl; seen = s .seen; state = s .state })
+        (step-skips (modeSays m) (mutationSays m) w (itemOf (last ws top)) (queueOf (slice QUEUE (top - 1) ws)) head seen)
 
-    -- an entry from the limit on does nothing, whether it is fresh or not
-    nothing : limit (rowsOf ws) ≤ placeAt ws top → Shows base ws (top - 1) hand (step (modeSays m) (mutationSays m) (w .queue) w)
-    unfolding itemOf
-    nothing beyond = go (decLt (getD (w .seen) (placeAt ws top) 0) (level (itemOf (last ws top) .kind)))
-      where
-        gone : nodeAt (stateOf ws hand .graph) (placeAt ws top) ≡ none
-        gone = graph-missing ws hand (placeAt ws top) x-below (value-beyond (rowsOf ws) (placeAt ws top) beyond)
-
-        go : Dec (getD (w .seen) (placeAt ws top) 0 < level (itemOf (last ws top) .kind)) → Shows base ws (top - 1) hand (step (modeSays m) (mutationSays m) (w .queue) w)
-        go (yes h) =
-            shows-to (step (modeSays m) (mutationSays m) (w .queue) w) (missed (itemOf (last ws top)) (queueOf (slice 8528 (top - 1) ws)) w)
-            (record { queue = refl; seen = s .seen ∙ sym (take-set-le (limit (rowsOf ws)) (w .seen) (placeAt ws top) (level (itemOf (last ws top) .kind)) beyond); state = s .state })
-            (step-misses (modeSays m) (mutationSays m) w (itemOf (last ws top)) (queueOf (slice 8528 (top - 1) ws)) head h
-            (ap (λ (t : State). nodeAt (t .graph) (placeAt ws top)) (sym (s .state)) ∙ gone))
-        go (no h) = skips (omega (arith, h))
-
-  -- ---- the entry is taken, and no word written
-  stays : ((w : Walk) → Shows base ws top hand w → Shows base ws (top - 1) hand (step (modeSays m) (mutationSays m) (w .queue) w)) → Stepped m base ws top hand ws (top - 1) hand
-  stays follows = record {
-    follows = follows;
+  -- ---- seen at this kind or a higher one: no word is written
+  step-seen : base + kindAt ws top < getD ws (SEEN + placeAt ws top) 0 → Stepped m base ws top hand ws (top - 1) hand
+  step-seen seen = record {
+    follows = λ w s. skips w s (omega (arith, at-seen w s, item-level (last ws top)));
     ready = record { size = ready .size; low = omega arith; good = ready .good; fits = omega (arith, ready .fits); few = ready .few; next = ready .next; handing = ready .handing };
     falls = omega arith;
     aside = record { graph = refl; behind = refl; same = refl };
   }
 
-  -- ---- from the limit on
-  step-beyond : getD ws 8322 0 ≤ placeAt ws top → Stepped m base ws top hand ws (top - 1) hand
-  step-beyond beyond = stays (λ w s. nothing w s (omega (arith, beyond, limit-at ws (ready .size))))
-
-  -- ---- seen at this kind or a higher one; what stands from the limit on is no mark
-  step-seen : base + kindAt ws top < getD ws (2624 + placeAt ws top) 0 → Stepped m base ws top hand ws (top - 1) hand
-  step-seen seen = stays (λ w s. go w s (decLt (placeAt ws top) (limit (rowsOf ws))))
-    where
-      go : (w : Walk) → Shows base ws top hand w → Dec (placeAt ws top < limit (rowsOf ws)) → Shows base ws (top - 1) hand (step (modeSays m) (mutationSays m) (w .queue) w)
-      go w s (yes h) = skips w s (omega (arith, at-seen w s h, item-level (last ws top)))
-      go w s (no h) = nothing w s (omega (arith, h))
-
   -- ---- not seen
-  module _ (unseen : getD ws (2624 + placeAt ws top) 0 ≤ base + kindAt ws top) (below : placeAt ws top < getD ws 8322 0) where
-    under : placeAt ws top < limit (rowsOf ws)
-    under = omega (arith, below, limit-at ws (ready .size))
-
-    kept-there : placeAt ws top < getD (nodesOf ws) 2048 0
-    kept-there = omega (arith, under, ready .handing .covered)
-
+  module _ (unseen : getD ws (SEEN + placeAt ws top) 0 ≤ base + kindAt ws top) where
     abbrev marked : List ℕ
-    marked = set ws (2624 + placeAt ws top) (base + kindAt ws top + 1)
+    marked = set ws (SEEN + placeAt ws top) (base + kindAt ws top + 1)
 
-    mark : Kept 2624 3136 ws marked
+    mark : Kept SEEN BASE ws marked
     mark = mark-kept ws (placeAt ws top) (base + kindAt ws top + 1) x-below
 
     mark-levels : levels base (seenOf marked) ≡ set (levels base (seenOf ws)) (placeAt ws top) (kindAt ws top + 1)
@@ -188,49 +152,42 @@ module _ (m : Mutation) (base : ℕ) (ws : List ℕ) (top hand : ℕ) (ready : R
         ap (levels base) (mark-seen ws (placeAt ws top) (base + kindAt ws top + 1) x-below)
         ∙ levels-set base (seenOf ws) (placeAt ws top) (base + kindAt ws top + 1) (kindAt ws top + 1) (omega (arith, seen-length ws (ready .size))) (omega arith)
 
-    mark-base : getD marked 3136 0 ≡ getD ws 3136 0
+    mark-base : getD marked BASE 0 ≡ getD ws BASE 0
     mark-base = base-above mark (omega arith)
 
-    mark-most : NoneAbove (getD marked 3136 0) marked
+    mark-most : NoneAbove (getD marked BASE 0) marked
     mark-most = above-set ws (placeAt ws top) (base + kindAt ws top + 1) (ready .size) x-below (omega (arith, mark-base, ready .next)) (omega (arith, mark-base)) (ready .handing .marks)
 
-    falls-by : phi (set (levels base (seenOf ws)) (placeAt ws top) (kindAt ws top + 1)) (rowsOf ws) 512 + deg (rowsOf ws) (placeAt ws top) ≤ phi (levels base (seenOf ws)) (rowsOf ws) 512
+    falls-by : phi (set (levels base (seenOf ws)) (placeAt ws top) (kindAt ws top + 1)) (rowsOf ws) mostIdentifiers + deg (rowsOf ws) (placeAt ws top) ≤ phi (levels base (seenOf ws)) (rowsOf ws) mostIdentifiers
     falls-by =
-        phi-falls (levels base (seenOf ws)) (rowsOf ws) (placeAt ws top) (kindAt ws top + 1) 512 x-below (omega (arith, levels-length base (seenOf ws)))
+        phi-falls (levels base (seenOf ws)) (rowsOf ws) (placeAt ws top) (kindAt ws top + 1) mostIdentifiers x-below (omega (arith, levels-length base (seenOf ws)))
         (omega (arith, levels-at base (seenOf ws) (placeAt ws top) x-below, seen-at ws (placeAt ws top) x-below)) (omega arith)
 
-    value-kept : getD marked (3200 + placeAt ws top) 0 ≡ value (rowsOf ws) (placeAt ws top)
-    value-kept = getD-set-other ws (2624 + placeAt ws top) (3200 + placeAt ws top) (base + kindAt ws top + 1) 0 (omega arith) ∙ sym (value-at ws (ready .size) (placeAt ws top) x-below under)
+    value-kept : getD marked (VALUE + placeAt ws top) 0 ≡ value (rowsOf ws) (placeAt ws top)
+    value-kept = getD-set-other ws (SEEN + placeAt ws top) (VALUE + placeAt ws top) (base + kindAt ws top + 1) 0 (omega arith) ∙ sym (value-at ws (ready .size) (placeAt ws top) x-below)
 
     module _ (w : Walk) (s : Shows base ws top hand w) where
       higher : getD (w .seen) (itemOf (last ws top) .identifier) 0 < level (itemOf (last ws top) .kind)
-      higher = omega (arith, at-seen w s under, item-level (last ws top))
+      higher = omega (arith, at-seen w s, item-level (last ws top))
 
       -- once marked
-      remembered : (ws′ : List ℕ) → rowsOf ws′ ≡ rowsOf ws → levels base (seenOf ws′) ≡ set (levels base (seenOf ws)) (placeAt ws top) (kindAt ws top + 1)
-          → take (limit (rowsOf ws′)) (levels base (seenOf ws′)) ≡ take (limit (rowsOf ws′)) (remember (itemOf (last ws top)) (w .seen))
+      remembered : (ws′ : List ℕ) → levels base (seenOf ws′) ≡ set (levels base (seenOf ws)) (placeAt ws top) (kindAt ws top + 1) → levels base (seenOf ws′) ≡ remember (itemOf (last ws top)) (w .seen)
       unfolding itemOf
-      remembered ws′ rows marks =
-          let n : ℕ = limit (rowsOf ws) in
-          ap (λ (g : List ℕ). take (limit g) (levels base (seenOf ws′))) rows ∙ ap (take n) marks
-          ∙ take-set-lt n (levels base (seenOf ws)) (placeAt ws top) (kindAt ws top + 1) under
-          ∙ ap (λ (l : List ℕ). set l (placeAt ws top) (kindAt ws top + 1)) (s .seen)
-          ∙ sym (take-set-lt n (w .seen) (placeAt ws top) (kindAt ws top + 1) under)
-          ∙ ap (λ (k : ℕ). take n (set (w .seen) (placeAt ws top) k)) (sym (level-is (kindAt ws top) k-below))
-          ∙ ap (λ (g : List ℕ). take (limit g) (set (w .seen) (placeAt ws top) (level (itemOf (last ws top) .kind)))) (sym rows)
+      remembered ws′ marks =
+          marks ∙ ap (λ (l : List ℕ). set l (placeAt ws top) (kindAt ws top + 1)) (s .seen) ∙ ap (set (w .seen) (placeAt ws top)) (sym (level-is (kindAt ws top) k-below))
 
     -- ---- missing
-    module _ (none-there : getD marked (3200 + placeAt ws top) 0 ≡ 0) where
+    module _ (none-there : getD marked (VALUE + placeAt ws top) 0 ≡ 0) where
       misses : (w : Walk) → Shows base ws top hand w → Shows base marked (top - 1) hand (step (modeSays m) (mutationSays m) (w .queue) w)
       unfolding itemOf
       misses w s =
-          shows-to (step (modeSays m) (mutationSays m) (w .queue) w) (missed (itemOf (last ws top)) (queueOf (slice 8528 (top - 1) ws)) w)
+          shows-to (step (modeSays m) (mutationSays m) (w .queue) w) (missed (itemOf (last ws top)) (queueOf (slice QUEUE (top - 1) ws)) w)
           (record {
-            queue = ap queueOf (slice-above mark 8528 (top - 1) (omega arith) (omega arith));
-            seen = remembered w s marked (rows-above mark (omega arith)) mark-levels;
-            state = state-same ws marked hand hand (rows-above mark (omega arith)) (nodes-below mark (omega arith)) (slice-above mark 13315 hand (omega arith) (ready .handing .low)) ∙ s .state;
+            queue = ap queueOf (slice-above mark QUEUE (top - 1) (omega arith) (omega arith));
+            seen = remembered w s marked mark-levels;
+            state = state-same ws marked hand hand (rows-above mark (omega arith)) (nodes-below mark (omega arith)) (slice-above mark HANDED hand (omega arith) (ready .handing .low)) ∙ s .state;
           })
-          (step-misses (modeSays m) (mutationSays m) w (itemOf (last ws top)) (queueOf (slice 8528 (top - 1) ws)) (head w s) (higher w s)
+          (step-misses (modeSays m) (mutationSays m) w (itemOf (last ws top)) (queueOf (slice QUEUE (top - 1) ws)) (head w s) (higher w s)
           (ap (λ (t : State). nodeAt (t .graph) (placeAt ws top)) (sym (s .state)) ∙ gone))
         where
           gone : nodeAt (stateOf ws hand .graph) (placeAt ws top) ≡ none
@@ -246,32 +203,32 @@ module _ (m : Mutation) (base : ℕ) (ws : List ℕ) (top hand : ℕ) (ready : R
           fits = omega (arith, ready .fits, falls-by, phi-marked);
           few = ready .few;
           next = mark-base ∙ ready .next;
-          handing = handing-as ws marked hand (rows-above mark (omega arith)) (nodes-below mark (omega arith)) mark-most (ready .handing);
+          handing = handing-as ws marked hand (nodes-below mark (omega arith)) mark-most (ready .handing);
         };
         falls = omega (arith, falls-by, phi-marked);
-        aside = record { graph = rows-above mark (omega arith); behind = drop-more 3136 13827 marked ws (omega arith) (mark .high); same = mark .same };
+        aside = record { graph = rows-above mark (omega arith); behind = drop-more BASE MUTATIONS marked ws (omega arith) (mark .high); same = mark .same };
       }
         where
-          phi-marked : phi (levels base (seenOf marked)) (rowsOf marked) 512 ≡ phi (set (levels base (seenOf ws)) (placeAt ws top) (kindAt ws top + 1)) (rowsOf ws) 512
+          phi-marked : phi (levels base (seenOf marked)) (rowsOf marked) mostIdentifiers ≡ phi (set (levels base (seenOf ws)) (placeAt ws top) (kindAt ws top + 1)) (rowsOf ws) mostIdentifiers
           phi-marked =
-              ap (λ (l : List ℕ). phi l (rowsOf marked) 512) mark-levels
-              ∙ ap (λ (g : List ℕ). phi (set (levels base (seenOf ws)) (placeAt ws top) (kindAt ws top + 1)) g 512) (rows-above mark (omega arith))
+              ap (λ (l : List ℕ). phi l (rowsOf marked) mostIdentifiers) mark-levels
+              ∙ ap (λ (g : List ℕ). phi (set (levels base (seenOf ws)) (placeAt ws top) (kindAt ws top + 1)) g mostIdentifiers) (rows-above mark (omega arith))
 
     -- ---- accepted: the function handed over, the fields written, the entries pushed
-    module _ (wsH : List ℕ) (h : ℕ) (ph : Pushed marked hand (handW marked (getD marked (3200 + placeAt ws top) 0) (placeAt ws top) (m .«should_record_errors»)) wsH h) where
+    module _ (wsH : List ℕ) (h : ℕ) (ph : Pushed marked hand (handW marked (getD marked (VALUE + placeAt ws top) 0) (placeAt ws top) (m .«should_record_errors»)) wsH h) where
       abbrev records : List Record
       records = recordsOf (nodesOf ws)
 
       abbrev handing : List ℕ
       handing = listIf (recordsErrors (modeSays m) && not (hasRecord (getD (recordsOf (nodesOf ws)) (placeAt ws top) noRecord))) (functionOf (valueOf (value (rowsOf ws) (placeAt ws top))))
 
-      hands : handW marked (getD marked (3200 + placeAt ws top) 0) (placeAt ws top) (m .«should_record_errors») ≡ handing
+      hands : handW marked (getD marked (VALUE + placeAt ws top) 0) (placeAt ws top) (m .«should_record_errors») ≡ handing
       unfolding nodesOf
       hands =
-          hand-same marked (getD marked (3200 + placeAt ws top) 0) (placeAt ws top) (m .«should_record_errors») x-below
-          ∙ ap (λ (l : List ℕ). handW l (getD marked (3200 + placeAt ws top) 0) (placeAt ws top) (m .«should_record_errors»)) (nodes-below mark (omega arith))
-          ∙ ap (λ (v : ℕ). handW (take 2624 ws) v (placeAt ws top) (m .«should_record_errors»)) value-kept
-          ∙ handed-is (take 2624 ws) (value (rowsOf ws) (placeAt ws top)) (placeAt ws top) m x-below kept-there callable
+          hand-same marked (getD marked (VALUE + placeAt ws top) 0) (placeAt ws top) (m .«should_record_errors») x-below
+          ∙ ap (λ (l : List ℕ). handW l (getD marked (VALUE + placeAt ws top) 0) (placeAt ws top) (m .«should_record_errors»)) (nodes-below mark (omega arith))
+          ∙ ap (λ (v : ℕ). handW (take SEEN ws) v (placeAt ws top) (m .«should_record_errors»)) value-kept
+          ∙ handed-is (take SEEN ws) (value (rowsOf ws) (placeAt ws top)) (placeAt ws top) m x-below callable
 
       ph′ : Pushed marked hand handing wsH h
       ph′ = subst (λ (vs : List ℕ). Pushed marked hand vs wsH h) hands ph
@@ -279,7 +236,7 @@ module _ (m : Mutation) (base : ℕ) (ws : List ℕ) (top hand : ℕ) (ready : R
       abbrev touched : List Record
       touched = set (recordsOf (nodesOf ws)) (placeAt ws top) (touch (itemOf (last ws top) .transitive) (mutationSays m) (record { kind = itemOf (last ws top) .kind; span = m .span }) (getD (recordsOf (nodesOf ws)) (placeAt ws top) noRecord))
 
-      hand-room : h + bare touched ≤ 13827
+      hand-room : h + bare touched ≤ MUTATIONS
       hand-room =
           omega (
             arith,
@@ -289,12 +246,12 @@ module _ (m : Mutation) (base : ℕ) (ws : List ℕ) (top hand : ℕ) (ready : R
                 (record { kind = itemOf (last ws top) .kind; span = m .span }) (omega (arith, records-length (nodesOf ws))),
           )
 
-      kept-hand : Kept 13315 13827 marked wsH
-      kept-hand = pushed-kept 13315 13827 ph′ (ready .handing .low) (omega (arith, hand-room))
+      kept-hand : Kept HANDED MUTATIONS marked wsH
+      kept-hand = pushed-kept HANDED MUTATIONS ph′ (ready .handing .low) (omega (arith, hand-room))
 
       module _ (ws₂ : List ℕ) (is₂ : ws₂ ≡ acceptW wsH (placeAt ws top) (transitiveAt ws top) (kindAt ws top + 1) m) where
-        kept-fields : Kept 0 2624 wsH ws₂
-        kept-fields = subst (Kept 0 2624 wsH) (sym is₂) (accept-kept wsH (placeAt ws top) (transitiveAt ws top) (kindAt ws top + 1) m x-below)
+        kept-fields : Kept 0 SEEN wsH ws₂
+        kept-fields = subst (Kept 0 SEEN wsH) (sym is₂) (accept-kept wsH (placeAt ws top) (transitiveAt ws top) (kindAt ws top + 1) m x-below)
 
         rows₂ : rowsOf ws₂ ≡ rowsOf ws
         rows₂ = rows-above kept-fields (omega arith) ∙ rows-below kept-hand (omega arith) ∙ rows-above mark (omega arith)
@@ -310,10 +267,7 @@ module _ (m : Mutation) (base : ℕ) (ws : List ℕ) (top hand : ℕ) (ready : R
           room = omega (arith, falls-by, ready .fits, ap (λ (g : List ℕ). deg g (placeAt ws top)) rows₂);
         }
 
-        step-below : placeAt ws top < limit (rowsOf ws₂)
-        step-below = subst (λ (g : List ℕ). placeAt ws top < limit g) (sym rows₂) under
-
-        module _ (there : getD marked (3200 + placeAt ws top) 0 ≡ 0 → ⊥) (ws₃ : List ℕ) (r : ℕ)
+        module _ (there : getD marked (VALUE + placeAt ws top) 0 ≡ 0 → ⊥) (ws₃ : List ℕ) (r : ℕ)
             (p : Pushed ws₂ (top - 1) (pushedW (rowsOf ws₂) (placeAt ws top) (directionAt ws top) (m .index) (transitiveAt ws top) (kindAt ws top)) ws₃ r) where
           abbrev pushed : List ℕ
           pushed = pushedW (rowsOf ws) (placeAt ws top) (directionAt ws top) (m .index) (transitiveAt ws top) (kindAt ws top)
@@ -324,11 +278,11 @@ module _ (m : Mutation) (base : ℕ) (ws : List ℕ) (top hand : ℕ) (ready : R
           few : length pushed ≤ deg (rowsOf ws) (placeAt ws top)
           few = pushed-le (rowsOf ws) (rows-length ws (ready .size)) (ready .good) (placeAt ws top) (directionAt ws top) (m .index) (transitiveAt ws top) (kindAt ws top) x-below
 
-          room : r ≤ 13315
+          room : r ≤ HANDED
           room = omega (arith, p′ .next, falls-by, few, ready .fits)
 
-          kept-queue : Kept 8528 13315 ws₂ ws₃
-          kept-queue = pushed-kept 8528 13315 p′ (omega arith) room
+          kept-queue : Kept QUEUE HANDED ws₂ ws₃
+          kept-queue = pushed-kept QUEUE HANDED p′ (omega arith) room
 
           nodes₃ : nodesOf ws₃ ≡ acceptW (nodesOf ws) (placeAt ws top) (transitiveAt ws top) (kindAt ws top + 1) m
           nodes₃ =
@@ -338,7 +292,7 @@ module _ (m : Mutation) (base : ℕ) (ws : List ℕ) (top hand : ℕ) (ready : R
           marks₃ : seenOf ws₃ ≡ seenOf marked
           marks₃ = seen-below kept-queue (omega arith) ∙ seen-above kept-fields (omega arith) ∙ seen-below kept-hand (omega arith)
 
-          base₃ : getD ws₃ 3136 0 ≡ getD marked 3136 0
+          base₃ : getD ws₃ BASE 0 ≡ getD marked BASE 0
           base₃ = base-below kept-queue (omega arith) ∙ base-above kept-fields (omega arith) ∙ base-below kept-hand (omega arith)
 
           seen₃ : levels base (seenOf ws₃) ≡ set (levels base (seenOf ws)) (placeAt ws top) (kindAt ws top + 1)
@@ -347,21 +301,21 @@ module _ (m : Mutation) (base : ℕ) (ws : List ℕ) (top hand : ℕ) (ready : R
           rows₃ : rowsOf ws₃ ≡ rowsOf ws
           rows₃ = rows-below kept-queue (omega arith) ∙ rows₂
 
-          queue₃ : slice 8528 r ws₃ ≡ slice 8528 (top - 1) ws ++ pushed
+          queue₃ : slice QUEUE r ws₃ ≡ slice QUEUE (top - 1) ws ++ pushed
           queue₃ =
-              pushed-part 8528 p′ (omega arith) (omega (arith, room, length₂, ready .size))
+              pushed-part QUEUE p′ (omega arith) (omega (arith, room, length₂, ready .size))
               ∙ ap (λ (q : List ℕ). q ++ pushed)
-              (slice-above kept-fields 8528 (top - 1) (omega arith) (omega arith) ∙ slice-below kept-hand 8528 (top - 1) (omega (arith, ready .fits)) ∙ slice-above mark 8528 (top - 1) (omega arith) (omega arith))
+              (slice-above kept-fields QUEUE (top - 1) (omega arith) (omega arith) ∙ slice-below kept-hand QUEUE (top - 1) (omega (arith, ready .fits)) ∙ slice-above mark QUEUE (top - 1) (omega arith) (omega arith))
 
-          handed₃ : slice 13315 h ws₃ ≡ slice 13315 hand ws ++ handing
+          handed₃ : slice HANDED h ws₃ ≡ slice HANDED hand ws ++ handing
           handed₃ =
-              slice-above kept-queue 13315 h (omega arith) (omega (arith, ph′ .next, ready .handing .low)) ∙ slice-above kept-fields 13315 h (omega arith) (omega (arith, ph′ .next, ready .handing .low))
-              ∙ pushed-part 13315 ph′ (ready .handing .low) (omega (arith, hand-room, mark .same, ready .size))
-              ∙ ap (λ (q : List ℕ). q ++ handing) (slice-above mark 13315 hand (omega arith) (ready .handing .low))
+              slice-above kept-queue HANDED h (omega arith) (omega (arith, ph′ .next, ready .handing .low)) ∙ slice-above kept-fields HANDED h (omega arith) (omega (arith, ph′ .next, ready .handing .low))
+              ∙ pushed-part HANDED ph′ (ready .handing .low) (omega (arith, hand-room, mark .same, ready .size))
+              ∙ ap (λ (q : List ℕ). q ++ handing) (slice-above mark HANDED hand (omega arith) (ready .handing .low))
 
           records₃ : recordsOf (nodesOf ws₃) ≡ touched
           unfolding itemOf
-          records₃ = ap recordsOf nodes₃ ∙ accept-records (nodesOf ws) (nodes-length ws (ready .size)) (placeAt ws top) (kindAt ws top) x-below kept-there k-below m (callable .reason) (transitiveAt ws top)
+          records₃ = ap recordsOf nodes₃ ∙ accept-records (nodesOf ws) (nodes-length ws (ready .size)) (placeAt ws top) (kindAt ws top) x-below k-below m (callable .reason) (transitiveAt ws top)
 
           state₃ : stateOf ws₃ h
               ≡ accepts (modeSays m) (mutationSays m) (placeAt ws top) (valueOf (value (rowsOf ws) (placeAt ws top))) (itemOf (last ws top) .transitive) (itemOf (last ws top) .kind) (stateOf ws hand)
@@ -369,7 +323,7 @@ module _ (m : Mutation) (base : ℕ) (ws : List ℕ) (top hand : ℕ) (ready : R
           state₃ = λ j. record {
             graph = graphOfRows (rows₃ j);
             records = records₃ j;
-            ends = (ap endsOf nodes₃ ∙ accept-ends (nodesOf ws) (nodes-length ws (ready .size)) (placeAt ws top) (transitiveAt ws top) (kindAt ws top + 1) m x-below kept-there) j;
+            ends = (ap endsOf nodes₃ ∙ accept-ends (nodesOf ws) (nodes-length ws (ready .size)) (placeAt ws top) (transitiveAt ws top) (kindAt ws top + 1) m x-below) j;
             handed = handed₃ j;
           }
 
@@ -379,27 +333,27 @@ module _ (m : Mutation) (base : ℕ) (ws : List ℕ) (top hand : ℕ) (ready : R
           abbrev own : Node
           own = ownNode (value (rowsOf ws) (placeAt ws top)) (rowF (rowsOf ws)) (rowB (rowsOf ws)) (placeAt ws top)
 
-          entries₃ : queueOf (slice 8528 r ws₃) ≡ reverseAux (pushes (mutationSays m .index) own (itemOf (last ws top))) (queueOf (slice 8528 (top - 1) ws))
+          entries₃ : queueOf (slice QUEUE r ws₃) ≡ reverseAux (pushes (mutationSays m .index) own (itemOf (last ws top))) (queueOf (slice QUEUE (top - 1) ws))
           unfolding itemOf mutationSays
           entries₃ =
-              ap queueOf queue₃ ∙ queue-push (slice 8528 (top - 1) ws) pushed
-              ∙ ap (λ (l : List Item). reverseAux l (queueOf (slice 8528 (top - 1) ws)))
+              ap queueOf queue₃ ∙ queue-push (slice QUEUE (top - 1) ws) pushed
+              ∙ ap (λ (l : List Item). reverseAux l (queueOf (slice QUEUE (top - 1) ws)))
               (pushed-items (rowsOf ws) (placeAt ws top) (m .index) (transitiveAt ws top) (directionAt ws top) (kindAt ws top) (omega arith) (omega arith) (omega arith) (itemOf (last ws top)) refl refl refl)
 
           accepts-it : (w : Walk) → Shows base ws top hand w → Shows base ws₃ r h (step (modeSays m) (mutationSays m) (w .queue) w)
           unfolding itemOf
           accepts-it w s =
-              shows-to (step (modeSays m) (mutationSays m) (w .queue) w) (accept (modeSays m) (mutationSays m) own (itemOf (last ws top)) (queueOf (slice 8528 (top - 1) ws)) w)
+              shows-to (step (modeSays m) (mutationSays m) (w .queue) w) (accept (modeSays m) (mutationSays m) own (itemOf (last ws top)) (queueOf (slice QUEUE (top - 1) ws)) w)
               (record {
                 queue = entries₃;
-                seen = remembered w s ws₃ rows₃ seen₃;
+                seen = remembered w s ws₃ seen₃;
                 state = state₃ ∙ ap (accepts (modeSays m) (mutationSays m) (placeAt ws top) (valueOf (value (rowsOf ws) (placeAt ws top))) (itemOf (last ws top) .transitive) (itemOf (last ws top) .kind)) (s .state);
               })
-              (step-accepts (modeSays m) (mutationSays m) w (itemOf (last ws top)) (queueOf (slice 8528 (top - 1) ws)) (head w s) own (higher w s)
+              (step-accepts (modeSays m) (mutationSays m) w (itemOf (last ws top)) (queueOf (slice QUEUE (top - 1) ws)) (head w s) own (higher w s)
               (ap (λ (t : State). nodeAt (t .graph) (placeAt ws top)) (sym (s .state)) ∙ graph-there ws hand (placeAt ws top) x-below own-there))
 
-          phi₃ : phi (levels base (seenOf ws₃)) (rowsOf ws₃) 512 ≡ phi (set (levels base (seenOf ws)) (placeAt ws top) (kindAt ws top + 1)) (rowsOf ws) 512
-          phi₃ = ap (λ (l : List ℕ). phi l (rowsOf ws₃) 512) seen₃ ∙ ap (λ (g : List ℕ). phi (set (levels base (seenOf ws)) (placeAt ws top) (kindAt ws top + 1)) g 512) rows₃
+          phi₃ : phi (levels base (seenOf ws₃)) (rowsOf ws₃) mostIdentifiers ≡ phi (set (levels base (seenOf ws)) (placeAt ws top) (kindAt ws top + 1)) (rowsOf ws) mostIdentifiers
+          phi₃ = ap (λ (l : List ℕ). phi l (rowsOf ws₃) mostIdentifiers) seen₃ ∙ ap (λ (g : List ℕ). phi (set (levels base (seenOf ws)) (placeAt ws top) (kindAt ws top + 1)) g mostIdentifiers) rows₃
 
           step-accepted : Stepped m base ws top hand ws₃ r h
           step-accepted = record {
@@ -413,42 +367,36 @@ module _ (m : Mutation) (base : ℕ) (ws : List ℕ) (top hand : ℕ) (ready : R
               next = base₃ ∙ mark-base ∙ ready .next;
               handing = record {
                 low = omega (arith, ph′ .next, ready .handing .low);
-                covered = covered-as ws ws₃ rows₃ (ap (λ (l : List ℕ). getD l 2048 0) nodes₃ ∙ accept-kept-count (nodesOf ws) (nodes-length ws (ready .size)) (placeAt ws top) (transitiveAt ws top) (kindAt ws top + 1) m x-below kept-there) (ready .handing .covered);
-                marks = above-as marks₃ (rows₃ ∙ sym (rows-above mark (omega arith))) (omega (arith, base₃)) mark-most;
+                marks = above-as marks₃ (omega (arith, base₃)) mark-most;
                 room = omega (arith, hand-room, ap bare records₃);
               };
             };
             falls = omega (arith, p′ .next, few, falls-by, phi₃);
             aside = record {
               graph = rows₃;
-              behind = drop-more 13315 13827 ws₃ ws₂ (omega arith) (kept-queue .high) ∙ drop-more 2624 13827 ws₂ wsH (omega arith) (kept-fields .high) ∙ kept-hand .high ∙ drop-more 3136 13827 marked ws (omega arith) (mark .high);
+              behind = drop-more HANDED MUTATIONS ws₃ ws₂ (omega arith) (kept-queue .high) ∙ drop-more SEEN MUTATIONS ws₂ wsH (omega arith) (kept-fields .high) ∙ kept-hand .high ∙ drop-more BASE MUTATIONS marked ws (omega arith) (mark .high);
               same = kept-queue .same ∙ length₂;
             };
           }
 
-    entering : Entering m base ws top hand (transitiveAt ws top) (kindAt ws top) (kindAt ws top + 1) marked (not (eqb (getD ws (3200 + placeAt ws top) 0) 0))
+    entering : Entering m base ws top hand (transitiveAt ws top) (kindAt ws top) (kindAt ws top + 1) marked (not (eqb (getD ws (VALUE + placeAt ws top) 0) MISSING))
     entering = record {
-      passed = λ e. step-missing (value-same ∙ eqb-true (getD ws (3200 + placeAt ws top) 0) 0 (not-false _ e));
+      passed = λ e. step-missing (value-same ∙ eqb-true (getD ws (VALUE + placeAt ws top) 0) 0 (not-false _ e));
       accepted = λ e wsH h ph ws₂ is₂.
-          let there : getD marked (3200 + placeAt ws top) 0 ≡ 0 → ⊥ = λ z. eqb-false (getD ws (3200 + placeAt ws top) 0) 0 (not-true _ e) (sym value-same ∙ z) in
-          record { room = step-room wsH h ph ws₂ is₂; below = step-below wsH h ph ws₂ is₂; stepped = step-accepted wsH h ph ws₂ is₂ there };
+          let there : getD marked (VALUE + placeAt ws top) 0 ≡ 0 → ⊥ = λ z. eqb-false (getD ws (VALUE + placeAt ws top) 0) 0 (not-true _ e) (sym value-same ∙ z) in
+          record { room = step-room wsH h ph ws₂ is₂; stepped = step-accepted wsH h ph ws₂ is₂ there };
     }
       where
-        value-same : getD marked (3200 + placeAt ws top) 0 ≡ getD ws (3200 + placeAt ws top) 0
-        value-same = getD-set-other ws (2624 + placeAt ws top) (3200 + placeAt ws top) (base + kindAt ws top + 1) 0 (omega arith)
-
-  -- no word is written
-  entering-not : Stepped m base ws top hand ws (top - 1) hand → Entering m base ws top hand (transitiveAt ws top) (kindAt ws top) (kindAt ws top + 1) ws false
-  entering-not s = record { passed = λ e. s; accepted = λ e. absurd (true≢false (sym e)) }
+        value-same : getD marked (VALUE + placeAt ws top) 0 ≡ getD ws (VALUE + placeAt ws top) 0
+        value-same = getD-set-other ws (SEEN + placeAt ws top) (VALUE + placeAt ws top) (base + kindAt ws top + 1) 0 (omega arith)
 
   pub step-enters : {ws₁ : List ℕ} {r : Bool} → Enters ws (placeAt ws top) (base + kindAt ws top) ws₁ r → Entering m base ws top hand (transitiveAt ws top) (kindAt ws top) (kindAt ws top + 1) ws₁ r
-  step-enters {ws₁} {r} is = go (decLt (placeAt ws top) (getD ws 8322 0)) (decLt (base + kindAt ws top) (getD ws (2624 + placeAt ws top) 0))
+  step-enters {ws₁} {r} is = go (decLt (base + kindAt ws top) (getD ws (SEEN + placeAt ws top) 0))
     where
       to : {ws′ : List ℕ} {r′ : Bool} → Enters ws (placeAt ws top) (base + kindAt ws top) ws′ r′ → Entering m base ws top hand (transitiveAt ws top) (kindAt ws top) (kindAt ws top + 1) ws′ r′
           → Entering m base ws top hand (transitiveAt ws top) (kindAt ws top) (kindAt ws top + 1) ws₁ r
       to {ws′} {r′} e p = subst (λ (A : Type 0). A) (λ j. Entering m base ws top hand (transitiveAt ws top) (kindAt ws top) (kindAt ws top + 1) ((e .0 ∙ sym (is .0)) j) ((e .1 ∙ sym (is .1)) j)) p
 
-      go : Dec (placeAt ws top < getD ws 8322 0) → Dec (base + kindAt ws top < getD ws (2624 + placeAt ws top) 0) → Entering m base ws top hand (transitiveAt ws top) (kindAt ws top) (kindAt ws top + 1) ws₁ r
-      go (no h) d = to (enters-beyond ws (placeAt ws top) (base + kindAt ws top) (omega (arith, h))) (entering-not (step-beyond (omega (arith, h))))
-      go (yes h) (yes k) = to (enters-seen ws (placeAt ws top) (base + kindAt ws top) h k) (entering-not (step-seen k))
-      go (yes h) (no k) = to (enters-marked ws (placeAt ws top) (base + kindAt ws top) h (omega (arith, k))) (entering (omega (arith, k)) h)
+      go : Dec (base + kindAt ws top < getD ws (SEEN + placeAt ws top) 0) → Entering m base ws top hand (transitiveAt ws top) (kindAt ws top) (kindAt ws top + 1) ws₁ r
+      go (yes k) = to (enters-seen ws (placeAt ws top) (base + kindAt ws top) k) (record { passed = λ e. step-seen k; accepted = λ e. absurd (true≢false (sym e)) })
+      go (no k) = to (enters-marked ws (placeAt ws top) (base + kindAt ws top) (omega (arith, k))) (entering (omega (arith, k)))

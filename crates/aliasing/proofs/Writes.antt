@@ -8,7 +8,9 @@ use lib.ListN.{length, getD, set, take}
 use lib.Seq.{getD-take, getD-set-same, getD-set-other}
 use lib.Dec.{ltb, eqb}
 use borrow.Author.Tests.{ltb-true, eqb-true, lt-ltb, le-ltb, eq-eqb, ne-eqb}
+use Rattle.model.specs.Limits.{mostIdentifiers}
 use Rattle.model.specs.Lists.{pick}
+use Rattle.workspace.specs.Layout.{RECORD, LSPAN, TSPAN, END, SEEN}
 use Rattle.workspace.proofs.Parts.{Local, local-id, local-set, local-then, local-test}
 use Rattle.aliasing.specs.Accepts.{raiseW, keptWord, spanW, writeW, recordW, acceptW}
 use Rattle.aliasing.specs.declared.Mutation.{Mutation}
@@ -71,54 +73,54 @@ local-word n i f h a = record {
   post = λ l. a (getD l i 0) .post l;
 }
 
-pub span-below : (b : Bool) (x : ℕ) → x < 512 → pick b (1536 + x) (512 + x) < 2048
+pub span-below : (b : Bool) (x : ℕ) → x < mostIdentifiers → pick b (TSPAN + x) (LSPAN + x) < END
 span-below true x h = omega arith
 span-below false x h = omega arith
 
-local-write : (w x t k : ℕ) (m : Mutation) → x < 512 → Local 2624 (λ (l : List ℕ). writeW w l x t k m)
+local-write : (w x t k : ℕ) (m : Mutation) → x < mostIdentifiers → Local SEEN (λ (l : List ℕ). writeW w l x t k m)
 unfolding writeW
 local-write w x t k m h =
-    local-then (local-set 2624 (0 + x) (keptWord w t k (m .reason) (m .index)) (omega arith))
-    (local-span 2624 (pick (eqb t 1) (1536 + x) (512 + x)) (pick (eqb t 1) (w / 4 % 4) (w % 4)) k (m .span) (omega (arith, span-below (eqb t 1) x h)))
+    local-then (local-set SEEN (RECORD + x) (keptWord w t k (m .reason) (m .index)) (omega arith))
+    (local-span SEEN (pick (eqb t 1) (TSPAN + x) (LSPAN + x)) (pick (eqb t 1) (w / 4 % 4) (w % 4)) k (m .span) (omega (arith, span-below (eqb t 1) x h)))
 
-pub local-record : (x t k : ℕ) (m : Mutation) → x < 512 → Local 2624 (λ (l : List ℕ). recordW l x t k m)
+pub local-record : (x t k : ℕ) (m : Mutation) → x < mostIdentifiers → Local SEEN (λ (l : List ℕ). recordW l x t k m)
 unfolding recordW
-local-record x t k m h = local-word 2624 (0 + x) (λ w l. writeW w l x t k m) (omega arith) (λ w. local-write w x t k m h)
+local-record x t k m h = local-word SEEN (RECORD + x) (λ w l. writeW w l x t k m) (omega arith) (λ w. local-write w x t k m h)
 
-pub local-accept : (x t k : ℕ) (m : Mutation) → x < 512 → Local 2624 (λ (l : List ℕ). acceptW l x t k m)
+pub local-accept : (x t k : ℕ) (m : Mutation) → x < mostIdentifiers → Local SEEN (λ (l : List ℕ). acceptW l x t k m)
 unfolding acceptW
-local-accept x t k m h = local-then (local-record x t k m h) (local-raise 2624 (2112 + x) (m .end .0) (omega arith))
+local-accept x t k m h = local-then (local-record x t k m h) (local-raise SEEN (END + x) (m .end .0) (omega arith))
 
 -- ---- the arms of `record`: the word, and the span where the kind is below the level
 module _ (ws : List ℕ) (x t k : ℕ) (m : Mutation) where
   abbrev w : ℕ
-  w = getD ws (0 + x) 0
+  w = getD ws (RECORD + x) 0
 
   recorded : {v : ℕ} (b c : Bool) → b ≡ eqb t 1 → c ≡ ltb (pick b (w / 4 % 4) (w % 4)) k → v ≡ keptWord w t k (m .reason) (m .index)
-      → pick c (set (set ws (0 + x) v) (pick b (1536 + x) (512 + x)) (m .span)) (set ws (0 + x) v) ≡ recordW ws x t k m
+      → pick c (set (set ws (RECORD + x) v) (pick b (TSPAN + x) (LSPAN + x)) (m .span)) (set ws (RECORD + x) v) ≡ recordW ws x t k m
   unfolding recordW writeW spanW
   recorded {v} b c e f h =
-      ap (λ (d : Bool). pick d (set (set ws (0 + x) v) (pick b (1536 + x) (512 + x)) (m .span)) (set ws (0 + x) v)) f
-      ∙ (λ j. spanW (set ws (0 + x) (h j)) (pick (e j) (1536 + x) (512 + x)) (pick (e j) (w / 4 % 4) (w % 4)) k (m .span))
+      ap (λ (d : Bool). pick d (set (set ws (RECORD + x) v) (pick b (TSPAN + x) (LSPAN + x)) (m .span)) (set ws (RECORD + x) v)) f
+      ∙ (λ j. spanW (set ws (RECORD + x) (h j)) (pick (e j) (TSPAN + x) (LSPAN + x)) (pick (e j) (w / 4 % 4) (w % 4)) k (m .span))
 
   module _ {r i : ℕ} (reason : r ≡ max (w / 16 % 2) (m .reason)) (last : i ≡ max (w / 32) (m .index)) where
-    pub transitive-higher : t ≡ 1 → w / 4 % 4 < k → set (set ws (0 + x) (w % 4 + 4 * k + (16 * r + 32 * i))) (1536 + x) (m .span) ≡ recordW ws x t k m
+    pub transitive-higher : t ≡ 1 → w / 4 % 4 < k → set (set ws (RECORD + x) (w % 4 + 4 * k + (16 * r + 32 * i))) (TSPAN + x) (m .span) ≡ recordW ws x t k m
     transitive-higher e h =
         recorded true true (sym (eq-eqb t 1 e)) (sym (lt-ltb (w / 4 % 4) k h)) (kept-transitive w t k (m .reason) (m .index) reason last e k (omega (arith, h)))
 
-    pub transitive-stays : t ≡ 1 → k ≤ w / 4 % 4 → set ws (0 + x) (w % 4 + 4 * (w / 4 % 4) + (16 * r + 32 * i)) ≡ recordW ws x t k m
+    pub transitive-stays : t ≡ 1 → k ≤ w / 4 % 4 → set ws (RECORD + x) (w % 4 + 4 * (w / 4 % 4) + (16 * r + 32 * i)) ≡ recordW ws x t k m
     transitive-stays e h =
         recorded true false (sym (eq-eqb t 1 e)) (sym (le-ltb (w / 4 % 4) k h)) (kept-transitive w t k (m .reason) (m .index) reason last e (w / 4 % 4) (omega (arith, h)))
 
-    pub local-higher : (t ≡ 1 → ⊥) → w % 4 < k → set (set ws (0 + x) (k + 4 * (w / 4 % 4) + (16 * r + 32 * i))) (512 + x) (m .span) ≡ recordW ws x t k m
+    pub local-higher : (t ≡ 1 → ⊥) → w % 4 < k → set (set ws (RECORD + x) (k + 4 * (w / 4 % 4) + (16 * r + 32 * i))) (LSPAN + x) (m .span) ≡ recordW ws x t k m
     local-higher n h =
         recorded false true (sym (ne-eqb t 1 n)) (sym (lt-ltb (w % 4) k h)) (kept-local w t k (m .reason) (m .index) reason last n k (omega (arith, h)))
 
-    pub local-stays : (t ≡ 1 → ⊥) → k ≤ w % 4 → set ws (0 + x) (w % 4 + 4 * (w / 4 % 4) + (16 * r + 32 * i)) ≡ recordW ws x t k m
+    pub local-stays : (t ≡ 1 → ⊥) → k ≤ w % 4 → set ws (RECORD + x) (w % 4 + 4 * (w / 4 % 4) + (16 * r + 32 * i)) ≡ recordW ws x t k m
     local-stays n h =
         recorded false false (sym (ne-eqb t 1 n)) (sym (le-ltb (w % 4) k h)) (kept-local w t k (m .reason) (m .index) reason last n (w % 4) (omega (arith, h)))
 
 -- ---- the writes of `accept` one after another: the record, the end
-pub accepted : (ws : List ℕ) (x t k : ℕ) (m : Mutation) {ws₁ ws₂ : List ℕ} → ws₁ ≡ recordW ws x t k m → ws₂ ≡ raiseW ws₁ (2112 + x) (m .end .0) → ws₂ ≡ acceptW ws x t k m
+pub accepted : (ws : List ℕ) (x t k : ℕ) (m : Mutation) {ws₁ ws₂ : List ℕ} → ws₁ ≡ recordW ws x t k m → ws₂ ≡ raiseW ws₁ (END + x) (m .end .0) → ws₂ ≡ acceptW ws x t k m
 unfolding acceptW
-accepted ws x t k m written ended = ended ∙ ap (λ (l : List ℕ). raiseW l (2112 + x) (m .end .0)) written
+accepted ws x t k m written ended = ended ∙ ap (λ (l : List ℕ). raiseW l (END + x) (m .end .0)) written

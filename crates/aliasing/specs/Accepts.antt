@@ -5,12 +5,13 @@ use mathlib.Core.List.{List, [], _∷_}
 use lib.ListN.{getD, set}
 use lib.Dec.{ltb, eqb}
 use Rattle.model.specs.Lists.{pick}
-use Rattle.workspace.specs.Layout.{RECORD, LSPAN, TSPAN, END, SEEN, VALUE, NODES}
+use Rattle.workspace.specs.Graph.{MISSING, FUNCTION}
+use Rattle.workspace.specs.Layout.{RECORD, LSPAN, TSPAN, END, SEEN, VALUE}
 use Rattle.aliasing.specs.declared.Mutation.{Mutation}
 
--- can x have a node, and is its mark no higher than the level? From the limit on no mark is written
+-- is the mark of x no higher than the level?
 unfoldable pub freshW : List ℕ → ℕ → ℕ → Bool
-freshW ws x level = ltb x (getD ws NODES 0) && not (ltb level (getD ws (SEEN + x) 0))
+freshW ws x level = not (ltb level (getD ws (SEEN + x) 0))
 
 -- it is marked then
 unfoldable pub enterW : List ℕ → ℕ → ℕ → List ℕ
@@ -18,7 +19,7 @@ enterW ws x level = pick (freshW ws x level) (set ws (SEEN + x) (level + 1)) ws
 
 -- and accepted if it has a node
 unfoldable pub entersW : List ℕ → ℕ → ℕ → Bool
-entersW ws x level = freshW ws x level && not (eqb (getD ws (VALUE + x) 0) 0)
+entersW ws x level = freshW ws x level && not (eqb (getD ws (VALUE + x) 0) MISSING)
 
 -- the word at `at` becomes the larger of itself and v
 unfoldable pub raiseW : List ℕ → ℕ → ℕ → List ℕ
@@ -53,7 +54,7 @@ acceptW ws x transitive level m = raiseW (recordW ws x transitive level m) (END 
 
 -- the function of a node whose value is v, if it is a function node
 unfoldable pub functionW : ℕ → List ℕ
-functionW v = pick (ltb v 3) [] ((v - 3) ∷ [])
+functionW v = pick (ltb v FUNCTION) [] ((v - FUNCTION) ∷ [])
 
 -- the function that x hands over: its value is v, and it has no record
 unfoldable pub handW : List ℕ → ℕ → ℕ → Bool → List ℕ

@@ -4,7 +4,7 @@ use mathlib.Core.Bool.{Bool}
 use mathlib.Core.List.{List, map}
 use mathlib.Core.Path.{_≡_}
 use lib.ListN.{length, getD, drop}
-use Rattle.model.specs.Limits.{mostOrder, mostMutations}
+use Rattle.model.specs.Limits.{mostMutations, mostOrder}
 use Rattle.model.specs.Lists.{Every}
 use Rattle.model.specs.Mutation.{Mutation as ModelMutation}
 use Rattle.model.specs.State.{real}
@@ -15,14 +15,13 @@ use Rattle.workspace.specs.Rows.{rowsOf}
 use Rattle.workspace.specs.Graph.{tab}
 use Rattle.workspace.specs.Pending.{mutationOf, mutationsOf}
 use Rattle.aliasing.specs.Says.{modeSays, mutationSays}
-use Rattle.aliasing.specs.State.{Covered, stateOf, Handing}
+use Rattle.aliasing.specs.State.{stateOf, Handing}
 use Rattle.aliasing.specs.Walks.{Callable}
 use Rattle.aliasing.specs.declared.Mutation.{Mutation}
 
--- `count` mutations are pending, each of an instruction's order; every identifier that can have a node has its words
+-- `count` mutations are pending, each of an instruction's order
 pub record Pending (ws : List ℕ) (count : ℕ) : Type 0 where
   pub few : count ≤ mostMutations
-  pub covered : Covered ws
   pub orders : Every (λ (m : ModelMutation). m .order ≤ mostOrder) (mutationsOf ws count)
 
 -- the code's mutation is that of the three words, and real

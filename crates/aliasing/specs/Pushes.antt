@@ -8,6 +8,7 @@ use lib.ListN.{length}
 use lib.Seq.{sets}
 use lib.Dec.{ltb, eqb}
 use Rattle.model.specs.Lists.{pick}
+use Rattle.workspace.specs.Graph.{ALIASES, MAYBE, CAPTURES, PHI}
 use Rattle.workspace.specs.Layout.{LEAST, QUEUE, HANDED}
 use Rattle.workspace.specs.Rows.{rowsOf, value, fb, bb, rowF, rowB, Good}
 
@@ -17,7 +18,7 @@ entryW x transitive direction kind = x + 512 * transitive + 1024 * direction + 2
 
 -- the kind along a forward edge: over a maybe-alias it is Conditional
 unfoldable pub edgeLevel : ℕ → ℕ → ℕ
-edgeLevel w kind = pick (eqb (w / 512 % 4) 2) 0 kind
+edgeLevel w kind = pick (eqb (w / 512 % 4) MAYBE) 0 kind
 
 -- the entry along a forward edge
 abbrev pub forwardE : ℕ → ℕ → ℕ → ℕ
@@ -36,17 +37,17 @@ entriesW index transitive kind (w ∷ row) =
 
 -- a phi arrived at forwards
 abbrev pub blockedW : ℕ → ℕ → Bool
-blockedW v direction = pick (eqb direction 1) (eqb v 2) false
+blockedW v direction = pick (eqb direction 1) (eqb v PHI) false
 
 -- 3. aliases, then maybe-aliases
 unfoldable pub aliasesW : List ℕ → ℕ → ℕ → ℕ → ℕ → ℕ → List ℕ
 aliasesW g x direction index transitive kind =
     pick (blockedW (value g x) direction) []
-    (entriesW index transitive kind (rowB g (4 * x + 1)) ++ entriesW index transitive 0 (rowB g (4 * x + 2)))
+    (entriesW index transitive kind (rowB g (4 * x + ALIASES)) ++ entriesW index transitive 0 (rowB g (4 * x + MAYBE)))
 
 -- 4. captures
 unfoldable pub capturesW : List ℕ → ℕ → ℕ → ℕ → ℕ → List ℕ
-capturesW g x index transitive kind = pick (eqb transitive 1) (entriesW index transitive kind (rowB g (4 * x + 3))) []
+capturesW g x index transitive kind = pick (eqb transitive 1) (entriesW index transitive kind (rowB g (4 * x + CAPTURES))) []
 
 -- all that x pushes
 unfoldable pub pushedW : List ℕ → ℕ → ℕ → ℕ → ℕ → ℕ → List ℕ

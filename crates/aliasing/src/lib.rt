@@ -2,28 +2,28 @@
 ghost use mathlib.Core.Path.{_≡_};
 ghost use Prim.Native.Nat.{_+_, _-_, _*_, _≤_, _<_, max};
 ghost use lib.ListN.{length, getD};
-ghost use Rattle.model.specs.Limits.{mostOrder};
-ghost use Rattle.workspace.specs.Layout.{LEAST, SEEN, BASE, MUTATIONS, QUEUE, VALUE};
+ghost use Rattle.model.specs.Limits.{mostIdentifiers, mostOrder};
+ghost use Rattle.workspace.specs.Layout.{LEAST, BASE, MUTATIONS, QUEUE, VALUE};
 ghost use Rattle.workspace.specs.Rows.{Indexed};
 ghost use Rattle.aliasing.specs.Pushes.{Pushed};
 ghost use Rattle.workspace.specs.Pending.{kindOf};
 ghost use Rattle.aliasing.specs.Says.{bit, kindBit, kindSays};
-ghost use Rattle.aliasing.specs.State.{nodesOf, fieldAt, Handing, NoneAbove};
+ghost use Rattle.aliasing.specs.State.{Handing, NoneAbove};
 ghost use Rattle.aliasing.specs.Accepts.{enterW, entersW, raiseW, recordW, acceptW, functionW, handW};
-ghost use Rattle.aliasing.specs.Walks.{Ready, AllConditional, Callable, Stepped, Walked, Unmarked, BaseTaken, Mutated};
+ghost use Rattle.aliasing.specs.Walks.{mostBase, Ready, Callable, Stepped, Walked, Unmarked, BaseTaken, Mutated};
 ghost use Rattle.aliasing.specs.Pending.{Pending, Made, Processed};
 use crate::pushes::entry;
 use crate::pushes::push_all;
-use crate::pushes::push_whole;
 use hir::EvaluationOrder;
 use hir::IdentifierId;
 use workspace::BASE;
 use workspace::END;
+use workspace::FUNCTION;
 use workspace::HANDED;
-use workspace::KEPT;
+use workspace::IDENTIFIERS;
 use workspace::LSPAN;
+use workspace::MISSING;
 use workspace::MUTATIONS;
-use workspace::NODES;
 use workspace::QUEUE;
 use workspace::RECORD;
 use workspace::SEEN;
@@ -39,7 +39,7 @@ pub enum MutationKind {
     Definite,
 }
 
-// What `mutate` is called with. A simulated mutation has its end unset and records no errors; reason 0 is none, 1 AssignCurrentProperty. The fields stand so that no two that are written one by one are read as one word.
+// What `mutate` is called with. A simulated mutation has its end unset and records no errors; reason 0 is none, 1 AssignCurrentProperty.
 pub struct Mutation {
     pub end: EvaluationOrder,
     pub transitive: bool,
@@ -52,9 +52,9 @@ pub struct Mutation {
 }
 
 // What a step leaves: the queue's top, and where the next function is to be handed over.
-struct Next {
-    top: usize,
-    hand: usize,
+pub struct StepLeft {
+    pub top: usize,
+    pub hand: usize,
 }
 
 // What a walk leaves: the entries taken, and where the next function is to be handed over.
@@ -91,9 +91,9 @@ fn larger(a: u32, b: u32) -> u32
     if a < b { b } else { a }
 }
 
-// The record of an accepted node x: the higher kind of the transitive or local one with its span, the first reason, the largest index. The word is written in each arm, so that the kind is compared once.
+// The record of an accepted node x: the higher kind of the transitive or local one with its span, the first reason, the largest index.
 fn record(ws: &mut [u32], x: usize, transitive: u32, level: u32, m: Mutation)
-    requires { ⌜ (x < 512) × ((LEAST ≤ length (now ws)) × (level < 4)) ⌝ }
+    requires { ⌜ (x < mostIdentifiers) × ((LEAST ≤ length (now ws)) × (level < 4)) ⌝ }
     requires { ⌜ Callable m ⌝ }
     ensures { λ _. ⌜ now (ws .exit) ≡ recordW (now (ws .entry)) x transitive level m ⌝ }
 {
@@ -118,20 +118,9 @@ fn record(ws: &mut [u32], x: usize, transitive: u32, level: u32, m: Mutation)
     }
 }
 
-// The word of x in the field that begins at f: 0 for an identifier that none is kept for.
-pub fn field(ws: &[u32], f: usize, x: usize) -> u32
-    requires { ⌜ (f + x < SEEN) × (LEAST ≤ length (now ws)) ⌝ }
-    ensures { λ r. ⌜ r ≡ fieldAt (nodesOf (now (ws .entry))) f x ⌝ }
-{
-    if (x as u32) < ws[KEPT] {
-        return ws[f + x];
-    }
-    0
-}
-
 // What an accepted node keeps of the mutation.
 fn accept(ws: &mut [u32], x: usize, transitive: u32, level: u32, m: Mutation)
-    requires { ⌜ (x < 512) × ((LEAST ≤ length (now ws)) × (level < 4)) ⌝ }
+    requires { ⌜ (x < mostIdentifiers) × ((LEAST ≤ length (now ws)) × (level < 4)) ⌝ }
     requires { ⌜ Callable m ⌝ }
     ensures { λ _. ⌜ now (ws .exit) ≡ acceptW (now (ws .entry)) x transitive level m ⌝ }
 {
@@ -141,48 +130,45 @@ fn accept(ws: &mut [u32], x: usize, transitive: u32, level: u32, m: Mutation)
 }
 
 // A function node hands over its function, whose diagnostics the caller appends.
-pub fn append_function_errors(ws: &mut [u32], x: usize, hand: usize) -> usize
-    requires { ⌜ (x < 512) × ((LEAST ≤ length (now ws)) × (hand ≤ MUTATIONS)) ⌝ }
+pub fn hand_over_function(ws: &mut [u32], x: usize, hand: usize) -> usize
+    requires { ⌜ (x < mostIdentifiers) × ((LEAST ≤ length (now ws)) × (hand ≤ MUTATIONS)) ⌝ }
     ensures { λ r. ⌜ Pushed (now (ws .entry)) hand (functionW (getD (now (ws .entry)) (VALUE + x) 0)) (now (ws .exit)) r ⌝ }
 {
     let v = ws[VALUE + x];
-    if v < 3 {
+    if v < FUNCTION {
         return hand;
     }
-    ws[hand] = v - 3;
+    ws[hand] = v - FUNCTION;
     hand + 1
 }
 
 // A node without a record hands over its function, if errors are recorded.
 fn record_errors(ws: &mut [u32], x: usize, errors: bool, hand: usize) -> usize
-    requires { ⌜ (x < 512) × ((LEAST ≤ length (now ws)) × (hand ≤ MUTATIONS)) ⌝ }
+    requires { ⌜ (x < mostIdentifiers) × ((LEAST ≤ length (now ws)) × (hand ≤ MUTATIONS)) ⌝ }
     ensures { λ r. ⌜ Pushed (now (ws .entry)) hand (handW (now (ws .entry)) (getD (now (ws .entry)) (VALUE + x) 0) x errors) (now (ws .exit)) r ⌝ }
 {
     if errors {
         if ws[RECORD + x] % 16 == 0 {
-            return append_function_errors(ws, x, hand);
+            return hand_over_function(ws, x, hand);
         }
     }
     hand
 }
 
-// Is x to be accepted at this level? It has a node, and was not marked at a higher one; it is marked now. From the limit on there is no node, and neither value nor mark is written.
+// Is x to be accepted at this level? It has a node, and was not marked at a higher one; it is marked now.
 fn enter(ws: &mut [u32], x: usize, level: u32) -> bool
-    requires { ⌜ (x < 512) × ((LEAST ≤ length (now ws)) × (level ≤ 4097)) ⌝ }
+    requires { ⌜ (x < mostIdentifiers) × ((LEAST ≤ length (now ws)) × (level ≤ mostBase + 1)) ⌝ }
     ensures { λ r. ⌜ (now (ws .exit) ≡ enterW (now (ws .entry)) x level) × (r ≡ entersW (now (ws .entry)) x level) ⌝ }
 {
-    if ws[NODES] <= x as u32 {
-        return false;
-    }
     if level < ws[SEEN + x] {
         return false;
     }
     ws[SEEN + x] = level + 1;
-    ws[VALUE + x] != 0
+    ws[VALUE + x] != MISSING
 }
 
 // Takes the last entry pushed. The walk's levels count from `base` on.
-fn step(ws: &mut [u32], top: usize, hand: usize, m: Mutation, base: u32) -> Next
+fn step(ws: &mut [u32], top: usize, hand: usize, m: Mutation, base: u32) -> StepLeft
     requires { ⌜ Ready base (now ws) top hand ⌝ }
     requires { ⌜ Callable m ⌝ }
     requires { ⌜ QUEUE < top ⌝ }
@@ -193,14 +179,14 @@ fn step(ws: &mut [u32], top: usize, hand: usize, m: Mutation, base: u32) -> Next
     let x = (e % 512) as usize;
     let kind = e / 2048 % 2;
     if !enter(ws, x, base + kind) {
-        return Next { top: t, hand: hand };
+        return StepLeft { top: t, hand: hand };
     }
     let transitive = e / 512 % 2;
     let index = m.index;
     let h = record_errors(ws, x, m.should_record_errors, hand);
     accept(ws, x, transitive, kind + 1, m);
     let r = push_all(ws, x, e / 1024 % 2, index, transitive, kind, t);
-    Next { top: r, hand: h }
+    StepLeft { top: r, hand: h }
 }
 
 // Takes entries until none is left.
@@ -220,48 +206,6 @@ fn walk(ws: &mut [u32], top: usize, hand: usize, m: Mutation, base: u32) -> Take
     }
     Taken {
         count: taken,
-        hand: h,
-    }
-}
-
-// Takes the last entry pushed, in a walk whose entries are all transitive and Conditional.
-fn step_conditional(ws: &mut [u32], top: usize, hand: usize, m: Mutation, base: u32) -> Next
-    requires { ⌜ Ready base (now ws) top hand ⌝ }
-    requires { ⌜ Callable m ⌝ }
-    requires { ⌜ (QUEUE < top) × AllConditional (now ws) top ⌝ }
-    ensures { λ r. ⌜ Stepped m base (now (ws .entry)) top hand (now (ws .exit)) (r .top) (r .hand) ⌝ }
-{
-    let t = top - 1;
-    let e = ws[t];
-    let x = (e % 512) as usize;
-    if !enter(ws, x, base) {
-        return Next { top: t, hand: hand };
-    }
-    let index = m.index;
-    let h = record_errors(ws, x, m.should_record_errors, hand);
-    accept(ws, x, 1, 1, m);
-    let r = push_whole(ws, x, e / 1024 % 2, index, t);
-    Next { top: r, hand: h }
-}
-
-// Takes entries, all of them transitive and Conditional, until none is left.
-fn walk_conditional(ws: &mut [u32], top: usize, hand: usize, m: Mutation, base: u32) -> Taken
-    requires { ⌜ Ready base (now ws) top hand ⌝ }
-    requires { ⌜ Callable m ⌝ }
-    requires { ⌜ AllConditional (now ws) top ⌝ }
-    ensures { λ r. ⌜ Walked m base (now (ws .entry)) top hand (now (ws .exit)) (r .count) (r .hand) ⌝ }
-{
-    let mut t = top;
-    let mut h = hand;
-    let mut count: u32 = 0;
-    while QUEUE < t {
-        let r = step_conditional(ws, t, h, m, base);
-        t = r.top;
-        h = r.hand;
-        count += 1;
-    }
-    Taken {
-        count: count,
         hand: h,
     }
 }
@@ -286,8 +230,7 @@ pub fn clear_marks(ws: &mut [u32])
     requires { ⌜ Indexed (now ws) ⌝ }
     ensures { λ _. ⌜ Unmarked (now (ws .entry)) (now (ws .exit)) ⌝ }
 {
-    let nodes = ws[NODES] as usize;
-    clear(ws, SEEN, nodes);
+    clear(ws, SEEN, IDENTIFIERS);
     ws[BASE] = 0;
 }
 
@@ -316,11 +259,6 @@ pub fn mutate(ws: &mut [u32], hand: usize, m: Mutation) -> Taken
     let k = m.kind;
     let kind = kind_bit(k);
     ws[QUEUE] = entry(m.start.0, bit_of(m.transitive), 0, kind);
-    if m.transitive {
-        if kind == 0 {
-            return walk_conditional(ws, QUEUE + 1, hand, m, base);
-        }
-    }
     walk(ws, QUEUE + 1, hand, m, base)
 }
 

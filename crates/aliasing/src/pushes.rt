@@ -3,13 +3,18 @@ ghost use mathlib.Core.Path.{_≡_};
 ghost use Prim.Native.Nat.{_+_, _-_, _*_, _≤_, _<_};
 ghost use lib.ListN.{length};
 ghost use lib.Seq.{slice};
-ghost use Rattle.workspace.specs.Rows.{rowsOf, limit, rowF, rowB};
+ghost use Rattle.model.specs.Limits.{mostIdentifiers};
+ghost use Rattle.workspace.specs.Rows.{rowsOf, mostLists, rowF, rowB};
+ghost use Rattle.workspace.specs.Graph.{ALIASES, MAYBE, CAPTURES};
 ghost use Rattle.aliasing.specs.Pushes.{entryW, edgeLevel, forwardW, entriesW, blockedW, aliasesW, capturesW, pushedW, Pushed, Room, wordsF, wordsB, deg};
+use workspace::ALIASES;
 use workspace::BBOUND;
 use workspace::BENTRY;
+use workspace::CAPTURES;
 use workspace::FBOUND;
 use workspace::FEDGE;
-use workspace::NODES;
+use workspace::MAYBE;
+use workspace::PHI;
 use workspace::VALUE;
 
 fn wide(x: u32) -> usize
@@ -20,7 +25,7 @@ fn wide(x: u32) -> usize
 
 // An entry of the queue: the identifier, and a bit each for transitive, forwards and Definite.
 pub fn entry(place: u32, transitive: u32, direction: u32, kind: u32) -> u32
-    requires { ⌜ (place < 512) × ((transitive < 2) × ((direction < 2) × (kind < 2))) ⌝ }
+    requires { ⌜ (place < mostIdentifiers) × ((transitive < 2) × ((direction < 2) × (kind < 2))) ⌝ }
     ensures { λ r. ⌜ r ≡ entryW place transitive direction kind ⌝ }
 {
     place + 512 * transitive + 1024 * direction + 2048 * kind
@@ -31,7 +36,7 @@ fn edge_kind(w: u32, kind: u32) -> u32
     requires { ⌜ kind < 2 ⌝ }
     ensures { λ r. ⌜ (r < 2) × (r ≡ edgeLevel w kind) ⌝ }
 {
-    if w / 512 % 4 == 2 { 0 } else { kind }
+    if w / 512 % 4 == MAYBE { 0 } else { kind }
 }
 
 // Pushes the forward edges that lie from `at` to `end`. It stops at the first whose index is not below.
@@ -89,19 +94,7 @@ fn push_entries(
     len
 }
 
-// One list of entries: list l of node x is row 4 * x + l. A bound counts the words from its row on, so the first counts all. Rows from the limit on have no bounds.
-fn push_row(ws: &mut [u32], k: usize, index: u32, transitive: u32, kind: u32, top: usize) -> usize
-    requires { ⌜ Room (now ws) top (wordsB (rowsOf (now ws)) k) ⌝ }
-    requires { ⌜ (k < 2048) × ((transitive < 2) × ((kind < 2) × (k < 4 * limit (rowsOf (now ws))))) ⌝ }
-    ensures { λ r. ⌜ Pushed (now (ws .entry)) top (entriesW index transitive kind (rowB (rowsOf (now (ws .entry))) k)) (now (ws .exit)) r ⌝ }
-{
-    let all = wide(ws[BBOUND]);
-    let lo = all - wide(ws[BBOUND + k]);
-    let hi = all - wide(ws[BBOUND + k + 1]);
-    push_entries(ws, BENTRY + lo, BENTRY + hi, index, transitive, kind, top)
-}
-
-// The same for any row: one without bounds is empty.
+// One list of entries: list l of node x is row 4 * x + l. A bound counts the words from its row on, so the first counts all.
 pub fn push_list(
     ws: &mut [u32],
     k: usize,
@@ -111,19 +104,19 @@ pub fn push_list(
     top: usize,
 ) -> usize
     requires { ⌜ Room (now ws) top (wordsB (rowsOf (now ws)) k) ⌝ }
-    requires { ⌜ (k < 2048) × ((transitive < 2) × (kind < 2)) ⌝ }
+    requires { ⌜ (k < mostLists) × ((transitive < 2) × (kind < 2)) ⌝ }
     ensures { λ r. ⌜ Pushed (now (ws .entry)) top (entriesW index transitive kind (rowB (rowsOf (now (ws .entry))) k)) (now (ws .exit)) r ⌝ }
 {
-    if ws[NODES] <= (k / 4) as u32 {
-        return top;
-    }
-    push_row(ws, k, index, transitive, kind, top)
+    let all = wide(ws[BBOUND]);
+    let lo = all - wide(ws[BBOUND + k]);
+    let hi = all - wide(ws[BBOUND + k + 1]);
+    push_entries(ws, BENTRY + lo, BENTRY + hi, index, transitive, kind, top)
 }
 
 // Forward edges: Capture a -> b, Alias a -> b: mutate(a) => mutate(b).
 fn push_edges(ws: &mut [u32], x: usize, index: u32, transitive: u32, kind: u32, top: usize) -> usize
     requires { ⌜ Room (now ws) top (wordsF (rowsOf (now ws)) x) ⌝ }
-    requires { ⌜ (x < 512) × ((transitive < 2) × ((kind < 2) × (x < limit (rowsOf (now ws))))) ⌝ }
+    requires { ⌜ (x < mostIdentifiers) × ((transitive < 2) × (kind < 2)) ⌝ }
     ensures { λ r. ⌜ Pushed (now (ws .entry)) top (forwardW index transitive kind (rowF (rowsOf (now (ws .entry))) x)) (now (ws .exit)) r ⌝ }
 {
     let all = wide(ws[FBOUND]);
@@ -136,7 +129,7 @@ fn push_edges(ws: &mut [u32], x: usize, index: u32, transitive: u32, kind: u32, 
 fn blocked(v: u32, direction: u32) -> bool
     ensures { λ r. ⌜ r ≡ blockedW v direction ⌝ }
 {
-    if direction == 1 { v == 2 } else { false }
+    if direction == 1 { v == PHI } else { false }
 }
 
 // Backward alias edges, then MaybeAlias backward edges (downgrade to conditional).
@@ -149,15 +142,15 @@ fn push_aliases(
     kind: u32,
     top: usize,
 ) -> usize
-    requires { ⌜ Room (now ws) top (wordsB (rowsOf (now ws)) (4 * x + 1) + wordsB (rowsOf (now ws)) (4 * x + 2)) ⌝ }
-    requires { ⌜ (x < 512) × ((transitive < 2) × ((kind < 2) × (x < limit (rowsOf (now ws))))) ⌝ }
+    requires { ⌜ Room (now ws) top (wordsB (rowsOf (now ws)) (4 * x + ALIASES) + wordsB (rowsOf (now ws)) (4 * x + MAYBE)) ⌝ }
+    requires { ⌜ (x < mostIdentifiers) × ((transitive < 2) × (kind < 2)) ⌝ }
     ensures { λ r. ⌜ Pushed (now (ws .entry)) top (aliasesW (rowsOf (now (ws .entry))) x direction index transitive kind) (now (ws .exit)) r ⌝ }
 {
     if blocked(ws[VALUE + x], direction) {
         return top;
     }
-    let t = push_row(ws, 4 * x + 1, index, transitive, kind, top);
-    push_row(ws, 4 * x + 2, index, transitive, 0, t)
+    let t = push_list(ws, 4 * x + ALIASES as usize, index, transitive, kind, top);
+    push_list(ws, 4 * x + MAYBE as usize, index, transitive, 0, t)
 }
 
 // Only transitive mutations affect captures backward.
@@ -169,38 +162,18 @@ fn push_captures(
     kind: u32,
     top: usize,
 ) -> usize
-    requires { ⌜ Room (now ws) top (wordsB (rowsOf (now ws)) (4 * x + 3)) ⌝ }
-    requires { ⌜ (x < 512) × ((transitive < 2) × ((kind < 2) × (x < limit (rowsOf (now ws))))) ⌝ }
+    requires { ⌜ Room (now ws) top (wordsB (rowsOf (now ws)) (4 * x + CAPTURES)) ⌝ }
+    requires { ⌜ (x < mostIdentifiers) × ((transitive < 2) × (kind < 2)) ⌝ }
     ensures { λ r. ⌜ Pushed (now (ws .entry)) top (capturesW (rowsOf (now (ws .entry))) x index transitive kind) (now (ws .exit)) r ⌝ }
 {
     if transitive == 1 {
-        push_row(ws, 4 * x + 3, index, transitive, kind, top)
+        push_list(ws, 4 * x + CAPTURES as usize, index, transitive, kind, top)
     } else {
         top
     }
 }
 
 // All that node x pushes, in the original's order.
-fn push_node(
-    ws: &mut [u32],
-    x: usize,
-    direction: u32,
-    index: u32,
-    transitive: u32,
-    kind: u32,
-    top: usize,
-) -> usize
-    requires { ⌜ Room (now ws) top (deg (rowsOf (now ws)) x) ⌝ }
-    requires { ⌜ (x < 512) × ((transitive < 2) × ((kind < 2) × (x < limit (rowsOf (now ws))))) ⌝ }
-    ensures { λ r. ⌜ Pushed (now (ws .entry)) top (pushedW (rowsOf (now (ws .entry))) x direction index transitive kind) (now (ws .exit)) r ⌝ }
-{
-    let a = push_edges(ws, x, index, transitive, kind, top);
-    let b = push_row(ws, 4 * x, index, 1, kind, a);
-    let d = push_aliases(ws, x, direction, index, transitive, kind, b);
-    push_captures(ws, x, index, transitive, kind, d)
-}
-
-// The same for any identifier: one whose rows have no bounds pushes nothing.
 pub fn push_all(
     ws: &mut [u32],
     x: usize,
@@ -211,28 +184,11 @@ pub fn push_all(
     top: usize,
 ) -> usize
     requires { ⌜ Room (now ws) top (deg (rowsOf (now ws)) x) ⌝ }
-    requires { ⌜ (x < 512) × ((transitive < 2) × (kind < 2)) ⌝ }
+    requires { ⌜ (x < mostIdentifiers) × ((transitive < 2) × (kind < 2)) ⌝ }
     ensures { λ r. ⌜ Pushed (now (ws .entry)) top (pushedW (rowsOf (now (ws .entry))) x direction index transitive kind) (now (ws .exit)) r ⌝ }
 {
-    if ws[NODES] <= x as u32 {
-        return top;
-    }
-    push_node(ws, x, direction, index, transitive, kind, top)
-}
-
-// All that node x pushes in a transitive walk of kind Conditional: its four lists of entries lie side by side and are pushed alike, but for a phi arrived at forwards.
-pub fn push_whole(ws: &mut [u32], x: usize, direction: u32, index: u32, top: usize) -> usize
-    requires { ⌜ Room (now ws) top (deg (rowsOf (now ws)) x) ⌝ }
-    requires { ⌜ (x < 512) × (x < limit (rowsOf (now ws))) ⌝ }
-    ensures { λ r. ⌜ Pushed (now (ws .entry)) top (pushedW (rowsOf (now (ws .entry))) x direction index 1 0) (now (ws .exit)) r ⌝ }
-{
-    let t1 = push_edges(ws, x, index, 1, 0, top);
-    if blocked(ws[VALUE + x], direction) {
-        let b = push_row(ws, 4 * x, index, 1, 0, t1);
-        return push_row(ws, 4 * x + 3, index, 1, 0, b);
-    }
-    let all = wide(ws[BBOUND]);
-    let lo = all - wide(ws[BBOUND + 4 * x]);
-    let hi = all - wide(ws[BBOUND + 4 * x + 4]);
-    push_entries(ws, BENTRY + lo, BENTRY + hi, index, 1, 0, t1)
+    let a = push_edges(ws, x, index, transitive, kind, top);
+    let b = push_list(ws, 4 * x, index, 1, kind, a);
+    let d = push_aliases(ws, x, direction, index, transitive, kind, b);
+    push_captures(ws, x, index, transitive, kind, d)
 }

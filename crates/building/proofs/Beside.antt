@@ -7,10 +7,11 @@ use mathlib.Core.Option.{Option}
 use mathlib.Core.Path.{_≡_, refl, sym, ap, subst, _∙_}
 use lib.ListN.{take, drop}
 use lib.Seq.{slice}
+use Rattle.model.specs.Limits.{mostBlocks, mostMutations, mostRenders}
 use Rattle.model.specs.Mutation.{Kind, Reason}
 use Rattle.model.specs.Built.{mutates, comes}
 use Rattle.model.specs.Built.{renders as rendersPlace}
-use Rattle.workspace.specs.Layout.{SEEN, VALUE, EDGES, ENTRIES, PREDS, RELATIONS, HANDED, MUTATIONS, RENDERS, FUNCTIONS}
+use Rattle.workspace.specs.Layout.{SEEN, VALUE, FBOUND, EDGES, ENTRIES, PREDS, RELATIONS, HANDED, MUTATIONS, RENDERS, FUNCTIONS}
 use Rattle.workspace.specs.Pending.{mutationsOf, rendersOf}
 use Rattle.workspace.proofs.Parts.{drop-more, take-less, slice-take, slice-drop}
 use Rattle.workspace.proofs.Pending.{mutations-kept, renders-kept, mutations-below}
@@ -44,20 +45,20 @@ module _ (ws ws′ : List ℕ) (b : Building) (sound : Sound ws b) where
 
   stays-low : take HANDED ws′ ≡ take HANDED ws → Stays ws (b .held) ws′
   stays-low e = record {
-    logs = logs-eq (slice-take HANDED VALUE (VALUE + b .held .nodes) ws′ ws (omega (arith, sound .clean .few)) e) (slice-take HANDED EDGES (EDGES + b .held .edges) ws′ ws (omega (arith, sound .edges, sound .relations)) e)
+    logs = logs-eq (slice-take HANDED VALUE FBOUND ws′ ws (omega arith) e) (slice-take HANDED EDGES (EDGES + b .held .edges) ws′ ws (omega (arith, sound .edges, sound .relations)) e)
         (slice-take HANDED ENTRIES (ENTRIES + b .held .entries) ws′ ws (omega (arith, sound .entries, sound .relations)) e);
     operands = low-operands e;
   }
 
   stays-high : drop VALUE ws′ ≡ drop VALUE ws → Stays ws (b .held) ws′
   stays-high e = record {
-    logs = logs-eq (slice-drop VALUE VALUE (VALUE + b .held .nodes) ws′ ws (omega arith) (omega arith) e) (slice-drop VALUE EDGES (EDGES + b .held .edges) ws′ ws (omega arith) (omega arith) e)
+    logs = logs-eq (slice-drop VALUE VALUE FBOUND ws′ ws (omega arith) (omega arith) e) (slice-drop VALUE EDGES (EDGES + b .held .edges) ws′ ws (omega arith) (omega arith) e)
         (slice-drop VALUE ENTRIES (ENTRIES + b .held .entries) ws′ ws (omega arith) (omega arith) e);
     operands = waits-same ws ws′ (b .held) (b .held) (drop-more VALUE PREDS ws′ ws (omega arith) e) refl;
   }
 
 -- ---- a mutation
-module _ (t : Bool) (kind : Kind) (reason : Option Reason) (order x span i : ℕ) (ws : List ℕ) (b : Building) (ws′ : List ℕ) (sound : Sound ws b) (more : b .mutations < 512) (is : i ≡ indexOf b)
+module _ (t : Bool) (kind : Kind) (reason : Option Reason) (order x span i : ℕ) (ws : List ℕ) (b : Building) (ws′ : List ℕ) (sound : Sound ws b) (more : b .mutations < mostMutations) (is : i ≡ indexOf b)
     (s : PushesMutation (record { index = i; order = order; kind = kind; transitive = t; identifier = x; span = span; reason = reason }) ws (b .mutations) ws′) where
   mut-stays : Stays ws (b .held) ws′
   mut-stays = stays-low ws ws′ b sound (take-less HANDED (MUTATIONS + 3 * b .mutations) ws′ ws (omega arith) (s .kept .low))
@@ -90,7 +91,7 @@ module _ (t : Bool) (kind : Kind) (reason : Option Reason) (order x span i : ℕ
       }
 
 -- ---- a render
-module _ (x span i : ℕ) (ws : List ℕ) (b : Building) (ws′ : List ℕ) (sound : Sound ws b) (more : b .renders < 256) (is : i ≡ indexOf b)
+module _ (x span i : ℕ) (ws : List ℕ) (b : Building) (ws′ : List ℕ) (sound : Sound ws b) (more : b .renders < mostRenders) (is : i ≡ indexOf b)
     (s : PushesRender (record { index = i; identifier = x }) ws (b .renders) ws′) where
   ren-stays : Stays ws (b .held) ws′
   ren-stays = stays-low ws ws′ b sound (take-less HANDED (RENDERS + b .renders) ws′ ws (omega arith) (s .kept .low))
@@ -123,7 +124,7 @@ module _ (x span i : ℕ) (ws : List ℕ) (b : Building) (ws′ : List ℕ) (sou
       }
 
 -- ---- a block
-module _ (block : ℕ) (ws : List ℕ) (b : Building) (ws′ : List ℕ) (sound : Sound ws b) (more : b .come < 256) (s : PushesBlock block ws (b .come) ws′) where
+module _ (block : ℕ) (ws : List ℕ) (b : Building) (ws′ : List ℕ) (sound : Sound ws b) (more : b .come < mostBlocks) (s : PushesBlock block ws (b .come) ws′) where
   above : drop VALUE ws′ ≡ drop VALUE ws
   above = drop-more (SEEN + b .come + 1) VALUE ws′ ws (omega arith) (s .kept .high)
 

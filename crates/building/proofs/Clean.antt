@@ -1,5 +1,5 @@
 -- A missing node holds no word: each step keeps it so, and a new node is one write.
-use Prim.Native.Nat.{ℕ, _≤_, _<_}
+use Prim.Native.Nat.{ℕ, _<_}
 use native.Mathlib.Decide.{ℕ-discrete}
 use mathlib.Core.Bool.{Bool, true, false}
 use mathlib.Core.List.{List, [], _∷_, _++_}
@@ -8,6 +8,7 @@ use lib.ListN.{length, getD, set}
 use lib.Seq.{getD-set-same, getD-set-other}
 use lib.Dec.{eqb}
 use borrow.Author.Tests.{eq-eqb, ne-eqb}
+use Rattle.model.specs.Limits.{mostIdentifiers}
 use Rattle.model.specs.Lists.{pick}
 use Rattle.building.specs.Logs.{Logs, ownerW, without, anyW, onceW, Clean, createL, edgeL, entryL}
 
@@ -60,11 +61,11 @@ module _ (t w x : ℕ) (values l : List ℕ) (there : getD values (ownerW t w) 0
 
 pub clean-edge : (w : ℕ) (s : Logs) → Clean s → (getD (s .values) (ownerW 0 w) 0 ≡ 0 → ⊥) → Clean (edgeL w s)
 unfolding edgeL
-clean-edge w s c h = record { edges = λ x k e. last-clean 0 w x (s .values) (s .edges) h e (c .edges x k e); entries = c .entries; few = c .few }
+clean-edge w s c h = record { edges = λ x k e. last-clean 0 w x (s .values) (s .edges) h e (c .edges x k e); entries = c .entries }
 
 pub clean-entry : (w : ℕ) (s : Logs) → Clean s → (getD (s .values) (ownerW 1 w) 0 ≡ 0 → ⊥) → Clean (entryL w s)
 unfolding entryL
-clean-entry w s c h = record { edges = c .edges; entries = λ x k e. once-clean 1 w x (s .values) (s .entries) h e (c .entries x k e); few = c .few }
+clean-entry w s c h = record { edges = c .edges; entries = λ x k e. once-clean 1 w x (s .values) (s .entries) h e (c .entries x k e) }
 
 module _ (x n : ℕ) (v : List ℕ) (below : x < length v) (nonzero : n ≡ 0 → ⊥) (y : ℕ) (e : getD (set v x n) y 0 ≡ 0) where
   differ : y ≡ x → ⊥
@@ -78,14 +79,9 @@ unfolding createL
 clean-create x n s c h z = record {
   edges = λ y k e. without-swap 0 y x (s .edges) ∙ ap (without 0 x) (c .edges y k (was x n (s .values) h z y e));
   entries = λ y k e. without-swap 1 y x (s .entries) ∙ ap (without 1 x) (c .entries y k (was x n (s .values) h z y e));
-  few = c .few;
 }
 
 -- a new node: one write
-pub create-missing : (x n : ℕ) (s : Logs) → Clean s → x < 512 → getD (s .values) x 0 ≡ 0 → createL x n s ≡ record { values = set (s .values) x n; edges = s .edges; entries = s .entries; nodes = s .nodes }
+pub create-missing : (x n : ℕ) (s : Logs) → Clean s → x < mostIdentifiers → getD (s .values) x 0 ≡ 0 → createL x n s ≡ record { values = set (s .values) x n; edges = s .edges; entries = s .entries }
 unfolding createL
 create-missing x n s c h e = rw (c .edges x h e, c .entries x h e)
-
--- other values by which the same nodes are there
-pub clean-values : (v v′ l m : List ℕ) (k k′ : ℕ) → ((x : ℕ) → getD v′ x 0 ≡ getD v x 0) → k′ ≤ 512 → Clean (record { values = v; edges = l; entries = m; nodes = k }) → Clean (record { values = v′; edges = l; entries = m; nodes = k′ })
-clean-values v v′ l m k k′ same few c = record { edges = λ x h e. c .edges x h (sym (same x) ∙ e); entries = λ x h e. c .entries x h (sym (same x) ∙ e); few = few }

@@ -1,7 +1,6 @@
 -- The words that the logs hold are the edges and the entries of the graph.
 use Prim.Native.Nat.{ℕ, zero, suc, _+_, _-_, _*_, _≤_, _<_}
 use native.Mathlib.Omega.{arith}
-use native.Mathlib.Nat.{add-zero, add-suc}
 use native.Mathlib.Decide.{ℕ-discrete}
 use mathlib.Core.Bool.{Bool, true, false}
 use mathlib.Core.List.{List, [], _∷_, _++_, map}
@@ -107,35 +106,6 @@ module _ (s : Logs) (clean : Clean s) where
   unfolding graphOfLogs
   logs-entries = entries-below 512 (omega arith) ∙ low-all 1 2048 keys₁ (s .entries)
 
-  -- no word has a key from m on, if no identifier has a node there
-  module _ (m : ℕ) (few : m ≤ 512) (none : (x : ℕ) → m ≤ x → x < 512 → getD (s .values) x 0 ≡ 0) where
-    edges-up : (d : ℕ) → m + d ≤ 512 → low 0 (m + d) (s .edges) ≡ low 0 m (s .edges)
-    edges-up zero h = rw add-zero
-    edges-up (suc d) h = rw add-suc (omega (arith, low-suc 0 (m + d) (s .edges), no-edges (m + d) (omega arith) (none (m + d) (omega arith) (omega arith)), edges-up d (omega arith)))
-
-    entries-up : (d : ℕ) → m + d ≤ 512 → low 1 (4 * (m + d)) (s .entries) ≡ low 1 (4 * m) (s .entries)
-    entries-up zero h = rw add-zero
-    entries-up (suc d) h =
-        let e : getD (s .values) (m + d) 0 ≡ 0 = none (m + d) (omega arith) (omega arith) in
-        rw add-suc (omega (
-          arith,
-          four (m + d),
-          no-entries (m + d) 0 (omega arith) (omega arith) e,
-          no-entries (m + d) 1 (omega arith) (omega arith) e,
-          no-entries (m + d) 2 (omega arith) (omega arith) e,
-          no-entries (m + d) 3 (omega arith) (omega arith) e,
-          entries-up d (omega arith),
-        ))
-
-    pub edges-under : low 0 m (s .edges) ≡ length (s .edges)
-    edges-under =
-        let e : m + (512 - m) ≡ 512 = omega arith in
-        sym (edges-up (512 - m) (omega arith)) ∙ ap (λ (k : ℕ). low 0 k (s .edges)) e ∙ low-all 0 512 keys₀ (s .edges)
-
-    pub entries-under : low 1 (4 * m) (s .entries) ≡ length (s .entries)
-    entries-under =
-        let e : 4 * (m + (512 - m)) ≡ 2048 = omega arith in
-        sym (entries-up (512 - m) (omega arith)) ∙ ap (λ (k : ℕ). low 1 k (s .entries)) e ∙ low-all 1 2048 keys₁ (s .entries)
 
 -- ---- in the workspace
 module _ (ws : List ℕ) (h : Held) (room : Room 0 0 ws h) where

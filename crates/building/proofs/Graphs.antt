@@ -14,7 +14,7 @@ use Rattle.model.specs.Lists.{pick, mapOption}
 use Rattle.model.specs.Graph.{Edge, Node, nodeAt, hasNode, newNode, create, edgeKind, enter, withEdge, withEntry, change}
 use Rattle.workspace.specs.Sort.{keyW, wordW, sel}
 use Rattle.workspace.specs.Graph.{relationOf, valueOf, edgeRow, entryRow, ownNode, nodeOf, tab}
-use Rattle.workspace.proofs.Tables.{tab-at, tab-set, tab-same}
+use Rattle.workspace.proofs.Tables.{tab-at, tab-set}
 use Rattle.workspace.proofs.Graph.{node-same, node-some, node-none}
 use Rattle.building.specs.Logs.{Logs, graphOfLogs, without, onceW, createL, edgeL, entryL, edgeG, entryG}
 use Rattle.building.proofs.Words.{sel-hit, sel-miss, sel-own, sel-other, key-edge, key-entry, key-edge-is, key-entry-is, once-own, once-other}
@@ -30,13 +30,6 @@ there s x h e = rw (node-at s x h, node-some (s .values) (λ y. sel 0 y (s .edge
 
 pub missing : (s : Logs) (x : ℕ) → x < 512 → getD (s .values) x 0 ≡ 0 → hasNode (graphOfLogs s) x ≡ false
 missing s x h e = rw (node-at s x h, node-none (s .values) (λ y. sel 0 y (s .edges)) (λ k. sel 1 k (s .entries)) x e)
-
--- other values by which the same nodes are there, and are what they were
-pub values-step : (v v′ l m : List ℕ) (k k′ : ℕ) → ((x : ℕ) → getD v′ x 0 ≡ getD v x 0) → graphOfLogs (record { values = v′; edges = l; entries = m; nodes = k′ }) ≡ graphOfLogs (record { values = v; edges = l; entries = m; nodes = k })
-unfolding graphOfLogs
-values-step v v′ l m k k′ same =
-    tab-same 512 (nodeOf v′ (λ y. sel 0 y l) (λ k. sel 1 k m)) (nodeOf v (λ y. sel 0 y l) (λ k. sel 1 k m))
-    (λ x q. node-same v′ v (λ y. sel 0 y l) (λ y. sel 0 y l) (λ k. sel 1 k m) (λ k. sel 1 k m) x (same x) refl refl refl refl refl)
 
 -- ---- an edge
 map-edge : (w : ℕ) (l : List ℕ) → map edgeRow (l ++ (w ∷ [])) ≡ map edgeRow l ++ (edgeRow w ∷ [])

@@ -1,5 +1,4 @@
 pub mod Words
-pub mod Values
 pub mod Graphs
 pub mod Loops
 pub mod Clean
@@ -7,7 +6,6 @@ pub mod Writes
 pub mod Steps
 pub mod LayOut
 pub mod Operands
-pub mod Runs
 pub mod Counts
 pub mod Pushes
 pub mod Stages

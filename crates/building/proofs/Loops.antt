@@ -68,20 +68,6 @@ none-both test (v ∷ l) m p q = go (none-both test l m) (test v) p
     go ih true e = e
     go ih false e = ih e q
 
-none-in : (test : ℕ → Bool) (l : List ℕ) → anyP test l ≡ false → (j : ℕ) → j < length l → test (getD l j 0) ≡ true → ⊥
-unfolding anyP
-none-in test [] p j h e = absurd (omega arith)
-none-in test (v ∷ l) p zero h e = true≢false (sym (ap (λ (b : Bool). pick b true (anyP test l)) e) ∙ p)
-none-in test (v ∷ l) p (suc j) h e = none-in test l (rest (test v) p) j (omega arith) e
-  where
-    rest : (b : Bool) → pick b true (anyP test l) ≡ false → anyP test l ≡ false
-    rest true q = absurd (true≢false q)
-    rest false q = q
-
--- none of n words passes it
-pub none-at : (test : ℕ → Bool) (at n : ℕ) (ws : List ℕ) → at + n ≤ length ws → anyP test (slice at (at + n) ws) ≡ false → (j : ℕ) → j < n → test (getD ws (at + j) 0) ≡ true → ⊥
-none-at test at n ws fit p j h e = none-in test (slice at (at + n) ws) p j (omega (arith, length-slice at (at + n) ws fit)) (ap test (slice-at at (at + n) j ws (omega arith)) ∙ e)
-
 without-others : (t x : ℕ) (l m : List ℕ) → anyP (ownsW t x) l ≡ false → without t x (l ++ m) ≡ l ++ without t x m
 unfolding anyP without
 without-others t x [] m p = refl
@@ -91,22 +77,6 @@ without-others t x (w ∷ l) m p = go (without-others t x l m) (ownsW t x w) p
         → pick b (without t x (l ++ m)) (w ∷ without t x (l ++ m)) ≡ w ∷ (l ++ without t x m)
     go ih true e = absurd (true≢false e)
     go ih false e = ap (λ (r : List ℕ). w ∷ r) (ih e)
-
--- equal slices up to less
-pub slice-front : (f t e : ℕ) (l l′ : List ℕ) → f ≤ t → t ≤ e → e ≤ length l → e ≤ length l′ → slice f e l ≡ slice f e l′ → slice f t l ≡ slice f t l′
-slice-front f t e l l′ h k s s′ q =
-    let a : f + 0 ≡ f = omega arith in
-    let b : f + (t - f) ≡ t = omega arith in
-    let front : (m : List ℕ) → e ≤ length m → slice 0 (t - f) (slice f e m) ≡ slice f t m =
-    λ m g. slice-slice f e 0 (t - f) m (omega arith) g ∙ ap (λ (u : ℕ). slice u (f + (t - f)) m) a ∙ ap (λ (u : ℕ). slice f u m) b in
-    sym (front l s) ∙ ap (slice 0 (t - f)) q ∙ front l′ s′
-
--- a slice with the word after it
-pub slice-last : (at f i : ℕ) (l : List ℕ) → f ≤ i → at + i < length l → slice (at + f) (at + (i + 1)) l ≡ slice (at + f) (at + i) l ++ (getD l (at + i) 0 ∷ [])
-slice-last at f i l h k =
-    let q : at + (i + 1) ≡ suc (at + i) = omega arith in
-    ap (λ (t : ℕ). slice (at + f) t l) q ∙ slice-split (at + f) (at + i) (suc (at + i)) l (omega arith) (omega arith) (omega arith)
-    ∙ ap (λ (m : List ℕ). slice (at + f) (at + i) l ++ m) (slice-cons (at + i) (suc (at + i)) l 0 (omega arith) (omega arith) ∙ ap (λ (m : List ℕ). getD l (at + i) 0 ∷ m) (slice-empty (suc (at + i)) l))
 
 module _ (test : ℕ → Bool) (at n : ℕ) (ws : List ℕ) where
   pub others-start : Others test at n ws 0

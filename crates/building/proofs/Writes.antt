@@ -9,39 +9,42 @@ use lib.ListN.{length, getD, set, take, drop, length-set}
 use lib.Seq.{slice, length-slice, take-set-le, drop-set-lt}
 use lib.Dec.{eqb}
 use borrow.Author.Tests.{eq-eqb, ne-eqb, not-true, not-false}
+use Rattle.model.specs.Limits.{mostIdentifiers}
 use Rattle.model.specs.Graph.{Graph, hasNode, create}
 use Rattle.workspace.specs.Layout.{VALUE, FBOUND, EDGES, ENTRIES, PREDS, RELATIONS}
-use Rattle.workspace.specs.Graph.{valueOf}
-use Rattle.workspace.proofs.Parts.{drop-more, take-less, slice-take, slice-drop, slice-set-in, slice-push, slice-before, slice-after}
+use Rattle.workspace.specs.Graph.{MISSING, valueOf}
+use Rattle.workspace.proofs.Parts.{drop-more, take-less, slice-at, slice-take, slice-drop, slice-set-in, slice-push, slice-before, slice-after}
 use Rattle.building.specs.declared.Held.{Held}
 use Rattle.building.specs.Logs.{Logs, graphOfLogs, ownerW, without, Clean, anyW, onceW, createL, edgeL, entryL, edgeG, entryG}
-use Rattle.building.specs.Held.{valuesOf, hasValue, logsOf, graphOf, operandsOf, waitingOf, Room, Builds, Raises, Left}
-use Rattle.building.proofs.Graphs.{there, missing, values-step, create-step, edge-step, entry-step}
-use Rattle.building.proofs.Clean.{clean-edge, clean-entry, clean-create, create-missing, clean-values}
-use Rattle.building.proofs.Values.{value-word}
+use Rattle.building.specs.Held.{valuesOf, hasValue, logsOf, graphOf, operandsOf, waitingOf, Room, Builds, Left}
+use Rattle.building.proofs.Graphs.{there, missing, create-step, edge-step, entry-step}
+use Rattle.building.proofs.Clean.{clean-edge, clean-entry, clean-create, create-missing}
 
-pub logs-eq : {v v′ e e′ n n′ : List ℕ} {k : ℕ} → v ≡ v′ → e ≡ e′ → n ≡ n′ → _≡_ {A = Logs} (record { values = v; edges = e; entries = n; nodes = k }) (record { values = v′; edges = e′; entries = n′; nodes = k })
+pub logs-eq : {v v′ e e′ n n′ : List ℕ} → v ≡ v′ → e ≡ e′ → n ≡ n′ → _≡_ {A = Logs} (record { values = v; edges = e; entries = n }) (record { values = v′; edges = e′; entries = n′ })
 logs-eq p q r = cc
 
 -- ---- a node by its value
-module _ (ws : List ℕ) (h : Held) (x : ℕ) (below : x < 512) where
-  node-is : hasNode (graphOf ws h) x ≡ hasValue ws (h .nodes) x
-  unfolding graphOf hasValue
-  node-is = go (ℕ-discrete (getD (valuesOf ws (h .nodes)) x 0) 0)
+module _ (ws : List ℕ) (h : Held) (x : ℕ) (below : x < mostIdentifiers) where
+  value-word : getD (valuesOf ws) x 0 ≡ getD ws (VALUE + x) 0
+  value-word = slice-at VALUE FBOUND x ws (omega arith)
+
+  node-is : hasNode (graphOf ws h) x ≡ hasValue ws x
+  unfolding graphOf
+  node-is = go (ℕ-discrete (getD ws (VALUE + x) 0) MISSING)
     where
-      go : Dec (getD (valuesOf ws (h .nodes)) x 0 ≡ 0) → hasNode (graphOfLogs (logsOf ws h)) x ≡ not (eqb (getD (valuesOf ws (h .nodes)) x 0) 0)
-      go (yes e) = missing (logsOf ws h) x below e ∙ ap not (sym (eq-eqb (getD (valuesOf ws (h .nodes)) x 0) 0 e))
-      go (no e) = there (logsOf ws h) x below e ∙ ap not (sym (ne-eqb (getD (valuesOf ws (h .nodes)) x 0) 0 e))
+      go : Dec (getD ws (VALUE + x) 0 ≡ MISSING) → hasNode (graphOfLogs (logsOf ws h)) x ≡ not (eqb (getD ws (VALUE + x) 0) MISSING)
+      go (yes e) = missing (logsOf ws h) x below (value-word ∙ e) ∙ ap not (sym (eq-eqb (getD ws (VALUE + x) 0) MISSING e))
+      go (no e) = there (logsOf ws h) x below (λ p. e (sym value-word ∙ p)) ∙ ap not (sym (ne-eqb (getD ws (VALUE + x) 0) MISSING e))
 
   -- by the code's test, negated
-  pub node-there : (t : Bool) → t ≡ hasValue ws (h .nodes) x → not t ≡ false → hasNode (graphOf ws h) x ≡ true
+  pub node-there : (t : Bool) → t ≡ hasValue ws x → not t ≡ false → hasNode (graphOf ws h) x ≡ true
   node-there t e p = node-is ∙ sym e ∙ not-false t p
 
-  pub node-missing : (t : Bool) → t ≡ hasValue ws (h .nodes) x → not t ≡ true → hasNode (graphOf ws h) x ≡ false
+  pub node-missing : (t : Bool) → t ≡ hasValue ws x → not t ≡ true → hasNode (graphOf ws h) x ≡ false
   node-missing t e p = node-is ∙ sym e ∙ not-true t p
 
   -- a node that is there has a value
-  value-there : hasNode (graphOf ws h) x ≡ true → getD (valuesOf ws (h .nodes)) x 0 ≡ 0 → ⊥
+  value-there : hasNode (graphOf ws h) x ≡ true → getD (valuesOf ws) x 0 ≡ MISSING → ⊥
   unfolding graphOf
   value-there p e = true≢false (sym p ∙ missing (logsOf ws h) x below e)
 
@@ -83,17 +86,17 @@ unfolding ownerW
 own-entry w = refl
 
 module _ (ws : List ℕ) (h : Held) (w : ℕ) (room : Room 1 0 ws h) (held : hasNode (graphOf ws h) (w % 512) ≡ true) where
-  edge-logs : logsOf (set ws (EDGES + h .edges) w) (record { edges = h .edges + 1; entries = h .entries; waiting = h .waiting; nodes = h .nodes }) ≡ edgeL w (logsOf ws h)
+  edge-logs : logsOf (set ws (EDGES + h .edges) w) (record { edges = h .edges + 1; entries = h .entries; waiting = h .waiting }) ≡ edgeL w (logsOf ws h)
   unfolding edgeL
   edge-logs =
-      logs-eq (slice-after VALUE (VALUE + h .nodes) (EDGES + h .edges) w ws (omega (arith, room .clean .few)))
+      logs-eq (slice-after VALUE FBOUND (EDGES + h .edges) w ws (omega arith))
       (slice-push EDGES (h .edges) w ws (omega (arith, room .size, room .edges)))
       (slice-before ENTRIES (ENTRIES + h .entries) (EDGES + h .edges) w ws (omega (arith, room .edges)) (omega arith))
 
-  pub edge-builds : Builds (edgeG w) 1 0 ws h (set ws (EDGES + h .edges) w) (record { edges = h .edges + 1; entries = h .entries; waiting = h .waiting; nodes = h .nodes })
+  pub edge-builds : Builds (edgeG w) 1 0 ws h (set ws (EDGES + h .edges) w) (record { edges = h .edges + 1; entries = h .entries; waiting = h .waiting })
   edge-builds =
       builds-from (edgeL w) (edgeG w) ws h _ _ edge-logs 1 0 (edge-step w (logsOf ws h))
-      (clean-edge w (logsOf ws h) (room .clean) (λ e. value-there ws h (w % 512) (omega arith) held (ap (λ (x : ℕ). getD (valuesOf ws (h .nodes)) x 0) (sym (own-edge w)) ∙ e)))
+      (clean-edge w (logsOf ws h) (room .clean) (λ e. value-there ws h (w % 512) (omega arith) held (ap (λ (x : ℕ). getD (valuesOf ws) x 0) (sym (own-edge w)) ∙ e)))
       (omega arith) (omega arith) refl (take-set-le VALUE ws (EDGES + h .edges) w (omega arith)) (drop-set-lt PREDS ws (EDGES + h .edges) w (omega (arith, room .edges))) (length-set ws (EDGES + h .edges) w)
 
 -- ---- an entry
@@ -107,17 +110,17 @@ module _ (ws : List ℕ) (h : Held) (w : ℕ) (room : Room 0 1 ws h) (held : has
   once-old e = rw e
 
   still-clean : Clean (entryL w (logsOf ws h))
-  still-clean = clean-entry w (logsOf ws h) (room .clean) (λ e. value-there ws h (w / 512 % 512) (omega arith) held (ap (λ (x : ℕ). getD (valuesOf ws (h .nodes)) x 0) (sym (own-entry w)) ∙ e))
+  still-clean = clean-entry w (logsOf ws h) (room .clean) (λ e. value-there ws h (w / 512 % 512) (omega arith) held (ap (λ (x : ℕ). getD (valuesOf ws) x 0) (sym (own-entry w)) ∙ e))
 
-  entry-logs : anyW w (slice ENTRIES (ENTRIES + h .entries) ws) ≡ false → logsOf (set ws (ENTRIES + h .entries) w) (record { edges = h .edges; entries = h .entries + 1; waiting = h .waiting; nodes = h .nodes }) ≡ entryL w (logsOf ws h)
+  entry-logs : anyW w (slice ENTRIES (ENTRIES + h .entries) ws) ≡ false → logsOf (set ws (ENTRIES + h .entries) w) (record { edges = h .edges; entries = h .entries + 1; waiting = h .waiting }) ≡ entryL w (logsOf ws h)
   unfolding entryL
   entry-logs e =
-      logs-eq (slice-after VALUE (VALUE + h .nodes) (ENTRIES + h .entries) w ws (omega (arith, room .clean .few)))
+      logs-eq (slice-after VALUE FBOUND (ENTRIES + h .entries) w ws (omega arith))
       (slice-after EDGES (EDGES + h .edges) (ENTRIES + h .entries) w ws (omega (arith, room .edges)))
       (slice-push ENTRIES (h .entries) w ws (omega (arith, room .size, room .entries)) ∙ sym (once-new e))
 
   pub entry-builds : anyW w (slice ENTRIES (ENTRIES + h .entries) ws) ≡ false
-      → Builds (entryG w) 0 1 ws h (set ws (ENTRIES + h .entries) w) (record { edges = h .edges; entries = h .entries + 1; waiting = h .waiting; nodes = h .nodes })
+      → Builds (entryG w) 0 1 ws h (set ws (ENTRIES + h .entries) w) (record { edges = h .edges; entries = h .entries + 1; waiting = h .waiting })
   entry-builds e =
       builds-from (entryL w) (entryG w) ws h _ _ (entry-logs e) 0 1 (entry-step w (logsOf ws h)) still-clean
       (omega arith) (omega arith) refl (take-set-le VALUE ws (ENTRIES + h .entries) w (omega arith)) (drop-set-lt PREDS ws (ENTRIES + h .entries) w (omega (arith, room .entries))) (length-set ws (ENTRIES + h .entries) w)
@@ -129,10 +132,10 @@ module _ (ws : List ℕ) (h : Held) (w : ℕ) (room : Room 0 1 ws h) (held : has
   pub entry-kept : anyW w (slice ENTRIES (ENTRIES + h .entries) ws) ≡ true → Builds (entryG w) 0 1 ws h ws h
   entry-kept e = builds-from (entryL w) (entryG w) ws h ws h (entry-same e) 0 1 (entry-step w (logsOf ws h)) still-clean (omega arith) (omega arith) refl refl refl refl
 
--- ---- a creation among the values that are written
-module _ (ws : List ℕ) (h : Held) (x v : ℕ) (room : Room 0 0 ws h) (below : x < h .nodes) (nonzero : 0 < v) where
-  wide : x < length (valuesOf ws (h .nodes))
-  wide = omega (arith, length-slice VALUE (VALUE + h .nodes) ws (omega (arith, room .size, room .clean .few)))
+-- ---- a creation
+module _ (ws : List ℕ) (h : Held) (x v : ℕ) (room : Room 0 0 ws h) (below : x < mostIdentifiers) (nonzero : MISSING < v) where
+  wide : x < length (valuesOf ws)
+  wide = omega (arith, length-slice VALUE FBOUND ws (omega (arith, room .size)))
 
   step : graphOfLogs (createL x v (logsOf ws h)) ≡ create x (valueOf v) (graphOfLogs (logsOf ws h))
   step = create-step x v (logsOf ws h) wide (omega arith)
@@ -141,23 +144,23 @@ module _ (ws : List ℕ) (h : Held) (x v : ℕ) (room : Room 0 0 ws h) (below : 
   cleaned = clean-create x v (logsOf ws h) (room .clean) wide (omega arith)
 
   -- of a missing node: one write
-  new-logs : getD ws (VALUE + x) 0 ≡ 0 → logsOf (set ws (VALUE + x) v) h ≡ createL x v (logsOf ws h)
+  new-logs : getD ws (VALUE + x) 0 ≡ MISSING → logsOf (set ws (VALUE + x) v) h ≡ createL x v (logsOf ws h)
   new-logs e =
-      logs-eq (slice-set-in VALUE (VALUE + h .nodes) x ws v (omega arith))
-      (slice-before EDGES (EDGES + h .edges) (VALUE + x) v ws (omega (arith, room .clean .few)) (omega arith))
-      (slice-before ENTRIES (ENTRIES + h .entries) (VALUE + x) v ws (omega (arith, room .clean .few)) (omega arith))
-      ∙ sym (create-missing x v (logsOf ws h) (room .clean) (omega (arith, room .clean .few)) (value-word ws (h .nodes) x below ∙ e))
+      logs-eq (slice-set-in VALUE FBOUND x ws v (omega arith))
+      (slice-before EDGES (EDGES + h .edges) (VALUE + x) v ws (omega arith) (omega arith))
+      (slice-before ENTRIES (ENTRIES + h .entries) (VALUE + x) v ws (omega arith) (omega arith))
+      ∙ sym (create-missing x v (logsOf ws h) (room .clean) below (value-word ws h x below ∙ e))
 
-  new-builds : getD ws (VALUE + x) 0 ≡ 0 → Builds (create x (valueOf v)) 0 0 ws h (set ws (VALUE + x) v) h
-  new-builds e =
+  pub create-new : getD ws (VALUE + x) 0 ≡ MISSING → Builds (create x (valueOf v)) 0 0 ws h (set ws (VALUE + x) v) h
+  create-new e =
       builds-from (createL x v) (create x (valueOf v)) ws h _ _ (new-logs e) 0 0 step cleaned (omega arith) (omega arith) refl
-      (take-set-le VALUE ws (VALUE + x) v (omega arith)) (drop-set-lt PREDS ws (VALUE + x) v (omega (arith, room .clean .few))) (length-set ws (VALUE + x) v)
+      (take-set-le VALUE ws (VALUE + x) v (omega arith)) (drop-set-lt PREDS ws (VALUE + x) v (omega arith)) (length-set ws (VALUE + x) v)
 
   module _ (ws₁ : List ℕ) (e : ℕ) (l₁ : Left 0 EDGES (h .edges) x ws ws₁ e) (ws₂ : List ℕ) (n : ℕ) (l₂ : Left 1 ENTRIES (h .entries) x ws₁ ws₂ n) where
-    values₂ : valuesOf ws₂ (h .nodes) ≡ valuesOf ws (h .nodes)
+    values₂ : valuesOf ws₂ ≡ valuesOf ws
     values₂ =
-        slice-take ENTRIES VALUE (VALUE + h .nodes) ws₂ ws₁ (omega (arith, room .clean .few)) (l₂ .kept .low)
-        ∙ slice-take EDGES VALUE (VALUE + h .nodes) ws₁ ws (omega (arith, room .clean .few)) (l₁ .kept .low)
+        slice-take ENTRIES VALUE FBOUND ws₂ ws₁ (omega arith) (l₂ .kept .low)
+        ∙ slice-take EDGES VALUE FBOUND ws₁ ws (omega arith) (l₁ .kept .low)
 
     edges₂ : slice EDGES (EDGES + e) ws₂ ≡ without 0 x (slice EDGES (EDGES + h .edges) ws)
     edges₂ = slice-take ENTRIES EDGES (EDGES + e) ws₂ ws₁ (omega (arith, l₁ .few, room .edges)) (l₂ .kept .low) ∙ l₁ .log
@@ -165,18 +168,18 @@ module _ (ws : List ℕ) (h : Held) (x v : ℕ) (room : Room 0 0 ws h) (below : 
     entries₁ : slice ENTRIES (ENTRIES + h .entries) ws₁ ≡ slice ENTRIES (ENTRIES + h .entries) ws
     entries₁ = slice-drop (EDGES + h .edges) ENTRIES (ENTRIES + h .entries) ws₁ ws (omega (arith, room .edges)) (omega arith) (l₁ .kept .high)
 
-    again-logs : logsOf (set ws₂ (VALUE + x) v) (record { edges = e; entries = n; waiting = h .waiting; nodes = h .nodes }) ≡ createL x v (logsOf ws h)
+    again-logs : logsOf (set ws₂ (VALUE + x) v) (record { edges = e; entries = n; waiting = h .waiting }) ≡ createL x v (logsOf ws h)
     unfolding createL
     again-logs =
-        logs-eq (slice-set-in VALUE (VALUE + h .nodes) x ws₂ v (omega arith) ∙ ap (λ (l : List ℕ). set l x v) values₂)
-        (slice-before EDGES (EDGES + e) (VALUE + x) v ws₂ (omega (arith, room .clean .few)) (omega arith) ∙ edges₂)
-        (slice-before ENTRIES (ENTRIES + n) (VALUE + x) v ws₂ (omega (arith, room .clean .few)) (omega arith) ∙ l₂ .log ∙ ap (without 1 x) entries₁)
+        logs-eq (slice-set-in VALUE FBOUND x ws₂ v (omega arith) ∙ ap (λ (l : List ℕ). set l x v) values₂)
+        (slice-before EDGES (EDGES + e) (VALUE + x) v ws₂ (omega arith) (omega arith) ∙ edges₂)
+        (slice-before ENTRIES (ENTRIES + n) (VALUE + x) v ws₂ (omega arith) (omega arith) ∙ l₂ .log ∙ ap (without 1 x) entries₁)
 
-    again-builds : Builds (create x (valueOf v)) 0 0 ws h (set ws₂ (VALUE + x) v) (record { edges = e; entries = n; waiting = h .waiting; nodes = h .nodes })
-    again-builds =
+    pub create-again : Builds (create x (valueOf v)) 0 0 ws h (set ws₂ (VALUE + x) v) (record { edges = e; entries = n; waiting = h .waiting })
+    create-again =
         builds-from (createL x v) (create x (valueOf v)) ws h _ _ again-logs 0 0 step cleaned (omega (arith, l₁ .few)) (omega (arith, l₂ .few)) refl
         (take-set-le VALUE ws₂ (VALUE + x) v (omega arith) ∙ take-less VALUE ENTRIES ws₂ ws₁ (omega arith) (l₂ .kept .low) ∙ take-less VALUE EDGES ws₁ ws (omega arith) (l₁ .kept .low))
-        (drop-set-lt PREDS ws₂ (VALUE + x) v (omega (arith, room .clean .few))
+        (drop-set-lt PREDS ws₂ (VALUE + x) v (omega arith)
         ∙ drop-more (ENTRIES + h .entries) PREDS ws₂ ws₁ (omega (arith, room .entries)) (l₂ .kept .high)
         ∙ drop-more (EDGES + h .edges) PREDS ws₁ ws (omega (arith, room .edges)) (l₁ .kept .high))
         (length-set ws₂ (VALUE + x) v ∙ l₂ .kept .same ∙ l₁ .kept .same)
@@ -212,57 +215,3 @@ room-then c d room s = record {
 
 pub room-less : {a b : ℕ} {ws : List ℕ} {h : Held} (c d : ℕ) → c ≤ a → d ≤ b → Room a b ws h → Room c d ws h
 room-less c d p q room = record { size = room .size; edges = omega (arith, room .edges); entries = omega (arith, room .entries); clean = room .clean }
-
--- ---- a creation: first the values are raised above x
-module _ (ws : List ℕ) (h : Held) (x v : ℕ) (room : Room 0 0 ws h) (nonzero : 0 < v) (ws₀ : List ℕ) (k : ℕ) (up : Raises (h .nodes) x ws ws₀ k) where
-  abbrev wider : Held
-  wider = record { edges = h .edges; entries = h .entries; waiting = h .waiting; nodes = k }
-
-  -- the logs lie behind the values
-  edges-stay : slice EDGES (EDGES + h .edges) ws₀ ≡ slice EDGES (EDGES + h .edges) ws
-  edges-stay = slice-drop FBOUND EDGES (EDGES + h .edges) ws₀ ws (omega arith) (omega arith) (up .kept .high)
-
-  entries-stay : slice ENTRIES (ENTRIES + h .entries) ws₀ ≡ slice ENTRIES (ENTRIES + h .entries) ws
-  entries-stay = slice-drop FBOUND ENTRIES (ENTRIES + h .entries) ws₀ ws (omega arith) (omega arith) (up .kept .high)
-
-  abbrev between : Logs
-  between = record { values = valuesOf ws₀ k; edges = slice EDGES (EDGES + h .edges) ws; entries = slice ENTRIES (ENTRIES + h .entries) ws; nodes = k }
-
-  wider-logs : logsOf ws₀ wider ≡ between
-  wider-logs = logs-eq refl edges-stay entries-stay
-
-  wider-graph : graphOf ws₀ wider ≡ graphOf ws h
-  unfolding graphOf
-  wider-graph =
-      ap graphOfLogs wider-logs
-      ∙ values-step (valuesOf ws (h .nodes)) (valuesOf ws₀ k) (slice EDGES (EDGES + h .edges) ws) (slice ENTRIES (ENTRIES + h .entries) ws) (h .nodes) k (up .values)
-
-  wider-clean : Clean (logsOf ws₀ wider)
-  wider-clean =
-      subst Clean (sym wider-logs)
-      (clean-values (valuesOf ws (h .nodes)) (valuesOf ws₀ k) (slice EDGES (EDGES + h .edges) ws) (slice ENTRIES (ENTRIES + h .entries) ws) (h .nodes) k (up .values) (up .few) (room .clean))
-
-  widened : Builds (λ (g : Graph). g) 0 0 ws h ws₀ wider
-  widened =
-      let high : drop PREDS ws₀ ≡ drop PREDS ws = drop-more FBOUND PREDS ws₀ ws (omega arith) (up .kept .high) in
-      record {
-        graph = wider-graph;
-        operands = waits-same ws ws₀ h wider high refl;
-        clean = wider-clean;
-        edges = omega arith;
-        entries = omega arith;
-        count = refl;
-        low = up .kept .low;
-        high = high;
-        same = up .kept .same;
-      }
-
-  wider-room : Room 0 0 ws₀ wider
-  wider-room = room-then 0 0 room widened
-
-  pub create-new : getD ws₀ (VALUE + x) 0 ≡ 0 → Builds (create x (valueOf v)) 0 0 ws h (set ws₀ (VALUE + x) v) wider
-  create-new e = builds-then 0 0 (omega arith) (omega arith) widened (new-builds ws₀ wider x v wider-room (up .above) nonzero e)
-
-  pub create-again : (ws₁ : List ℕ) (e : ℕ) → Left 0 EDGES (h .edges) x ws₀ ws₁ e → (ws₂ : List ℕ) (n : ℕ) → Left 1 ENTRIES (h .entries) x ws₁ ws₂ n
-      → Builds (create x (valueOf v)) 0 0 ws h (set ws₂ (VALUE + x) v) (record { edges = e; entries = n; waiting = h .waiting; nodes = k })
-  create-again ws₁ e l₁ ws₂ n l₂ = builds-then 0 0 (omega arith) (omega arith) widened (again-builds ws₀ wider x v wider-room (up .above) nonzero ws₁ e l₁ ws₂ n l₂)

@@ -4,7 +4,7 @@ use mathlib.Core.Bool.{false}
 use mathlib.Core.List.{List, [], _∷_, _++_}
 use mathlib.Core.Path.{_≡_}
 use lib.ListN.{length, getD, take, drop}
-use Rattle.model.specs.Limits.{mostIdentifiers}
+use Rattle.model.specs.Limits.{mostIdentifiers, mostFunctions, mostBlocks, mostRelations, mostMutations, mostRenders}
 use Rattle.model.specs.Sheet.{BlockId, Place}
 use Rattle.model.specs.Graph.{Value, object, phi, function}
 use Rattle.model.specs.Mutation.{Mutation, RenderOf}
@@ -12,7 +12,7 @@ use Rattle.model.specs.Built.{Built}
 use Rattle.model.specs.Building.{noNodes}
 use Rattle.model.specs.Size as size
 use Rattle.workspace.specs.Layout.{LEAST, SEEN, VALUE, FBOUND, QUEUE, MUTATIONS, RENDERS, FUNCTIONS}
-use Rattle.workspace.specs.Rows.{rowsOf, fb, bb, Indexed, Kept}
+use Rattle.workspace.specs.Rows.{rowsOf, mostLists, fb, bb, Indexed, Kept}
 use Rattle.workspace.specs.Graph.{graphOfRows}
 use Rattle.workspace.specs.Pending.{mutationsOf, rendersOf}
 use Rattle.building.specs.declared.Building.{Building}
@@ -27,11 +27,11 @@ valueIs Object = object
 valueIs Phi = phi
 valueIs (Function f) = function (f .0)
 
--- an inner function's number is below 64
+-- an inner function's number is one of a sheet's
 abbrev pub FunctionBelow : NodeValue → Type 0
 FunctionBelow Object = Unit {0}
 FunctionBelow Phi = Unit {0}
-FunctionBelow (Function f) = f .0 < 64
+FunctionBelow (Function f) = f .0 < mostFunctions
 
 -- a place of which only the identifier and the span matter
 abbrev pub placeAt : ℕ → ℕ → Place
@@ -63,10 +63,10 @@ pub record Sound (ws : List ℕ) (b : Building) : Type 0 where
   pub clean : Clean (logsOf ws (b .held))
   pub edges : b .held .edges + b .held .waiting ≤ b .relations
   pub entries : b .held .entries + b .held .waiting ≤ b .relations
-  pub relations : b .relations ≤ 1024
-  pub mutations : b .mutations ≤ 512
-  pub renders : b .renders ≤ 256
-  pub come : b .come ≤ 256
+  pub relations : b .relations ≤ mostRelations
+  pub mutations : b .mutations ≤ mostMutations
+  pub renders : b .renders ≤ mostRenders
+  pub come : b .come ≤ mostBlocks
 
 -- a step of the definition, in which d relation effects, m mutations, n renders and k blocks come; the words before SEEN and from FUNCTIONS on stay
 pub record Steps (f : Built → Built) (d m n k : ℕ) (ws : List ℕ) (b : Building) (ws′ : List ℕ) (r : Building) : Type 0 where
@@ -79,10 +79,6 @@ pub record Steps (f : Built → Built) (d m n k : ℕ) (ws : List ℕ) (b : Buil
   pub low : take SEEN ws′ ≡ take SEEN ws
   pub high : drop FUNCTIONS ws′ ≡ drop FUNCTIONS ws
   pub same : length ws′ ≡ length ws
-
--- the building that has nodes and nothing else, each of them below `nodes`
-abbrev pub begun : ℕ → Building
-begun nodes = record { held = record { edges = 0; entries = 0; waiting = 0; nodes = nodes }; come = 0; relations = 0; mutations = 0; renders = 0 }
 
 -- nothing is built: no identifier has a node
 abbrev pub nothing : Built
@@ -104,8 +100,8 @@ pub record Starts (ws ws′ : List ℕ) (r : Building) : Type 0 where
 pub record LaysOut (ws : List ℕ) (b : Building) (ws′ : List ℕ) : Type 0 where
   pub indexed : Indexed ws′
   pub graph : graphOfRows (rowsOf ws′) ≡ builtOf ws b .graph
-  pub edges : fb (rowsOf ws′) 512 ≡ size.edges (builtOf ws b .graph)
-  pub entries : bb (rowsOf ws′) 2048 ≡ size.entries (builtOf ws b .graph)
+  pub edges : fb (rowsOf ws′) mostIdentifiers ≡ size.edges (builtOf ws b .graph)
+  pub entries : bb (rowsOf ws′) mostLists ≡ size.entries (builtOf ws b .graph)
   pub mutations : mutationsOf ws′ (b .mutations) ≡ builtOf ws b .mutations
   pub renders : rendersOf ws′ (b .renders) ≡ builtOf ws b .renders
   pub low : take FBOUND ws′ ≡ take FBOUND ws

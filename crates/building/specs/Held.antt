@@ -3,30 +3,31 @@ use Prim.Native.Nat.{ℕ, _+_, _/_, _%_, _≤_, _<_}
 use mathlib.Core.Bool.{Bool, false, not}
 use mathlib.Core.List.{List, [], _∷_, _++_}
 use mathlib.Core.Path.{_≡_}
-use lib.ListN.{length, getD, set, take, drop}
+use lib.ListN.{length, getD, take, drop}
 use lib.Seq.{slice}
 use lib.Dec.{eqb}
+use Rattle.model.specs.Limits.{mostIdentifiers, mostRelations}
 use Rattle.model.specs.Lists.{keep, each}
 use Rattle.model.specs.Graph.{Graph, intoAliases, relate}
 use Rattle.model.specs.Built.{Waiting}
 use Rattle.model.specs.Building.{waitingFor}
 use Rattle.workspace.specs.Layout.{LEAST, VALUE, FBOUND, EDGES, ENTRIES, PREDS, RELATIONS, QUEUE, HANDED}
-use Rattle.workspace.specs.Rows.{rowsOf, fb, bb, Indexed, Kept}
-use Rattle.workspace.specs.Graph.{graphOfRows}
+use Rattle.workspace.specs.Rows.{rowsOf, mostLists, fb, bb, Indexed, Kept}
+use Rattle.workspace.specs.Graph.{MISSING, graphOfRows}
 use Rattle.building.specs.declared.Held.{Held}
 use Rattle.building.specs.Logs.{Logs, graphOfLogs, without, anyP, Clean}
 
--- the first n values
-abbrev pub valuesOf : List ℕ → ℕ → List ℕ
-valuesOf ws n = slice VALUE (VALUE + n) ws
+-- the values
+abbrev pub valuesOf : List ℕ → List ℕ
+valuesOf ws = slice VALUE FBOUND ws
 
--- has x one among them?
-unfoldable pub hasValue : List ℕ → ℕ → ℕ → Bool
-hasValue ws n x = not (eqb (getD (valuesOf ws n) x 0) 0)
+-- has x one?
+abbrev pub hasValue : List ℕ → ℕ → Bool
+hasValue ws x = not (eqb (getD ws (VALUE + x) 0) MISSING)
 
 -- the logs
 abbrev pub logsOf : List ℕ → Held → Logs
-logsOf ws h = record { values = valuesOf ws (h .nodes); edges = slice EDGES (EDGES + h .edges) ws; entries = slice ENTRIES (ENTRIES + h .entries) ws; nodes = h .nodes }
+logsOf ws h = record { values = valuesOf ws; edges = slice EDGES (EDGES + h .edges) ws; entries = slice ENTRIES (ENTRIES + h .entries) ws }
 
 -- the graph so far
 unfoldable pub graphOf : List ℕ → Held → Graph
@@ -49,8 +50,8 @@ waitingOf ws h = operandsOf (slice PREDS (PREDS + h .waiting) ws) (slice RELATIO
 -- room for a edges and b entries more, when all that waits is stored too; a missing node holds no word
 pub record Room (a b : ℕ) (ws : List ℕ) (h : Held) : Type 0 where
   pub size : LEAST ≤ length ws
-  pub edges : h .edges + h .waiting + a ≤ 1024
-  pub entries : h .entries + h .waiting + b ≤ 1024
+  pub edges : h .edges + h .waiting + a ≤ mostRelations
+  pub entries : h .entries + h .waiting + b ≤ mostRelations
   pub clean : Clean (logsOf ws h)
 
 -- a step on the graph; what waits stays, and so do the words before the values and after the logs; at most a edges and b entries more are held
@@ -64,13 +65,6 @@ pub record Builds (f : Graph → Graph) (a b : ℕ) (ws : List ℕ) (h : Held) (
   pub low : take VALUE ws′ ≡ take VALUE ws
   pub high : drop PREDS ws′ ≡ drop PREDS ws
   pub same : length ws′ ≡ length ws
-
--- r values are written where n were, and more than x: no identifier gets a node
-pub record Raises (n x : ℕ) (ws ws′ : List ℕ) (r : ℕ) : Type 0 where
-  pub values : (y : ℕ) → getD (valuesOf ws′ r) y 0 ≡ getD (valuesOf ws n) y 0
-  pub kept : Kept VALUE FBOUND ws ws′
-  pub above : x < r
-  pub few : r ≤ 512
 
 -- of n words none of the first r passes the test
 pub record Others (test : ℕ → Bool) (at n : ℕ) (ws : List ℕ) (r : ℕ) : Type 0 where
@@ -95,31 +89,6 @@ pub record Waits (w : Waiting) (ws : List ℕ) (h : Held) (ws′ : List ℕ) (r 
   pub high : drop HANDED ws′ ≡ drop HANDED ws
   pub same : length ws′ ≡ length ws
 
--- the two words of an operand at k
-abbrev pub downW : ℕ → ℕ → ℕ → List ℕ → List ℕ
-downW k p w ws = set (set ws (PREDS + k) p) (RELATIONS + k) w
-
--- the four operands from i on at k too
-unfoldable pub fourW : List ℕ → ℕ → ℕ → List ℕ
-fourW ws i k =
-    downW (k + 3) (getD ws (PREDS + (i + 3)) 0) (getD ws (RELATIONS + (i + 3)) 0)
-    (downW (k + 2) (getD ws (PREDS + (i + 2)) 0) (getD ws (RELATIONS + (i + 2)) 0)
-    (downW (k + 1) (getD ws (PREDS + (i + 1)) 0) (getD ws (RELATIONS + (i + 1)) 0)
-    (downW k (getD ws (PREDS + i) 0) (getD ws (RELATIONS + i) 0) ws)))
-
--- the operands from `from` to r, of which none waits for the block, follow the first `left` up to k; the words before the operands and those of the operands from r on stay
-pub record Moved (block from left n : ℕ) (ws : List ℕ) (r k : ℕ) (ws′ : List ℕ) : Type 0 where
-  pub none : anyP (eqb block) (slice (PREDS + from) (PREDS + r) ws) ≡ false
-  pub preds : slice PREDS (PREDS + k) ws′ ≡ slice PREDS (PREDS + left) ws ++ slice (PREDS + from) (PREDS + r) ws
-  pub relations : slice RELATIONS (RELATIONS + k) ws′ ≡ slice RELATIONS (RELATIONS + left) ws ++ slice (RELATIONS + from) (RELATIONS + r) ws
-  pub count : k + from ≡ left + r
-  pub some : from ≤ r
-  pub few : r ≤ n
-  pub low : take PREDS ws′ ≡ take PREDS ws
-  pub later : slice (PREDS + r) RELATIONS ws′ ≡ slice (PREDS + r) RELATIONS ws
-  pub high : drop (RELATIONS + r) ws′ ≡ drop (RELATIONS + r) ws
-  pub same : length ws′ ≡ length ws
-
 -- the end of a block: what waited for it is stored, in order, and waits no more
 pub record Wakes (n : ℕ) (ws : List ℕ) (h : Held) (ws′ : List ℕ) (r : Held) : Type 0 where
   pub graph : graphOf ws′ r ≡ each (λ (w : Waiting). relate intoAliases (w .index) (w .origin) (w .into)) (keep (waitingFor n) (waitingOf ws h)) (graphOf ws h)
@@ -135,8 +104,8 @@ pub record Wakes (n : ℕ) (ws : List ℕ) (h : Held) (ws′ : List ℕ) (r : He
 pub record Laid (ws : List ℕ) (h : Held) (ws′ : List ℕ) : Type 0 where
   pub indexed : Indexed ws′
   pub graph : graphOfRows (rowsOf ws′) ≡ graphOf ws h
-  pub edges : fb (rowsOf ws′) 512 ≡ h .edges
-  pub entries : bb (rowsOf ws′) 2048 ≡ h .entries
+  pub edges : fb (rowsOf ws′) mostIdentifiers ≡ h .edges
+  pub entries : bb (rowsOf ws′) mostLists ≡ h .entries
   pub low : take FBOUND ws′ ≡ take FBOUND ws
   pub high : drop QUEUE ws′ ≡ drop QUEUE ws
   pub same : length ws′ ≡ length ws

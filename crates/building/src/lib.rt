@@ -5,34 +5,41 @@ use hir::EvaluationOrder;
 use hir::FunctionId;
 use hir::IdentifierId;
 use pending::PendingMutation;
+use workspace::ALIASES;
+use workspace::CAPTURES;
+use workspace::FUNCTION;
+use workspace::IDENTIFIERS;
+use workspace::MAYBE;
+use workspace::OBJECT;
+use workspace::PHI;
 use workspace::VALUE;
 ghost use mathlib.Core.Path.{_≡_};
 ghost use Prim.Native.Nat.{ℕ, _+_, _≤_, _<_};
 ghost use lib.ListN.{length};
 ghost use lib.Dec.{eqb};
+ghost use Rattle.model.specs.Limits.{mostIdentifiers, mostBlocks, mostRelations, mostMutations, mostRenders};
 ghost use Rattle.model.specs.Lists.{among};
 ghost use Rattle.model.specs.Mutation.{reasonOf};
-ghost use Rattle.model.specs.Graph.{object, create, relate, createFrom, intoAliases, intoMaybeAliases, intoCaptures};
+ghost use Rattle.model.specs.Graph.{create, relate, createFrom, intoAliases, intoMaybeAliases, intoCaptures};
 ghost use Rattle.model.specs.Graph.{assign as assignEffect};
 ghost use Rattle.model.specs.Built.{changed, related, waits, mutates, comes};
 ghost use Rattle.model.specs.Built.{renders as rendersPlace};
 ghost use Rattle.model.specs.Building.{operand, wake};
 ghost use Rattle.workspace.specs.Layout.{LEAST};
-ghost use Rattle.workspace.specs.Graph.{valueOf, relationOf};
+ghost use Rattle.workspace.specs.Graph.{MISSING, valueOf, relationOf};
 ghost use Rattle.workspace.specs.Pending.{kindOf};
-ghost use Rattle.building.specs.Built.{valueIs, FunctionBelow, placeAt, indexOf, builtOf, Sound, Steps, LaysOut, begun, Starts};
+ghost use Rattle.building.specs.Built.{valueIs, FunctionBelow, placeAt, indexOf, builtOf, Sound, Steps, LaysOut, Starts};
 
 mod graph;
 mod logs;
 mod pending;
 mod waiting;
 
-// How many forward edges and entries are held, how many phi operands wait, and how many values are written, which every identifier with a node is below.
+// How many forward edges and entries are held, and how many phi operands wait.
 pub struct Held {
     pub edges: usize,
     pub entries: usize,
     pub waiting: usize,
-    pub nodes: usize,
 }
 
 // The counts of the building so far: also the blocks that have come, and the relation effects, mutations and renders.
@@ -54,19 +61,19 @@ pub enum NodeValue {
 // The word of a value.
 fn value_word(value: NodeValue) -> u32
     requires { ⌜ FunctionBelow value ⌝ }
-    ensures { λ r. ⌜ (0 < r) × (valueOf r ≡ valueIs value) ⌝ }
+    ensures { λ r. ⌜ (MISSING < r) × (valueOf r ≡ valueIs value) ⌝ }
 {
     match value {
-        NodeValue::Object => 1,
-        NodeValue::Phi => 2,
-        NodeValue::Function(f) => f.0 + 3,
+        NodeValue::Object => OBJECT,
+        NodeValue::Phi => PHI,
+        NodeValue::Function(f) => f.0 + FUNCTION,
     }
 }
 
 impl Building {
     // The running index.
     pub fn index(self) -> u32
-        requires { ⌜ (self .relations ≤ 1024) × ((self .mutations ≤ 512) × (self .renders ≤ 256)) ⌝ }
+        requires { ⌜ (self .relations ≤ mostRelations) × ((self .mutations ≤ mostMutations) × (self .renders ≤ mostRenders)) ⌝ }
         ensures { λ r. ⌜ r ≡ indexOf self ⌝ }
     {
         (self.relations + self.mutations + self.renders) as u32
@@ -75,7 +82,7 @@ impl Building {
     // A node for `place`, in place of the one that it had: that one's own relations are dropped.
     pub fn create(mut self, ws: &mut [u32], place: IdentifierId, value: NodeValue) -> Building
         requires { ⌜ Sound (now ws) self ⌝ }
-        requires { ⌜ (place .0 < 512) × FunctionBelow value ⌝ }
+        requires { ⌜ (place .0 < mostIdentifiers) × FunctionBelow value ⌝ }
         ensures { λ r. ⌜ Steps (changed (create (place .0) (valueIs value))) 0 0 0 0 (now (ws .entry)) self (now (ws .exit)) r ⌝ }
     {
         let held = self.held;
@@ -93,7 +100,7 @@ impl Building {
         into: IdentifierId,
     ) -> Building
         requires { ⌜ Sound (now ws) self ⌝ }
-        requires { ⌜ (self .relations < 1024) × ((from .0 < 512) × ((into .0 < 512) × (list < 4))) ⌝ }
+        requires { ⌜ (self .relations < mostRelations) × ((from .0 < mostIdentifiers) × ((into .0 < mostIdentifiers) × (list < 4))) ⌝ }
         ensures { λ r. ⌜ Steps (related (λ (i : ℕ). relate (relationOf list) i (from .0) (into .0))) 1 0 0 0 (now (ws .entry)) self (now (ws .exit)) r ⌝ }
     {
         let held = self.held;
@@ -106,28 +113,28 @@ impl Building {
     // "from" is captured in "into".
     pub fn capture(self, ws: &mut [u32], from: IdentifierId, into: IdentifierId) -> Building
         requires { ⌜ Sound (now ws) self ⌝ }
-        requires { ⌜ (self .relations < 1024) × ((from .0 < 512) × (into .0 < 512)) ⌝ }
+        requires { ⌜ (self .relations < mostRelations) × ((from .0 < mostIdentifiers) × (into .0 < mostIdentifiers)) ⌝ }
         ensures { λ r. ⌜ Steps (related (λ (i : ℕ). relate intoCaptures i (from .0) (into .0))) 1 0 0 0 (now (ws .entry)) self (now (ws .exit)) r ⌝ }
     {
-        self.relate(ws, 3, from, into)
+        self.relate(ws, CAPTURES, from, into)
     }
 
     // "into" is an alias of "from".
     pub fn assign(self, ws: &mut [u32], from: IdentifierId, into: IdentifierId) -> Building
         requires { ⌜ Sound (now ws) self ⌝ }
-        requires { ⌜ (self .relations < 1024) × ((from .0 < 512) × (into .0 < 512)) ⌝ }
+        requires { ⌜ (self .relations < mostRelations) × ((from .0 < mostIdentifiers) × (into .0 < mostIdentifiers)) ⌝ }
         ensures { λ r. ⌜ Steps (related (λ (i : ℕ). relate intoAliases i (from .0) (into .0))) 1 0 0 0 (now (ws .entry)) self (now (ws .exit)) r ⌝ }
     {
-        self.relate(ws, 1, from, into)
+        self.relate(ws, ALIASES, from, into)
     }
 
     // "into" may be an alias of "from".
     pub fn maybe_alias(self, ws: &mut [u32], from: IdentifierId, into: IdentifierId) -> Building
         requires { ⌜ Sound (now ws) self ⌝ }
-        requires { ⌜ (self .relations < 1024) × ((from .0 < 512) × (into .0 < 512)) ⌝ }
+        requires { ⌜ (self .relations < mostRelations) × ((from .0 < mostIdentifiers) × (into .0 < mostIdentifiers)) ⌝ }
         ensures { λ r. ⌜ Steps (related (λ (i : ℕ). relate intoMaybeAliases i (from .0) (into .0))) 1 0 0 0 (now (ws .entry)) self (now (ws .exit)) r ⌝ }
     {
-        self.relate(ws, 2, from, into)
+        self.relate(ws, MAYBE, from, into)
     }
 
     // An Assign effect: as `assign`, but a missing "into" is created first.
@@ -138,7 +145,7 @@ impl Building {
         into: IdentifierId,
     ) -> Building
         requires { ⌜ Sound (now ws) self ⌝ }
-        requires { ⌜ (self .relations < 1024) × ((from .0 < 512) × (into .0 < 512)) ⌝ }
+        requires { ⌜ (self .relations < mostRelations) × ((from .0 < mostIdentifiers) × (into .0 < mostIdentifiers)) ⌝ }
         ensures { λ r. ⌜ Steps (related (λ (i : ℕ). assignEffect i (from .0) (into .0))) 1 0 0 0 (now (ws .entry)) self (now (ws .exit)) r ⌝ }
     {
         let held = self.held;
@@ -151,7 +158,7 @@ impl Building {
     // "into" is created from "from", always; its entry is stored even if "from" has no node.
     pub fn create_from(mut self, ws: &mut [u32], from: IdentifierId, into: IdentifierId) -> Building
         requires { ⌜ Sound (now ws) self ⌝ }
-        requires { ⌜ (self .relations < 1024) × ((from .0 < 512) × (into .0 < 512)) ⌝ }
+        requires { ⌜ (self .relations < mostRelations) × ((from .0 < mostIdentifiers) × (into .0 < mostIdentifiers)) ⌝ }
         ensures { λ r. ⌜ Steps (related (λ (i : ℕ). createFrom i (from .0) (into .0))) 1 0 0 0 (now (ws .entry)) self (now (ws .exit)) r ⌝ }
     {
         let held = self.held;
@@ -170,7 +177,7 @@ impl Building {
         into: IdentifierId,
     ) -> Building
         requires { ⌜ Sound (now ws) self ⌝ }
-        requires { ⌜ (self .relations < 1024) × ((from .0 < 512) × (into .0 < 512)) ⌝ }
+        requires { ⌜ (self .relations < mostRelations) × ((from .0 < mostIdentifiers) × (into .0 < mostIdentifiers)) ⌝ }
         ensures { λ r. ⌜ Steps (waits (predecessor .0) (from .0) (into .0)) 1 0 0 0 (now (ws .entry)) self (now (ws .exit)) r ⌝ }
     {
         let held = self.held;
@@ -189,7 +196,7 @@ impl Building {
         into: IdentifierId,
     ) -> Building
         requires { ⌜ Sound (now ws) self ⌝ }
-        requires { ⌜ (self .relations < 1024) × ((from .0 < 512) × (into .0 < 512)) ⌝ }
+        requires { ⌜ (self .relations < mostRelations) × ((from .0 < mostIdentifiers) × (into .0 < mostIdentifiers)) ⌝ }
         ensures { λ r. ⌜ Steps (operand (placeAt (into .0) 0) (record { predecessor = predecessor .0; place = placeAt (from .0) 0 })) 1 0 0 0 (now (ws .entry)) self (now (ws .exit)) r ⌝ }
     {
         if self.block_has_come(ws, predecessor) {
@@ -211,7 +218,7 @@ impl Building {
     // A block has come.
     pub fn seen_block(mut self, ws: &mut [u32], block: BlockId) -> Building
         requires { ⌜ Sound (now ws) self ⌝ }
-        requires { ⌜ self .come < 256 ⌝ }
+        requires { ⌜ self .come < mostBlocks ⌝ }
         ensures { λ r. ⌜ Steps (comes (block .0)) 0 0 0 1 (now (ws .entry)) self (now (ws .exit)) r ⌝ }
     {
         let come = self.come;
@@ -241,7 +248,7 @@ impl Building {
         reason: u32,
     ) -> Building
         requires { ⌜ Sound (now ws) self ⌝ }
-        requires { ⌜ (self .mutations < 512) × ((place .0 < 512) × ((transitive < 2) × ((level < 2) × (reason < 2)))) ⌝ }
+        requires { ⌜ (self .mutations < mostMutations) × ((place .0 < mostIdentifiers) × ((transitive < 2) × ((level < 2) × (reason < 2)))) ⌝ }
         ensures { λ r. ⌜ Steps (mutates (eqb transitive 1) (kindOf level) (reasonOf reason) (order .0) (placeAt (place .0) span)) 0 1 0 0 (now (ws .entry)) self (now (ws .exit)) r ⌝ }
     {
         let count = self.mutations;
@@ -266,7 +273,7 @@ impl Building {
     // A render of `place`, to come after building.
     pub fn push_render(mut self, ws: &mut [u32], place: IdentifierId) -> Building
         requires { ⌜ Sound (now ws) self ⌝ }
-        requires { ⌜ (self .renders < 256) × (place .0 < 512) ⌝ }
+        requires { ⌜ (self .renders < mostRenders) × (place .0 < mostIdentifiers) ⌝ }
         ensures { λ r. ⌜ Steps (rendersPlace (placeAt (place .0) 0)) 0 0 1 0 (now (ws .entry)) self (now (ws .exit)) r ⌝ }
     {
         let count = self.renders;
@@ -286,36 +293,17 @@ impl Building {
     }
 }
 
-// The start of building: no identifier has a node. 16 values are cleared at once, as fewer than 64 bytes may be cleared by a masked store, and no load is served from one before it is done.
+// The start of building: no identifier has a node.
 pub fn start(ws: &mut [u32]) -> Building
     requires { ⌜ LEAST ≤ length (now ws) ⌝ }
     ensures { λ r. ⌜ Starts (now (ws .entry)) (now (ws .exit)) r ⌝ }
 {
-    workspace::clear(ws, VALUE, 16);
-    begun(16)
-}
-
-// A node for `place` while there are only nodes, so that no relation is dropped.
-pub fn create_first(ws: &mut [u32], nodes: usize, place: IdentifierId) -> usize
-    requires { ⌜ Sound (now ws) (begun nodes) ⌝ }
-    requires { ⌜ place .0 < 512 ⌝ }
-    ensures { λ r. ⌜ Steps (changed (create (place .0) object)) 0 0 0 0 (now (ws .entry)) (begun nodes) (now (ws .exit)) (begun r) ⌝ }
-{
-    let more = graph::raise(ws, nodes, place.0);
-    ws[VALUE + place.0 as usize] = 1;
-    more
-}
-
-// The building that has nodes and nothing else.
-pub fn begun(nodes: usize) -> Building
-    ensures { λ r. ⌜ r ≡ begun nodes ⌝ }
-{
+    workspace::clear(ws, VALUE, IDENTIFIERS);
     Building {
         held: Held {
             edges: 0,
             entries: 0,
             waiting: 0,
-            nodes,
         },
         come: 0,
         relations: 0,

@@ -7,6 +7,7 @@ ghost use mathlib.Core.Bool.{true};
 ghost use Prim.Native.Nat.{_+_, _*_, _/_, _%_, _≤_, _<_};
 ghost use lib.ListN.{length};
 ghost use lib.Seq.{slice};
+ghost use Rattle.model.specs.Limits.{mostIdentifiers, mostRelations};
 ghost use Rattle.model.specs.Graph.{hasNode};
 ghost use Rattle.workspace.specs.Layout.{LEAST, ENTRIES};
 ghost use Rattle.building.specs.Logs.{packW, ownerW, ownsW, anyP, anyW, edgeG, entryG};
@@ -14,7 +15,7 @@ ghost use Rattle.building.specs.Held.{graphOf, Room, Builds, Others, Lef
 
 // A log word.
 pub fn pack(from: u32, into: u32, list: u32, index: u32) -> u32
-    requires { ⌜ (from < 512) × ((into < 512) × ((list < 4) × (index < 4096))) ⌝ }
+    requires { ⌜ (from < mostIdentifiers) × ((into < mostIdentifiers) × ((list < 4) × (index < 4096))) ⌝ }
     ensures { λ r. ⌜ r ≡ packW from into list index ⌝ }
 {
     from + 512 * into + 262144 * list + 1048576 * index
@@ -29,7 +30,7 @@ fn owner(t: u32, w: u32) -> u32
 
 // Is there an entry with the same from, into and list? Looks at every word, so that the loop is compiled to vectors.
 fn has_entry(ws: &[u32], n: usize, w: u32) -> bool
-    requires { ⌜ (LEAST ≤ length (now ws)) × (n ≤ 1024) ⌝ }
+    requires { ⌜ (LEAST ≤ length (now ws)) × (n ≤ mostRelations) ⌝ }
     ensures { λ r. ⌜ r ≡ anyW w (slice ENTRIES (ENTRIES + n) (now (ws .entry))) ⌝ }
 {
     let mut found = false;
@@ -104,13 +105,11 @@ pub fn add_edge(ws: &mut [u32], h: Held, w: u32) -> Held
     let edges = h.edges;
     let entries = h.entries;
     let waiting = h.waiting;
-    let nodes = h.nodes;
     ws[EDGES + edges] = w;
     Held {
         edges: edges + 1,
         entries,
         waiting,
-        nodes,
     }
 }
 
@@ -123,7 +122,6 @@ pub fn add_entry(ws: &mut [u32], h: Held, w: u32) -> Held
     let edges = h.edges;
     let entries = h.entries;
     let waiting = h.waiting;
-    let nodes = h.nodes;
     if has_entry(ws, entries, w) {
         return h;
     }
@@ -132,6 +130,5 @@ pub fn add_entry(ws: &mut [u32], h: Held, w: u32) -> Held
         edges,
         entries: entries + 1,
         waiting,
-        nodes,
     }
 }

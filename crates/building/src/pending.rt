@@ -6,6 +6,7 @@ ghost use mathlib.Core.Path.{_≡_};
 ghost use Prim.Native.Nat.{_+_, _*_, _≤_, _<_};
 ghost use lib.ListN.{length};
 ghost use lib.Dec.{eqb};
+ghost use Rattle.model.specs.Limits.{mostIdentifiers, mostBlocks, mostMutations, mostRenders};
 ghost use Rattle.model.specs.Lists.{among};
 ghost use Rattle.model.specs.Mutation.{reasonOf};
 ghost use Rattle.workspace.specs.Layout.{LEAST};
@@ -25,7 +26,7 @@ pub struct PendingMutation {
 
 // The first word of a mutation.
 fn mutation_word(m: PendingMutation) -> u32
-    requires { ⌜ (m .identifier < 512) × ((m .transitive < 2) × ((m .level < 2) × ((m .reason < 2) × (m .index < 4096)))) ⌝ }
+    requires { ⌜ (m .identifier < mostIdentifiers) × ((m .transitive < 2) × ((m .level < 2) × ((m .reason < 2) × (m .index < 4096)))) ⌝ }
     ensures { λ r. ⌜ r ≡ m .identifier + 512 * m .transitive + 1024 * m .level + 2048 * m .reason + 4096 * m .index ⌝ }
 {
     m.identifier + 512 * m.transitive + 1024 * m.level + 2048 * m.reason + 4096 * m.index
@@ -33,8 +34,8 @@ fn mutation_word(m: PendingMutation) -> u32
 
 // Stores a mutation in three words, after the first `count` ones.
 pub fn push_mutation(ws: &mut [u32], count: usize, m: PendingMutation)
-    requires { ⌜ (LEAST ≤ length (now ws)) × (count < 512) ⌝ }
-    requires { ⌜ (m .identifier < 512) × ((m .transitive < 2) × ((m .level < 2) × ((m .reason < 2) × (m .index < 4096)))) ⌝ }
+    requires { ⌜ (LEAST ≤ length (now ws)) × (count < mostMutations) ⌝ }
+    requires { ⌜ (m .identifier < mostIdentifiers) × ((m .transitive < 2) × ((m .level < 2) × ((m .reason < 2) × (m .index < 4096)))) ⌝ }
     ensures { λ _. ⌜ PushesMutation (record { index = m .index; order = m .order; kind = kindOf (m .level); transitive = eqb (m .transitive) 1; identifier = m .identifier; span = m .span; reason = reasonOf (m .reason) }) (now (ws .entry)) count (now (ws .exit)) ⌝ }
 {
     let at = MUTATIONS + 3 * count;
@@ -46,8 +47,8 @@ pub fn push_mutation(ws: &mut [u32], count: usize, m: PendingMutation)
 
 // Stores a render in one word, after the first `count` ones.
 pub fn push_render(ws: &mut [u32], count: usize, index: u32, identifier: u32)
-    requires { ⌜ (LEAST ≤ length (now ws)) × (count < 256) ⌝ }
-    requires { ⌜ (identifier < 512) × (index < 4096) ⌝ }
+    requires { ⌜ (LEAST ≤ length (now ws)) × (count < mostRenders) ⌝ }
+    requires { ⌜ (identifier < mostIdentifiers) × (index < 4096) ⌝ }
     ensures { λ _. ⌜ PushesRender (record { index = index; identifier = identifier }) (now (ws .entry)) count (now (ws .exit)) ⌝ }
 {
     ws[RENDERS + count] = identifier + 512 * index;
@@ -55,7 +56,7 @@ pub fn push_render(ws: &mut [u32], count: usize, index: u32, identifier: u32)
 
 // Notes a block's number, after the first `count` ones.
 pub fn push_block(ws: &mut [u32], count: usize, block: u32)
-    requires { ⌜ (LEAST ≤ length (now ws)) × (count < 256) ⌝ }
+    requires { ⌜ (LEAST ≤ length (now ws)) × (count < mostBlocks) ⌝ }
     ensures { λ _. ⌜ PushesBlock block (now (ws .entry)) count (now (ws .exit)) ⌝ }
 {
     ws[SEEN + count] = block;
@@ -63,7 +64,7 @@ pub fn push_block(ws: &mut [u32], count: usize, block: u32)
 
 // Has the block come? Looks at every number, so that the loop is compiled to vectors.
 pub fn has_come(ws: &[u32], count: usize, block: u32) -> bool
-    requires { ⌜ (LEAST ≤ length (now ws)) × (count ≤ 256) ⌝ }
+    requires { ⌜ (LEAST ≤ length (now ws)) × (count ≤ mostBlocks) ⌝ }
     ensures { λ r. ⌜ r ≡ among block (comeOf (now (ws .entry)) count) ⌝ }
 {
     let mut found = false;

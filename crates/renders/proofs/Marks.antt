@@ -8,10 +8,13 @@ use mathlib.Core.Path.{_≡_, refl, ap, _∙_}
 use lib.ListN.{length, getD, set, replicate, List·getD-map}
 use lib.Dec.{eqb, ltb}
 use borrow.Author.Tests.{eq-eqb, ne-eqb}
+use Rattle.model.specs.Limits.{mostIdentifiers}
 use Rattle.model.specs.Lists.{pick, oneIf}
 use Rattle.model.specs.State.{noRecord, hasRecord}
+use Rattle.workspace.specs.Graph.{FUNCTION}
+use Rattle.workspace.specs.Layout.{RECORD, LSPAN, TSPAN}
 use Rattle.workspace.proofs.Tables.{tab-at}
-use Rattle.aliasing.specs.State.{fieldAt, recordAt, recordsOf}
+use Rattle.aliasing.specs.State.{recordAt, recordsOf}
 use Rattle.aliasing.specs.Accepts.{functionW}
 use Rattle.aliasing.proofs.Packed.{has-word}
 use Rattle.renders.specs.Renders.{passesW, taken, unseen}
@@ -44,9 +47,9 @@ pub passes-false : (v w : ℕ) → passesW v w ≡ false → (v ≡ 0 → ⊥) �
 passes-false zero w h = absurd (true≢false h)
 passes-false (suc v) w h = (λ e. omega (arith, e), rw (ne-eqb (suc v) 0 (λ e. omega (arith, e))) at h)
 
-pub has-record : (ns : List ℕ) (x : ℕ) → x < 512 → hasRecord (getD (recordsOf ns) x noRecord) ≡ not (eqb (fieldAt ns 0 x % 16) 0)
+pub has-record : (ns : List ℕ) (x : ℕ) → x < mostIdentifiers → hasRecord (getD (recordsOf ns) x noRecord) ≡ not (eqb (getD ns (RECORD + x) 0 % 16) 0)
 unfolding recordsOf recordAt
-has-record ns x h = ap hasRecord (tab-at 512 (recordAt ns) x noRecord h) ∙ has-word (fieldAt ns 0 x) (getD ns (1536 + x) 0) (getD ns (512 + x) 0)
+has-record ns x h = ap hasRecord (tab-at mostIdentifiers (recordAt ns) x noRecord h) ∙ has-word (getD ns (RECORD + x) 0) (getD ns (TSPAN + x) 0) (getD ns (LSPAN + x) 0)
 
 -- ---- room
 pub unseen-top : (l : List ℕ) → unseen l ≤ length l
@@ -66,8 +69,8 @@ unseen-falls (w ∷ l) (suc x) h e = omega (arith, unseen-falls l x (omega arith
 
 pub function-one : (v : ℕ) → length (functionW v) ≤ 1
 unfolding functionW
-function-one v = go (ltb v 3)
+function-one v = go (ltb v FUNCTION)
   where
-    go : (b : Bool) → length (pick b [] ((v - 3) ∷ [])) ≤ 1
+    go : (b : Bool) → length (pick b [] ((v - FUNCTION) ∷ [])) ≤ 1
     go true = omega arith
     go false = omega arith

@@ -6,10 +6,12 @@ use mathlib.Core.List.{List, [], _∷_, _++_, map, map-append, reverseAux, rever
 use mathlib.Core.Path.{_≡_, refl, ap, subst, _∙_}
 use lib.ListN.{length, length-append}
 use lib.Dec.{ltb}
+use Rattle.model.specs.Limits.{mostIdentifiers}
 use Rattle.model.specs.Lists.{pick, consIf}
 use Rattle.model.specs.Graph.{Entry}
 use Rattle.model.specs.Walks.{belowIndex}
 use Rattle.model.specs.Renders.{origins, renderPushes}
+use Rattle.workspace.specs.Layout.{VALUE, QUEUE}
 use Rattle.workspace.specs.Rows.{rowsOf, value, rowF, rowB, Good}
 use Rattle.workspace.specs.Graph.{entryRow, ownNode}
 use Rattle.workspace.proofs.Rows.{rows-length}
@@ -48,7 +50,7 @@ unfolding placesOf
 places-push q vs = ap (λ (l : List ℕ). reverseAux l []) (map-append (λ (w : ℕ). w % 512) q vs) ∙ reverseAux-append (map (λ (w : ℕ). w % 512) q) (map (λ (w : ℕ). w % 512) vs) []
 
 -- ---- how many there are at most
-pub origins-le : (g : List ℕ) → length g ≡ 5328 → Good g → (x i : ℕ) → x < 512 → length (originsW g x i) ≤ deg g x
+pub origins-le : (g : List ℕ) → length g ≡ QUEUE - VALUE → Good g → (x i : ℕ) → x < mostIdentifiers → length (originsW g x i) ≤ deg g x
 unfolding originsW
 origins-le g size good x i h =
     let C : List ℕ = entriesW i 0 0 (rowB g (4 * x)) in
@@ -65,8 +67,8 @@ origins-le g size good x i h =
     )
 
 -- ---- the three pushes, one after the other
-module _ (ws : List ℕ) (top x index : ℕ) (room : Room ws top (deg (rowsOf ws) x)) (h : x < 512) where
-  size : length (rowsOf ws) ≡ 5328
+module _ (ws : List ℕ) (top x index : ℕ) (room : Room ws top (deg (rowsOf ws) x)) (h : x < mostIdentifiers) where
+  size : length (rowsOf ws) ≡ QUEUE - VALUE
   size = rows-length ws (room .size)
 
   is : deg (rowsOf ws) x ≡ (wordsF (rowsOf ws) x + wordsB (rowsOf ws) (4 * x)) + ((wordsB (rowsOf ws) (4 * x + 1) + wordsB (rowsOf ws) (4 * x + 2)) + wordsB (rowsOf ws) (4 * x + 3))

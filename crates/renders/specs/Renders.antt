@@ -7,10 +7,12 @@ use mathlib.Core.Path.{_≡_}
 use lib.ListN.{length}
 use lib.Seq.{slice}
 use lib.Dec.{eqb}
+use Rattle.model.specs.Limits.{mostIdentifiers}
 use Rattle.model.specs.Lists.{pick, oneIf, tally}
 use Rattle.model.specs.Mutation.{RenderOf}
 use Rattle.model.specs.Size.{entries}
 use Rattle.model.specs.Renders.{RenderWalk, renderStep, renderRun, renderWalk}
+use Rattle.workspace.specs.Graph.{ALIASES, CAPTURES, MISSING}
 use Rattle.workspace.specs.Layout.{LEAST, QUEUE, HANDED, MUTATIONS}
 use Rattle.workspace.specs.Rows.{rowsOf, rowB, Good}
 use Rattle.aliasing.specs.Pushes.{entriesW}
@@ -20,11 +22,11 @@ use Rattle.aliasing.specs.Walks.{Aside}
 
 -- whether the walk passes by a node, by the words of its value and of its record: it is missing, or has a record
 abbrev pub passesW : ℕ → ℕ → Bool
-passesW v w = pick (eqb v 0) true (not (eqb (w % 16) 0))
+passesW v w = pick (eqb v MISSING) true (not (eqb (w % 16) 0))
 
 -- what a node pushes: created-from, aliases, captures
 unfoldable pub originsW : List ℕ → ℕ → ℕ → List ℕ
-originsW g x index = entriesW index 0 0 (rowB g (4 * x)) ++ (entriesW index 0 0 (rowB g (4 * x + 1)) ++ entriesW index 0 0 (rowB g (4 * x + 3)))
+originsW g x index = entriesW index 0 0 (rowB g (4 * x)) ++ (entriesW index 0 0 (rowB g (4 * x + ALIASES)) ++ entriesW index 0 0 (rowB g (4 * x + CAPTURES)))
 
 -- the queue by its words, of which the last was pushed last
 unfoldable pub placesOf : List ℕ → List ℕ
@@ -49,7 +51,7 @@ pub record Ready (ws : List ℕ) (top hand : ℕ) : Type 0 where
   pub size : LEAST ≤ length ws
   pub low : QUEUE ≤ top
   pub good : Good (rowsOf ws)
-  pub fits : top + phi (seenOf ws) (rowsOf ws) 512 ≤ HANDED
+  pub fits : top + phi (seenOf ws) (rowsOf ws) mostIdentifiers ≤ HANDED
   pub from : HANDED ≤ hand
   pub room : hand + unseen (seenOf ws) ≤ MUTATIONS
 
@@ -62,7 +64,7 @@ pub record Unmoved (ws ws′ : List ℕ) : Type 0 where
 pub record Stepped (index : ℕ) (ws : List ℕ) (top hand : ℕ) (ws′ : List ℕ) (top′ hand′ : ℕ) : Type 0 where
   pub follows : (w : RenderWalk) → Shows ws top hand w → Shows ws′ top′ hand′ (renderStep index (w .queue) w)
   pub ready : Ready ws′ top′ hand′
-  pub falls : top′ + phi (seenOf ws′) (rowsOf ws′) 512 < top + phi (seenOf ws) (rowsOf ws) 512
+  pub falls : top′ + phi (seenOf ws′) (rowsOf ws′) mostIdentifiers < top + phi (seenOf ws) (rowsOf ws) mostIdentifiers
   pub unmoved : Unmoved ws ws′
 
 -- all entries were taken, `count` of them

@@ -6,32 +6,25 @@ use lib.Dec.{eqb}
 use native.Mathlib.Omega.{arith}
 use borrow.Author.Needs.{needs}
 use Prim.Native.Nat.{ℕ, _+_}
-use Rattle.aliasing.proofs.Enters.{enters-beyond, enters-seen, enters-marked}
+use Rattle.workspace.specs.Graph.{MISSING}
+use Rattle.workspace.specs.Layout.{SEEN, VALUE}
+use Rattle.aliasing.proofs.Enters.{enters-seen, enters-marked}
 use Rattle.aliasing.proofs.enter.Statement.{statement}
 use Rattle.aliasing.proofs.enter.Tie as tie
+
+add-if1 : tie.Need-add-if1
+add-if1 c = omega arith
+
+mul-if1 : tie.Need-mul-if1
+mul-if1 c = omega arith
 
 slice-read-if1 : tie.Need-slice-read-if1
 slice-read-if1 c = omega arith
 
-cast-if1 : tie.Need-cast-if1
-cast-if1 c = omega arith
-
 returns : tie.Need-returns
-returns c = enters-beyond (c .before .before .args .ws .now) (c .before .before .args .x) (c .before .before .args .level) (c .if1 .taken)
-
-add-if2 : tie.Need-add-if2
-add-if2 c = omega arith
-
-mul-if2 : tie.Need-mul-if2
-mul-if2 c = omega arith
-
-slice-read-if2 : tie.Need-slice-read-if2
-slice-read-if2 c = omega arith
-
-returns-2 : tie.Need-returns-2
-returns-2 c =
-    let b = c .before .before .before .before in
-    enters-seen (b .args .ws .now) (b .args .x) (b .args .level) (c .before .before .if1 .left) (c .if2 .taken)
+returns c =
+    let b = c .before .before in
+    enters-seen (b .args .ws .now) (b .args .x) (b .args .level) (c .if1 .taken)
 
 add-ws : tie.Need-add-ws
 add-ws c = omega arith
@@ -57,23 +50,20 @@ slice-read-result c = simp length-set (omega arith)
 same-length : tie.Need-same-length
 same-length c = search needs
 
-returns-3 : tie.Need-returns-3
-returns-3 c =
-    let b = c .before .before .before .before .before in
-    let e = enters-marked (b .args .ws .now) (b .args .x) (b .args .level) (c .before .before .before .if1 .left) (c .before .if2 .left) in
-    (e .0, ap (λ (v : ℕ). not (eqb v 0)) (getD-set-other (b .args .ws .now) (2624 + b .args .x) (3200 + b .args .x) (b .args .level + 1) 0 (omega arith)) ∙ e .1)
+returns-2 : tie.Need-returns-2
+returns-2 c =
+    let b = c .before .before .before in
+    let e = enters-marked (b .args .ws .now) (b .args .x) (b .args .level) (c .before .if1 .left) in
+    (e .0, ap (λ (v : ℕ). not (eqb v MISSING)) (getD-set-other (b .args .ws .now) (SEEN + b .args .x) (VALUE + b .args .x) (b .args .level + 1) 0 (omega arith)) ∙ e .1)
 
 pub enter-spec : {M : Type 1} → statement M
 enter-spec =
     tie.close
     (tie.spec
+    add-if1
+    mul-if1
     slice-read-if1
-    cast-if1
     returns
-    add-if2
-    mul-if2
-    slice-read-if2
-    returns-2
     add-ws
     add-ws-2
     mul-ws
@@ -82,4 +72,4 @@ enter-spec =
     mul-result
     slice-read-result
     same-length
-    returns-3)
+    returns-2)

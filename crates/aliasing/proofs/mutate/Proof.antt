@@ -1,3 +1,4 @@
+use Rattle.workspace.specs.Layout.{QUEUE}
 use Rattle.aliasing.proofs.Start.{bit-below, kind-below, Started, started}
 use lib.ListN.{set}
 use mathlib.Core.Path.{_∙_}
@@ -23,7 +24,7 @@ entry-requires c κs =
 begins : (c : tie.After-entry)
     → (let b5 = c .before .before .before .before .before in
     let b8 = b5 .before .before .before in
-    Started (b8 .args .m) (b8 .args .ws .now) (b8 .args .hand) (b5 .take-base .result) (c .before .before .kind-bit .result) (set (b5 .take-base .last .0) 8528 (c .entry .result)))
+    Started (b8 .args .m) (b8 .args .ws .now) (b8 .args .hand) (b5 .take-base .result) (set (b5 .take-base .last .0) QUEUE (c .entry .result)))
 begins c =
     let b5 = c .before .before .before .before .before in
     let b8 = b5 .before .before .before in
@@ -35,34 +36,19 @@ slice-write-ws c =
     let b8 = b5 .before .before .before in
     omega (arith, b5 .take-base .kept .0, b8 .pre .0 .size)
 
-add-walk-conditional : tie.Need-add-walk-conditional
-add-walk-conditional c = omega arith
-
-walk-conditional-requires : tie.Need-walk-conditional-requires
-walk-conditional-requires c κs =
-    let b3 = c .before .before .before in
-    let b11 = b3 .before .before .before .before .before .before .before .before in
-    (begins b3 .ready, (b11 .pre .1 .1, begins b3 .conditional (c .before .before .if1 .taken) (c .before .if2 .taken)))
-
-same-length : tie.Need-same-length
-same-length c = c .before .before .walk-conditional .kept .0 ∙ begins (c .before .before .before .before .before .before) .same
-
-returns : tie.Need-returns
-returns c = begins (c .before .before .before .before .before .before) .mutated (c .before .before .walk-conditional .last .0) (c .before .before .walk-conditional .result .count) (c .before .before .walk-conditional .result .hand) (c .before .before .walk-conditional .ensures)
-
 add-walk : tie.Need-add-walk
 add-walk c = omega arith
 
 walk-requires : tie.Need-walk-requires
 walk-requires c κs =
-    let b10 = c .before .before .before .before .before .before .before .before .before .before in
-    (begins (c .before .before) .ready, b10 .pre .1 .1)
+    let b9 = c .before .before .before .before .before .before .before .before .before in
+    (begins (c .before) .ready, b9 .pre .1 .1)
 
-same-length-2 : tie.Need-same-length-2
-same-length-2 c = c .before .before .walk .kept .0 ∙ begins (c .before .before .before .before .before) .same
+same-length : tie.Need-same-length
+same-length c = c .before .before .walk .kept .0 ∙ begins (c .before .before .before .before) .same
 
-returns-2 : tie.Need-returns-2
-returns-2 c = begins (c .before .before .before .before .before) .mutated (c .before .before .walk .last .0) (c .before .before .walk .result .count) (c .before .before .walk .result .hand) (c .before .before .walk .ensures)
+returns : tie.Need-returns
+returns c = begins (c .before .before .before .before) .mutated (c .before .before .walk .last .0) (c .before .before .walk .result .count) (c .before .before .walk .result .hand) (c .before .before .walk .ensures)
 
 pub mutate-spec : {M : Type 1} → statement M
 mutate-spec =
@@ -73,11 +59,7 @@ mutate-spec =
     bit-of-requires
     entry-requires
     slice-write-ws
-    add-walk-conditional
-    walk-conditional-requires
-    same-length
-    returns
     add-walk
     walk-requires
-    same-length-2
-    returns-2)
+    same-length
+    returns)

@@ -1,3 +1,4 @@
+use Rattle.workspace.specs.Layout.{RECORD}
 use Rattle.aliasing.proofs.Writes.{transitive-higher, transitive-stays, local-higher, local-stays}
 use Prim.Native.Nat.{_+_, _*_, _≤_}
 use lib.ListN.{length-set}
@@ -28,7 +29,7 @@ larger-requires-2 c κs = search needs
 rest-below : (c : tie.After-larger2) → 16 * c .before .larger .result + 32 * c .larger2 .result ≤ 4294967280
 rest-below c =
     let b2 = c .before .before in
-    omega (arith, b2 .slice-known2 .given (0 + b2 .before .before .args .x))
+    omega (arith, b2 .slice-known2 .given (RECORD + b2 .before .before .args .x))
 
 mul-rest-2 : tie.Need-mul-rest-2
 mul-rest-2 c = omega (arith, rest-below c)

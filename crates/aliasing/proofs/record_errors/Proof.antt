@@ -14,8 +14,8 @@ mul-if2 c = search needs
 slice-read-if2 : tie.Need-slice-read-if2
 slice-read-if2 c = search needs
 
-append-function-errors-requires : tie.Need-append-function-errors-requires
-append-function-errors-requires c κs = search needs
+hand-over-function-requires : tie.Need-hand-over-function-requires
+hand-over-function-requires c κs = search needs
 
 same-length : tie.Need-same-length
 same-length c = search needs
@@ -28,7 +28,7 @@ returns c =
     simp (
       b6 .if1 .taken,
       eq-eqb _ 0 (b4 .if2 .taken),
-    ) (c .before .before .append-function-errors .ensures)
+    ) (c .before .before .hand-over-function .ensures)
 
 returns-2 : tie.Need-returns-2
 unfolding handW
@@ -45,7 +45,7 @@ record-errors-spec =
     add-if2
     mul-if2
     slice-read-if2
-    append-function-errors-requires
+    hand-over-function-requires
     same-length
     returns
     returns-2

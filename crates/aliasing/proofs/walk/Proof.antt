@@ -1,3 +1,4 @@
+use Rattle.model.specs.Limits.{mostIdentifiers}
 use Rattle.aliasing.proofs.Walks.{WalkInv, walk-start, walk-turn, walk-end}
 use Rattle.aliasing.specs.Potential.{phi}
 use Rattle.aliasing.specs.State.{seenOf, levels}
@@ -11,7 +12,7 @@ abbrev Inv-loop : tie.InvT-loop
 Inv-loop ws₀ top hand m base t₀ h₀ taken₀ ws t h taken = WalkInv m base ws₀ top hand ws t h taken
 
 abbrev μ-loop : tie.MeasureT-loop
-μ-loop ws₀ top hand m base t₀ h₀ taken₀ ws t h taken = t + phi (levels base (seenOf ws)) (rowsOf ws) 512
+μ-loop ws₀ top hand m base t₀ h₀ taken₀ ws t h taken = t + phi (levels base (seenOf ws)) (rowsOf ws) mostIdentifiers
 
 loop-holds : tie.Need-loop-holds Inv-loop μ-loop
 loop-holds c = walk-start (c .before .args .m) (c .before .args .base) (c .before .args .ws .now) (c .before .args .top) (c .before .args .hand) (c .before .pre .0)

@@ -13,6 +13,9 @@ push-list-requires c κs = (room-created (c .before .before .args .ws .now) (c .
 mul-push-list-2 : tie.Need-mul-push-list-2
 mul-push-list-2 c = omega arith
 
+cast-push-list : tie.Need-cast-push-list
+cast-push-list c = omega arith
+
 add-push-list : tie.Need-add-push-list
 add-push-list c = omega arith
 
@@ -24,6 +27,9 @@ push-list-requires-2 c κs =
 
 mul-push-list-3 : tie.Need-mul-push-list-3
 mul-push-list-3 c = omega arith
+
+cast-push-list-2 : tie.Need-cast-push-list-2
+cast-push-list-2 c = omega arith
 
 add-push-list-2 : tie.Need-add-push-list-2
 add-push-list-2 c = omega arith
@@ -55,9 +61,11 @@ push-origins-spec =
     mul-push-list
     push-list-requires
     mul-push-list-2
+    cast-push-list
     add-push-list
     push-list-requires-2
     mul-push-list-3
+    cast-push-list-2
     add-push-list-2
     push-list-requires-3
     same-length

@@ -1,3 +1,4 @@
+use Rattle.model.specs.Limits.{mostIdentifiers}
 use Rattle.renders.proofs.Walks.{WalkInv, walk-start, walk-turn, walk-end}
 use Rattle.aliasing.specs.Potential.{phi}
 use Rattle.aliasing.specs.State.{seenOf}
@@ -11,7 +12,7 @@ abbrev Inv-loop : tie.InvT-loop
 Inv-loop ws₀ index top hand t₀ h₀ taken₀ ws t h taken = WalkInv index ws₀ top hand ws t h taken
 
 abbrev μ-loop : tie.MeasureT-loop
-μ-loop ws₀ index top hand t₀ h₀ taken₀ ws t h taken = t + phi (seenOf ws) (rowsOf ws) 512
+μ-loop ws₀ index top hand t₀ h₀ taken₀ ws t h taken = t + phi (seenOf ws) (rowsOf ws) mostIdentifiers
 
 loop-holds : tie.Need-loop-holds Inv-loop μ-loop
 loop-holds c = walk-start (c .before .args .index) (c .before .args .ws .now) (c .before .args .top) (c .before .args .hand) (c .before .pre)

@@ -2,10 +2,11 @@ use Prim.Native.Nat.{ℕ, _+_, _-_, _*_}
 use native.Mathlib.Omega.{arith}
 use mathlib.Core.List.{List}
 use mathlib.Core.Path.{sym, ap, subst, _∙_}
-use Rattle.workspace.specs.Rows.{rowB, rowsOf}
+use Rattle.workspace.specs.Graph.{ALIASES, MAYBE}
+use Rattle.workspace.specs.Rows.{rowsOf, rowB}
 use Rattle.aliasing.specs.Pushes.{entriesW, Pushed, wordsB, blockedW}
-use Rattle.workspace.proofs.Rows.{rows-length}
-use Rattle.aliasing.proofs.PushLaws.{value-bounded, room-then, room-less, pushed-limit, pushed-on, pushed-none, aliases-open, aliases-shut}
+use Rattle.workspace.proofs.Rows.{value-at, rows-length}
+use Rattle.aliasing.proofs.PushLaws.{room-then, room-less, pushed-on, pushed-none, aliases-open, aliases-shut}
 use Rattle.aliasing.proofs.Sizes.{list-le}
 use borrow.Author.Needs.{needs}
 use Rattle.aliasing.proofs.pushes.push_aliases.Statement.{statement}
@@ -27,34 +28,40 @@ returns : tie.Need-returns
 returns c =
     let b3 = c .before .before .before in
     let s = b3 .before in
-    let g = rowsOf (s .args .ws .now) in subst (λ (vs : List ℕ). Pushed (s .args .ws .now) (s .args .top) vs (s .args .ws .now) (s .args .top)) (aliases-shut g (s .args .x) (s .args .direction) (s .args .index) (s .args .transitive) (s .args .kind) (ap (λ (v : ℕ). blockedW v (s .args .direction)) (value-bounded (s .args .ws .now) (s .pre .0 .size) (s .pre .0 .good) (s .args .x) (s .pre .1 .1 .1 .1)) ∙ sym (c .before .blocked .ensures) ∙ c .if1 .taken)) (pushed-none (s .args .ws .now) (s .args .top))
+    let g = rowsOf (s .args .ws .now) in subst (λ (vs : List ℕ). Pushed (s .args .ws .now) (s .args .top) vs (s .args .ws .now) (s .args .top)) (aliases-shut g (s .args .x) (s .args .direction) (s .args .index) (s .args .transitive) (s .args .kind) (ap (λ (v : ℕ). blockedW v (s .args .direction)) (value-at (s .args .ws .now) (s .pre .0 .size) (s .args .x) (s .pre .1 .0)) ∙ sym (c .before .blocked .ensures) ∙ c .if1 .taken)) (pushed-none (s .args .ws .now) (s .args .top))
 
-mul-push-row : tie.Need-mul-push-row
-mul-push-row c = omega arith
+mul-push-list : tie.Need-mul-push-list
+mul-push-list c = omega arith
 
-add-push-row : tie.Need-add-push-row
-add-push-row c = omega arith
+cast-push-list : tie.Need-cast-push-list
+cast-push-list c = omega arith
 
-push-row-requires : tie.Need-push-row-requires
-push-row-requires c κs =
+add-push-list : tie.Need-add-push-list
+add-push-list c = omega arith
+
+push-list-requires : tie.Need-push-list-requires
+push-list-requires c κs =
     let b4 = c .before .before .before .before in
     let s = b4 .before in
-    (room-less _ _ (omega arith) (s .pre .0), (omega (arith, s .pre), (s .pre .1 .1 .0, (s .pre .1 .1 .1 .0, omega (arith, s .pre)))))
+    (room-less _ _ (omega arith) (s .pre .0), (omega (arith, s .pre), (s .pre .1 .1 .0, s .pre .1 .1 .1)))
 
-mul-push-row-2 : tie.Need-mul-push-row-2
-mul-push-row-2 c = omega arith
+mul-push-list-2 : tie.Need-mul-push-list-2
+mul-push-list-2 c = omega arith
 
-add-push-row-2 : tie.Need-add-push-row-2
-add-push-row-2 c = omega arith
+cast-push-list-2 : tie.Need-cast-push-list-2
+cast-push-list-2 c = omega arith
 
-push-row-requires-2 : tie.Need-push-row-requires-2
-push-row-requires-2 c κs =
+add-push-list-2 : tie.Need-add-push-list-2
+add-push-list-2 c = omega arith
+
+push-list-requires-2 : tie.Need-push-list-requires-2
+push-list-requires-2 c κs =
     let b3 = c .before .before .before in
     let b8 = b3 .before .before .before .before .before in
     let s = b8 .before in
     let a = s .args in
     let g = rowsOf (a .ws .now) in
-    (room-then (λ g. wordsB g (4 * a .x + 2)) (wordsB g (4 * a .x + 1)) (s .pre .0) (b3 .push-row .ensures) (list-le g (rows-length (a .ws .now) (s .pre .0 .size)) (s .pre .0 .good) (a .index) (a .transitive) (a .kind) (4 * a .x + 1) (omega (arith, s .pre))), (omega (arith, s .pre), (s .pre .1 .1 .0, (omega arith, omega (arith, s .pre, pushed-limit (b3 .push-row .ensures) (s .pre .0 .low))))))
+    (room-then (λ g. wordsB g (4 * a .x + MAYBE)) (wordsB g (4 * a .x + ALIASES)) (s .pre .0) (b3 .push-list .ensures) (list-le g (rows-length (a .ws .now) (s .pre .0 .size)) (s .pre .0 .good) (a .index) (a .transitive) (a .kind) (4 * a .x + ALIASES) (omega (arith, s .pre))), (omega (arith, s .pre), (s .pre .1 .1 .0, omega arith)))
 
 same-length : tie.Need-same-length
 same-length c = omega arith
@@ -67,7 +74,7 @@ returns-2 c =
     let b11 = b9 .before .before in
     let s = b11 .before in
     let a = s .args in
-    let g = rowsOf (a .ws .now) in subst (λ (vs : List ℕ). Pushed (a .ws .now) (a .top) vs (c .before .before .push-row2 .last .0) (c .before .before .push-row2 .result)) (aliases-open g (a .x) (a .direction) (a .index) (a .transitive) (a .kind) (ap (λ (v : ℕ). blockedW v (a .direction)) (value-bounded (a .ws .now) (s .pre .0 .size) (s .pre .0 .good) (a .x) (s .pre .1 .1 .1 .1)) ∙ sym (b9 .blocked .ensures) ∙ b8 .if1 .left)) (pushed-on (λ g. entriesW (a .index) (a .transitive) 0 (rowB g (4 * a .x + 2))) (s .pre .0 .low) (b6 .push-row .ensures) (c .before .before .push-row2 .ensures))
+    let g = rowsOf (a .ws .now) in subst (λ (vs : List ℕ). Pushed (a .ws .now) (a .top) vs (c .before .before .push-list2 .last .0) (c .before .before .push-list2 .result)) (aliases-open g (a .x) (a .direction) (a .index) (a .transitive) (a .kind) (ap (λ (v : ℕ). blockedW v (a .direction)) (value-at (a .ws .now) (s .pre .0 .size) (a .x) (s .pre .1 .0)) ∙ sym (b9 .blocked .ensures) ∙ b8 .if1 .left)) (pushed-on (λ g. entriesW (a .index) (a .transitive) 0 (rowB g (4 * a .x + MAYBE))) (s .pre .0 .low) (b6 .push-list .ensures) (c .before .before .push-list2 .ensures))
 
 pub push-aliases-spec : {M : Type 1} → statement M
 push-aliases-spec =
@@ -78,11 +85,13 @@ push-aliases-spec =
     slice-read-blocked
     blocked-requires
     returns
-    mul-push-row
-    add-push-row
-    push-row-requires
-    mul-push-row-2
-    add-push-row-2
-    push-row-requires-2
+    mul-push-list
+    cast-push-list
+    add-push-list
+    push-list-requires
+    mul-push-list-2
+    cast-push-list-2
+    add-push-list-2
+    push-list-requires-2
     same-length
     returns-2)

@@ -1,30 +1,76 @@
+use Rattle.aliasing.proofs.PushLaws.{room-edges, room-created, room-aliases, room-captures, all-pushed}
+use Prim.Native.Nat.{_-_}
 use native.Mathlib.Omega.{arith}
-use Rattle.workspace.proofs.Rows.{limit-at}
-use Rattle.aliasing.proofs.PushLaws.{pushed-length, all-beyond}
+use mathlib.Core.Path.{_∙_}
+use Rattle.aliasing.proofs.PushLaws.{pushed-length}
 use Rattle.aliasing.proofs.pushes.push_all.Statement.{statement}
 use Rattle.aliasing.proofs.pushes.push_all.Tie as tie
 
-slice-read-if1 : tie.Need-slice-read-if1
-slice-read-if1 c = omega arith
+push-edges-requires : tie.Need-push-edges-requires
+push-edges-requires c κs =
+    let s = c .before .before in
+    let a = s .args in
+    (room-edges (a .ws .now) (a .top) (a .x) (a .direction) (a .index) (a .transitive) (a .kind) (s .pre .0) (s .pre .1 .0), s .pre .1)
 
-cast-if1 : tie.Need-cast-if1
-cast-if1 c = omega arith
+mul-push-list : tie.Need-mul-push-list
+mul-push-list c =
+    let b6 = c .before .before .before .before .before .before in
+    omega (arith, b6 .pre)
+
+push-list-requires : tie.Need-push-list-requires
+push-list-requires c κs =
+    let b3 = c .before .before .before in
+    let b5 = b3 .before .before in
+    let s = b5 .before in
+    let a = s .args in
+    (room-created (a .ws .now) (a .top) (a .x) (a .direction) (a .index) (a .transitive) (a .kind) (s .pre .0) (s .pre .1 .0) (b3 .push-edges .last .0) (b3 .push-edges .result) (b3 .push-edges .ensures), (omega (arith, s .pre), (omega arith, s .pre .1 .1 .1)))
+
+push-aliases-requires : tie.Need-push-aliases-requires
+push-aliases-requires c κs =
+    let b3 = c .before .before .before in
+    let b7 = b3 .before .before .before .before in
+    let b9 = b7 .before .before in
+    let s = b9 .before in
+    let a = s .args in
+    (room-aliases (a .ws .now) (a .top) (a .x) (a .direction) (a .index) (a .transitive) (a .kind) (s .pre .0) (s .pre .1 .0) (b7 .push-edges .last .0) (b7 .push-edges .result) (b7 .push-edges .ensures) (b3 .push-list .last .0) (b3 .push-list .result) (b3 .push-list .ensures), (s .pre .1 .0, (s .pre .1 .1 .0, s .pre .1 .1 .1)))
+
+push-captures-requires : tie.Need-push-captures-requires
+push-captures-requires c κs =
+    let b3 = c .before .before .before in
+    let b7 = b3 .before .before .before .before in
+    let b11 = b7 .before .before .before .before in
+    let b13 = b11 .before .before in
+    let s = b13 .before in
+    let a = s .args in
+    (room-captures (a .ws .now) (a .top) (a .x) (a .direction) (a .index) (a .transitive) (a .kind) (s .pre .0) (s .pre .1 .0) (b11 .push-edges .last .0) (b11 .push-edges .result) (b11 .push-edges .ensures) (b7 .push-list .last .0) (b7 .push-list .result) (b7 .push-list .ensures) (b3 .push-aliases .last .0) (b3 .push-aliases .result) (b3 .push-aliases .ensures), (s .pre .1 .0, (s .pre .1 .1 .0, s .pre .1 .1 .1)))
+
+same-length : tie.Need-same-length
+same-length c =
+    let b6 = c .before .before .before .before .before .before in
+    let b10 = b6 .before .before .before .before in
+    let b14 = b10 .before .before .before .before in
+    pushed-length (c .before .before .push-captures .ensures)
+    ∙ pushed-length (b6 .push-aliases .ensures)
+    ∙ pushed-length (b10 .push-list .ensures)
+    ∙ pushed-length (b14 .push-edges .ensures)
 
 returns : tie.Need-returns
 returns c =
-    let s = c .before .before .before in
-    all-beyond (s .args .ws .now) (s .pre .0 .size) (s .pre .0 .good) (s .args .top) (s .args .x) (s .args .direction) (s .args .index) (s .args .transitive) (s .args .kind) (s .pre .1 .0) (omega (arith, c .if1 .taken, limit-at (s .args .ws .now) (s .pre .0 .size)))
-
-push-node-requires : tie.Need-push-node-requires
-push-node-requires c κs =
-    let s = c .before .before .before .before in
-    (s .pre .0, (s .pre .1 .0, (s .pre .1 .1 .0, (s .pre .1 .1 .1, omega (arith, c .before .if1 .left, limit-at (s .args .ws .now) (s .pre .0 .size))))))
-
-same-length : tie.Need-same-length
-same-length c = pushed-length (c .before .before .push-node .ensures)
-
-returns-2 : tie.Need-returns-2
-returns-2 c = c .before .before .push-node .ensures
+    let b6 = c .before .before .before .before .before .before in
+    let b10 = b6 .before .before .before .before in
+    let b14 = b10 .before .before .before .before in
+    let b16 = b14 .before .before in
+    let s = b16 .before in
+    let a = s .args in all-pushed (a .ws .now) (a .top) (a .x) (a .direction) (a .index) (a .transitive) (a .kind) (s .pre .0) (s .pre .1 .0) (b14 .push-edges .last .0) (b14 .push-edges .result) (b14 .push-edges .ensures) (b10 .push-list .last .0) (b10 .push-list .result) (b10 .push-list .ensures) (b6 .push-aliases .last .0) (b6 .push-aliases .result) (b6 .push-aliases .ensures) (c .before .before .push-captures .last .0) (c .before .before .push-captures .result) (c .before .before .push-captures .ensures)
 
 pub push-all-spec : {M : Type 1} → statement M
-push-all-spec = tie.close (tie.spec slice-read-if1 cast-if1 returns push-node-requires same-length returns-2)
+push-all-spec =
+    tie.close
+    (tie.spec
+    push-edges-requires
+    mul-push-list
+    push-list-requires
+    push-aliases-requires
+    push-captures-requires
+    same-length
+    returns)

@@ -9,16 +9,19 @@ use borrow.Author.Needs.{needs}
 use Rattle.aliasing.proofs.pushes.push_captures.Statement.{statement}
 use Rattle.aliasing.proofs.pushes.push_captures.Tie as tie
 
-mul-push-row : tie.Need-mul-push-row
-mul-push-row c = search needs
+mul-push-list : tie.Need-mul-push-list
+mul-push-list c = search needs
 
-add-push-row : tie.Need-add-push-row
-add-push-row c = search needs
+cast-push-list : tie.Need-cast-push-list
+cast-push-list c = omega arith
 
-push-row-requires : tie.Need-push-row-requires
-push-row-requires c κs =
+add-push-list : tie.Need-add-push-list
+add-push-list c = search needs
+
+push-list-requires : tie.Need-push-list-requires
+push-list-requires c κs =
     let s = c .before .before .before in
-    (s .pre .0, (omega (arith, s .pre), (s .pre .1 .1 .0, (s .pre .1 .1 .1 .0, omega (arith, s .pre)))))
+    (s .pre .0, (omega (arith, s .pre), (s .pre .1 .1 .0, s .pre .1 .1 .1)))
 
 same-length : tie.Need-same-length
 same-length c = search needs
@@ -28,7 +31,7 @@ returns c =
     let b4 = c .before .before .before .before in
     let b5 = b4 .before in
     let s = b5 .before in
-    let a = s .args in subst (λ (vs : List ℕ). Pushed (a .ws .now) (a .top) vs (c .before .before .push-row .last .0) (c .before .before .push-row .result)) (captures-open (rowsOf (a .ws .now)) (a .x) (a .index) (a .transitive) (a .kind) (b4 .if1 .taken)) (c .before .before .push-row .ensures)
+    let a = s .args in subst (λ (vs : List ℕ). Pushed (a .ws .now) (a .top) vs (c .before .before .push-list .last .0) (c .before .before .push-list .result)) (captures-open (rowsOf (a .ws .now)) (a .x) (a .index) (a .transitive) (a .kind) (b4 .if1 .taken)) (c .before .before .push-list .ensures)
 
 returns-2 : tie.Need-returns-2
 returns-2 c =
@@ -40,4 +43,4 @@ returns-2 c =
 pub push-captures-spec : {M : Type 1} → statement M
 push-captures-spec =
     tie.close
-    (tie.spec mul-push-row add-push-row push-row-requires same-length returns returns-2)
+    (tie.spec mul-push-list cast-push-list add-push-list push-list-requires same-length returns returns-2)

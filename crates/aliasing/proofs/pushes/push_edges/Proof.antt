@@ -10,7 +10,7 @@ use Rattle.aliasing.proofs.pushes.push_edges.Statement.{statement}
 use Rattle.aliasing.proofs.pushes.push_edges.Tie as tie
 
 bounds : (s : tie.Start) → Bounds (s .args .ws .now) FBOUND (FBOUND + s .args .x) (FBOUND + s .args .x + 1) (fb (rowsOf (s .args .ws .now)) (s .args .x)) (fb (rowsOf (s .args .ws .now)) (s .args .x + 1))
-bounds s = edge-bounds (s .args .ws .now) (s .pre .0 .size) (s .pre .0 .good) (s .args .x) (s .pre .1 .1 .1 .1)
+bounds s = edge-bounds (s .args .ws .now) (s .pre .0 .size) (s .pre .0 .good) (s .args .x) (s .pre .1 .0)
 
 slice-read-wide : tie.Need-slice-read-wide
 slice-read-wide c = omega arith

@@ -1,14 +1,14 @@
-use native.Mathlib.Omega.{arith}
 use Rattle.workspace.specs.Layout.{VALUE}
 use Rattle.building.proofs.Writes.{create-new, create-again}
 use lib.ListN.{length-set}
+use native.Mathlib.Omega.{arith}
 use Prim.Native.Nat.{_+_}
 use borrow.Author.Needs.{needs}
 use Rattle.building.proofs.graph.create.Statement.{statement}
 use Rattle.building.proofs.graph.create.Tie as tie
-
-raise-requires : tie.Need-raise-requires
-raise-requires c κs = search needs
+use Rattle.building.proofs.graph.create.Reads as reads
+use Rattle.building.proofs.graph.create.Lts as lts
+use Rattle.building.proofs.logs.leave.Reads as leave-reads
 
 add-if1 : tie.Need-add-if1
 add-if1 c = omega arith
@@ -33,9 +33,8 @@ same-length c = search needs
 
 returns : tie.Need-returns
 returns c =
-    let b4 = c .before .before .before .before in
-    let b7 = b4 .before .before .before in
-    create-new _ _ _ _ (b7 .pre .0) (b7 .pre .1 .1) _ _ (b4 .raise .ensures) (c .if1 .taken)
+    let b3 = c .before .before .before in
+    create-new _ _ _ _ (b3 .pre .0) (b3 .pre .1 .0) (b3 .pre .1 .1) (c .if1 .taken)
 
 leave-requires : tie.Need-leave-requires
 leave-requires c κs = search needs
@@ -55,22 +54,19 @@ slice-write-ws-2 c = omega arith
 same-length-2 : tie.Need-same-length-2
 same-length-2 c =
     let b6 = c .before .before .before .before .before .before in
-    let b12 = b6 .before .before .before .before .before .before in
-    let b15 = b12 .before .before .before in
-    omega (arith, length-set (c .before .before .leave2 .last .0) (VALUE + b15 .args .x) (b15 .args .value), c .before .before .leave2 .kept .0, b6 .leave .kept .0, b12 .raise .kept .0)
+    let b11 = b6 .before .before .before .before .before in
+    omega (arith, length-set (c .before .before .leave2 .last .0) (VALUE + b11 .args .x) (b11 .args .value), c .before .before .leave2 .kept .0, b6 .leave .kept .0)
 
 returns-2 : tie.Need-returns-2
 returns-2 c =
     let b6 = c .before .before .before .before .before .before in
-    let b12 = b6 .before .before .before .before .before .before in
-    let b15 = b12 .before .before .before in
-    create-again _ _ _ _ (b15 .pre .0) (b15 .pre .1 .1) _ _ (b12 .raise .ensures) _ _ (b6 .leave .ensures) _ _ (c .before .before .leave2 .ensures)
+    let b11 = b6 .before .before .before .before .before in
+    create-again _ _ _ _ (b11 .pre .0) (b11 .pre .1 .0) (b11 .pre .1 .1) _ _ (b6 .leave .ensures) _ _ (c .before .before .leave2 .ensures)
 
 pub create-spec : {M : Type 1} → statement M
 create-spec =
     tie.close
     (tie.spec
-    raise-requires
     add-if1
     mul-if1
     slice-read-if1

@@ -4,6 +4,9 @@ use native.Mathlib.Omega.{arith}
 use borrow.Author.Needs.{needs}
 use Rattle.building.proofs.logs.add_entry.Statement.{statement}
 use Rattle.building.proofs.logs.add_entry.Tie as tie
+use Rattle.building.proofs.logs.add_entry.Reads as reads
+use Rattle.building.proofs.logs.add_entry.Lts as lts
+use Rattle.building.proofs.logs.has_entry.Reads as has-entry-reads
 
 has-entry-requires : tie.Need-has-entry-requires
 has-entry-requires c κs = search needs
@@ -25,8 +28,8 @@ mul-ws c = omega arith
 slice-write-ws : tie.Need-slice-write-ws
 slice-write-ws c = omega arith
 
-add-t11 : tie.Need-add-t11
-add-t11 c = omega arith
+add-t10 : tie.Need-add-t10
+add-t10 c = omega arith
 
 same-length-2 : tie.Need-same-length-2
 same-length-2 c = search needs
@@ -46,6 +49,6 @@ add-entry-spec =
     add-ws
     mul-ws
     slice-write-ws
-    add-t11
+    add-t10
     same-length-2
     returns-2)

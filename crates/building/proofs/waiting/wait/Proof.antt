@@ -6,6 +6,9 @@ use Prim.Native.Nat.{_+_}
 use borrow.Author.Needs.{needs}
 use Rattle.building.proofs.waiting.wait.Statement.{statement}
 use Rattle.building.proofs.waiting.wait.Tie as tie
+use Rattle.building.proofs.waiting.wait.Reads as reads
+use Rattle.building.proofs.waiting.wait.Lts as lts
+use Rattle.building.proofs.logs.pack.Reads as pack-reads
 
 pack-requires : tie.Need-pack-requires
 pack-requires c κs = search needs
@@ -28,8 +31,8 @@ mul-ws-2 c = omega arith
 slice-write-ws-2 : tie.Need-slice-write-ws-2
 slice-write-ws-2 c = omega (arith, length-set (c .before .before .args .ws .now) (PREDS + c .before .before .args .h .waiting) (c .before .before .args .predecessor))
 
-add-t12 : tie.Need-add-t12
-add-t12 c = omega arith
+add-t11 : tie.Need-add-t11
+add-t11 c = omega arith
 
 same-length : tie.Need-same-length
 same-length c = search needs
@@ -48,6 +51,6 @@ wait-spec =
     add-ws-2
     mul-ws-2
     slice-write-ws-2
-    add-t12
+    add-t11
     same-length
     returns)

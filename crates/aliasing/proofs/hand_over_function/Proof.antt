@@ -3,8 +3,8 @@ use Rattle.aliasing.specs.Accepts.{functionW}
 use mathlib.Core.Path.{refl}
 use borrow.Author.Tests.{lt-ltb, le-ltb}
 use borrow.Author.Needs.{needs}
-use Rattle.aliasing.proofs.append_function_errors.Statement.{statement}
-use Rattle.aliasing.proofs.append_function_errors.Tie as tie
+use Rattle.aliasing.proofs.hand_over_function.Statement.{statement}
+use Rattle.aliasing.proofs.hand_over_function.Tie as tie
 
 add-v : tie.Need-add-v
 add-v c = search needs
@@ -35,8 +35,8 @@ returns-2 : tie.Need-returns-2
 unfolding functionW
 returns-2 c = simp (le-ltb _ 3 (c .if1 .left)) (record { words = refl; next = refl })
 
-pub append-function-errors-spec : {M : Type 1} → statement M
-append-function-errors-spec =
+pub hand-over-function-spec : {M : Type 1} → statement M
+hand-over-function-spec =
     tie.close
     (tie.spec
     add-v
