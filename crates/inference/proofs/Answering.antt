@@ -2,7 +2,7 @@
 use Prim.Native.Nat.{ℕ, _+_, _*_, _≤_, _<_}
 use native.Mathlib.Omega.{arith}
 use mathlib.Core.Path.{_≡_, refl, sym, ap, _∙_}
-use mathlib.Core.List.{List, [], _∷_, _++_, map, append-assoc}
+use mathlib.Core.List.{List, [], _∷_, _++_, map, append-assoc, map-append}
 use lib.ListN.{length, getD}
 use lib.Seq.{slice, slice-empty}
 use Rattle.model.specs.Lists.{listIf}
@@ -35,9 +35,8 @@ use Rattle.writing.specs.Wrote.{Wrote}
 use Rattle.writing.proofs.Writing.{wrote-then, wrote-as}
 use Rattle.summary.specs.Records.{Holds}
 use Rattle.summary.specs.Ranges.{Ranges}
-use Rattle.summary.specs.Tracked.{trackedFrom}
+use Rattle.workspace.specs.Tracked.{trackedFrom}
 use Rattle.summary.specs.Sections.{Marked, simulatedOf}
-use Rattle.summary.proofs.Places.{map-append}
 use Rattle.summary.proofs.Whole.{params-tracked, context-tracked}
 use Rattle.summary.proofs.Rooms.{ranges-next, marked-next}
 use Rattle.function.specs.declared.HirFunction.{HirFunction}

@@ -14,7 +14,7 @@ use Rattle.model.specs.Sections.{innerFunction, block}
 use Rattle.model.specs.Sections.{sheet as sheetReader}
 use Rattle.model.specs.Building.{firstPlaces}
 use Rattle.model.proofs.ReadLaws.{counted-length}
-use Rattle.workspace.specs.Layout.{END, SEEN, VALUE, FBOUND, FUNCTIONS}
+use Rattle.workspace.specs.Layout.{END, SEEN, VALUE, FBOUND, FUNCTIONS, TRACKED}
 use Rattle.workspace.specs.Graph.{tab}
 use Rattle.workspace.proofs.Parts.{take-less, drop-word, slice-at}
 use Rattle.building.specs.declared.Building.{Building}
@@ -25,7 +25,7 @@ use Rattle.header.specs.declared.Top.{Top}
 use Rattle.header.specs.declared.TopStep.{TopStep}
 use Rattle.header.specs.declared.TopStep.the-variants.{Got as GotTop, Refused as NoTop}
 use Rattle.header.specs.Read.{Tops, topIs, topFew, Topped}
-use Rattle.summary.specs.Tracked.{TRACKED, trackedOf}
+use Rattle.workspace.specs.Tracked.{trackedOf}
 use Rattle.function.specs.declared.HirFunction.{HirFunction}
 use Rattle.function.specs.Function.{Limited, Describes, Stands}
 use Rattle.parameters.specs.declared.Tracked.{Tracked}

@@ -20,7 +20,7 @@ use Rattle.building.specs.declared.Building.{Building}
 use Rattle.building.specs.Built.{begun, Steps}
 use Rattle.instructions.proofs.Gots.{both-got}
 use Rattle.header.specs.Read.{afterFunctions}
-use Rattle.summary.specs.Tracked.{Tracks}
+use Rattle.workspace.specs.Tracked.{Tracks}
 use Rattle.parameters.specs.declared.ListStep.{ListStep}
 use Rattle.parameters.specs.declared.ListStep.the-variants.{Refused as NoList}
 use Rattle.parameters.specs.declared.TrackedStep.the-variants.{Got as GotTracked, Refused as NoTracked}

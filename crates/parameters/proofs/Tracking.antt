@@ -12,15 +12,15 @@ use Rattle.model.specs.Sections.{place}
 use Rattle.model.specs.Graph.{object, create}
 use Rattle.model.specs.Built.{Built, changed}
 use Rattle.model.proofs.Got.{got-value, got-next, not-both}
-use Rattle.workspace.specs.Layout.{SEEN, FUNCTIONS}
+use Rattle.workspace.specs.Layout.{SEEN, FUNCTIONS, TRACKED}
 use Rattle.workspace.proofs.Parts.{take-less, drop-more, slice-take, slice-drop}
 use Rattle.building.specs.declared.Building.{Building}
 use Rattle.building.specs.Built.{builtOf, begun, Sound, Steps}
 use Rattle.dataflow.specs.Whole.{createdFor}
 use Rattle.instructions.proofs.Gots.{joined, times-joined, times-none}
 use Rattle.hir.specs.declared.Cursor.{Cursor}
-use Rattle.summary.specs.Tracked.{TRACKED, trackedOf, Tracks}
-use Rattle.summary.proofs.Places.{tracked-kept}
+use Rattle.workspace.specs.Tracked.{trackedOf, Tracks}
+use Rattle.workspace.proofs.Places.{tracked-kept}
 use Rattle.parameters.specs.declared.PlacesStep.the-variants.{Got, Refused}
 use Rattle.parameters.specs.Places.{Places, ReadsPlaces}
 use Rattle.parameters.proofs.Staying.{built-stays, sound-stays}

@@ -10,12 +10,12 @@ use Rattle.model.specs.Reading.{Position, Result, got, numbered}
 use Rattle.model.specs.Sections.{block}
 use Rattle.model.specs.Building.{firstPlaces}
 use Rattle.hir.specs.Says.{placeIs}
-use Rattle.workspace.specs.Layout.{SEEN, FUNCTIONS}
+use Rattle.workspace.specs.Layout.{SEEN, FUNCTIONS, TRACKED}
 use Rattle.building.specs.declared.Building.{Building}
 use Rattle.building.specs.Built.{builtOf, begun, Sound}
 use Rattle.dataflow.specs.Whole.{createdFor}
 use Rattle.header.specs.Read.{afterFunctions}
-use Rattle.summary.specs.Tracked.{TRACKED, trackedOf}
+use Rattle.workspace.specs.Tracked.{trackedOf}
 use Rattle.parameters.specs.declared.PlacesStep.{PlacesStep}
 use Rattle.parameters.specs.declared.PlacesStep.the-variants.{Got, Refused}
 use Rattle.parameters.specs.declared.ListStep.{ListStep}

@@ -15,7 +15,7 @@ use hir::Cursor;
 use hir::Place;
 use hir::PlaceStep;
 use hir::WordStep;
-use summary::tracked::track;
+use workspace::tracked::track;
 
 // The function and its building before the first block, or a refusal, which no accepted sheet gives.
 pub enum FunctionStep {

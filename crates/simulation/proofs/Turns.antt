@@ -16,7 +16,7 @@ use Rattle.model.specs.Simulated.{tracked, simulation, flowEffects, simulate}
 use Rattle.model.specs.Answer.{effectWords}
 use Rattle.model.proofs.Handed.{withHanded}
 use Rattle.model.proofs.Simulating.{takenBy, After, after-start, after-turn, after-done}
-use Rattle.workspace.specs.Layout.{HANDED, MUTATIONS, SIMULATED}
+use Rattle.workspace.specs.Layout.{HANDED, MUTATIONS, SIMULATED, TRACKED}
 use Rattle.workspace.specs.Rows.{rowsOf, Good, Indexed, Kept}
 use Rattle.workspace.specs.Graph.{tab}
 use Rattle.workspace.proofs.Parts.{kept-none, kept-set, drop-more, drop-word, slice-drop}
@@ -33,10 +33,10 @@ use Rattle.aliasing.proofs.Steps.{state-same}
 use Rattle.writing.specs.Wrote.{Wrote}
 use Rattle.writing.proofs.Writing.{wrote-none, wrote-then, wrote-as}
 use Rattle.copies.proofs.Gathers.{gather-append}
-use Rattle.summary.specs.Tracked.{TRACKED, trackedAt, trackedOf}
+use Rattle.workspace.specs.Tracked.{trackedAt, trackedOf}
 use Rattle.summary.specs.Sections.{Flows, simulatedOf}
 use Rattle.summary.proofs.Held.{holds-state}
-use Rattle.summary.proofs.Places.{tracked-kept}
+use Rattle.workspace.proofs.Places.{tracked-kept}
 use Rattle.summary.proofs.Rooms.{flows-next}
 use Rattle.simulation.specs.Simulates.{Marked, Simulates}
 

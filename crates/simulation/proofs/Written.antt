@@ -27,7 +27,8 @@ use Rattle.copies.specs.declared.effect_lists.Section.the-variants.{Effects}
 use Rattle.copies.proofs.Gathers.{gather-append}
 use Rattle.copies.proofs.Sections.{copied-words, section-patched, effects-count}
 use Rattle.summary.specs.Records.{Holds, Collected}
-use Rattle.summary.specs.Tracked.{trackedOf, trackedFrom, Marks}
+use Rattle.workspace.specs.Tracked.{trackedOf, trackedFrom}
+use Rattle.summary.specs.Tracked.{Marks}
 use Rattle.summary.proofs.Held.{holds-state}
 use Rattle.summary.proofs.Rooms.{collected-next}
 use Rattle.summary.proofs.Whole.{params-tracked, context-tracked, marks-tracked}

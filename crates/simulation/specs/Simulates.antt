@@ -15,7 +15,7 @@ use Rattle.model.specs.Answer.{effectWords, section, summary}
 use Rattle.workspace.specs.Layout.{HANDED, MUTATIONS, SIMULATED}
 use Rattle.aliasing.specs.State.{Covered, stateOf}
 use Rattle.writing.specs.Wrote.{Wrote}
-use Rattle.summary.specs.Tracked.{trackedOf}
+use Rattle.workspace.specs.Tracked.{trackedOf}
 use Rattle.summary.specs.Sections.{simulatedOf}
 use Rattle.function.specs.declared.HirFunction.{HirFunction}
 use Rattle.function.specs.Function.{Describes, Stands}

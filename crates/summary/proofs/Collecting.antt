@@ -19,7 +19,7 @@ use Rattle.copies.proofs.Gathers.{gather-append, gather-gather}
 use Rattle.copies.proofs.Sections.{effects-length}
 use Rattle.copies.proofs.Loops.{Leaves, leaves-all, table-turn, table-end}
 use Rattle.summary.specs.Records.{Holds, levelEffects, Collected}
-use Rattle.summary.specs.Tracked.{trackedAt, trackedFrom}
+use Rattle.workspace.specs.Tracked.{trackedAt, trackedFrom}
 use Rattle.summary.proofs.Held.{held, state-words}
 
 -- the place with another span

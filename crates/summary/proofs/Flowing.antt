@@ -20,7 +20,7 @@ use Rattle.writing.proofs.Writing.{wrote-as, wrote-none}
 use Rattle.copies.proofs.Gathers.{gather-gather}
 use Rattle.copies.proofs.Loops.{Leaves, leaves-all, table-turn, table-end}
 use Rattle.summary.specs.Records.{Holds}
-use Rattle.summary.specs.Tracked.{trackedAt, trackedOf}
+use Rattle.workspace.specs.Tracked.{trackedAt, trackedOf}
 use Rattle.summary.specs.Sections.{Flow, Flows}
 use Rattle.summary.proofs.Held.{held, state-words}
 

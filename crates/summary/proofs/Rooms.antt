@@ -20,10 +20,10 @@ use Rattle.aliasing.specs.Pending.{takenOf}
 use Rattle.writing.specs.Wrote.{Wrote}
 use Rattle.copies.proofs.Lengths.{gather-length}
 use Rattle.summary.specs.Records.{Holds, Collected}
-use Rattle.summary.specs.Tracked.{trackedAt, trackedOf, trackedFrom}
+use Rattle.workspace.specs.Tracked.{trackedAt, trackedOf, trackedFrom}
 use Rattle.summary.specs.Sections.{Marked, Flows, simulatedOf}
 use Rattle.summary.proofs.Held.{held}
-use Rattle.summary.proofs.Places.{tracked-below}
+use Rattle.workspace.proofs.Places.{tracked-below}
 use Rattle.summary.proofs.Collecting.{collect-length, recordWords}
 use Rattle.summary.proofs.Flowing.{pick-most}
 use Rattle.summary.proofs.Starts.{ranges-length}

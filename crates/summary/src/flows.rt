@@ -9,7 +9,7 @@ ghost use Rattle.hir.specs.Numbers.{kindSays};
 ghost use Rattle.hir.specs.Says.{placeIs};
 ghost use Rattle.writing.specs.Wrote.{farthest};
 ghost use Rattle.summary.specs.Sections.{Flow, Flows};
-use crate::tracked::tracked;
+use workspace::tracked::tracked;
 use aliasing::field;
 use copies::put_effect;
 use hir::AliasingEffect;

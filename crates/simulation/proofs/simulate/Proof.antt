@@ -1,7 +1,7 @@
 use native.Mathlib.Omega.{arith}
 use mathlib.Core.Path.{_∙_}
 use Prim.Native.Nat.{_-_}
-use Rattle.summary.proofs.Places.{is-below}
+use Rattle.workspace.proofs.Places.{is-below}
 use Rattle.simulation.proofs.Turns.{Turned, cleared-start, cleared-marked, cleared-end, long, stored-size, turned-turn, turned-end}
 use Rattle.simulation.proofs.simulate.Statement.{statement}
 use Rattle.simulation.proofs.simulate.Tie as tie
