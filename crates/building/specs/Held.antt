@@ -11,7 +11,7 @@ use Rattle.model.specs.Lists.{keep, each}
 use Rattle.model.specs.Graph.{Graph, intoAliases, relate}
 use Rattle.model.specs.Built.{Waiting}
 use Rattle.model.specs.Building.{waitingFor}
-use Rattle.workspace.specs.Layout.{LEAST, VALUE, FBOUND, EDGES, ENTRIES, PREDS, RELATIONS, QUEUE, HANDED}
+use Rattle.workspace.specs.Layout.{LEAST, VALUE, FBOUND, QUEUE, EDGES, ENTRIES, PREDS, RELATIONS, HANDED}
 use Rattle.workspace.specs.Rows.{rowsOf, mostLists, fb, bb, Indexed, Kept}
 use Rattle.workspace.specs.Graph.{MISSING, graphOfRows}
 use Rattle.building.specs.declared.Held.{Held}
