@@ -17,6 +17,7 @@ use Rattle.model.specs.Answer.{answer, answerWords}
 use Rattle.model.specs.Call.{refusal, ended, read, IsSheet, fits, answered, outcome}
 use Rattle.model.proofs.ReadLaws.{isGot}
 use Rattle.model.proofs.Either.{or-left, or-right}
+use Rattle.workspace.specs.Layout.{LEAST}
 use Rattle.reading.specs.Judging.{Told}
 use Rattle.reading.specs.Whole.{acceptance, judgementOf}
 use Rattle.reading.specs.Whole.{refusal as noSheet}
@@ -51,21 +52,21 @@ pub refused-is : (sheet : List ℕ) {k : ℕ} → judgementOf (read sheet) ≡ n
 refused-is sheet {k} e = refused-sheet sheet k e
 
 module _ (sheet ws ans : List ℕ) where
-  pub inferred-one : {r : Outcome} {ws′ ans′ : List ℕ} → length ws < 16384 → Came (refusal 1) ws ans r ws′ ans′ → Inferred sheet ws ans r ws′ ans′
+  pub inferred-one : {r : Outcome} {ws′ ans′ : List ℕ} → length ws < LEAST → Came (refusal 1) ws ans r ws′ ans′ → Inferred sheet ws ans r ws′ ans′
   unfolding outcome
-  inferred-one h c = came-as (ap (λ (b : Bool). pick b (refusal 1) (answered (length ans) (read sheet))) (sym (lt-ltb (length ws) 16384 h))) c
+  inferred-one h c = came-as (ap (λ (b : Bool). pick b (refusal 1) (answered (length ans) (read sheet))) (sym (lt-ltb (length ws) LEAST h))) c
 
-  enough : 16384 ≤ length ws → outcome sheet (length ws) (length ans) ≡ answered (length ans) (read sheet)
+  enough : LEAST ≤ length ws → outcome sheet (length ws) (length ans) ≡ answered (length ans) (read sheet)
   unfolding outcome
-  enough h = ap (λ (b : Bool). pick b (refusal 1) (answered (length ans) (read sheet))) (le-ltb (length ws) 16384 h)
+  enough h = ap (λ (b : Bool). pick b (refusal 1) (answered (length ans) (read sheet))) (le-ltb (length ws) LEAST h)
 
-  pub inferred-refused : {k : ℕ} {r : Outcome} {ws′ ans′ : List ℕ} → 16384 ≤ length ws → read sheet ≡ refused k → Came (refusal k) ws ans r ws′ ans′ → Inferred sheet ws ans r ws′ ans′
+  pub inferred-refused : {k : ℕ} {r : Outcome} {ws′ ans′ : List ℕ} → LEAST ≤ length ws → read sheet ≡ refused k → Came (refusal k) ws ans r ws′ ans′ → Inferred sheet ws ans r ws′ ans′
   unfolding answered
   inferred-refused {k} h e c =
       let o : answered (length ans) (read sheet) ≡ refusal k = ap (answered (length ans)) e in
       came-as (sym (enough h ∙ o)) c
 
-  pub inferred-answered : (s : Sheet) {r : Outcome} {ws′ ans′ : List ℕ} → 16384 ≤ length ws → IsSheet sheet s → Came (fits (length ans) (answerWords (answer s))) ws ans r ws′ ans′ → Inferred sheet ws ans r ws′ ans′
+  pub inferred-answered : (s : Sheet) {r : Outcome} {ws′ ans′ : List ℕ} → LEAST ≤ length ws → IsSheet sheet s → Came (fits (length ans) (answerWords (answer s))) ws ans r ws′ ans′ → Inferred sheet ws ans r ws′ ans′
   unfolding answered
   inferred-answered s h e c =
       let o : answered (length ans) (read sheet) ≡ fits (length ans) (answerWords (answer s)) = ap (answered (length ans)) (e .1) in

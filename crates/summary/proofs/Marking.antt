@@ -6,6 +6,7 @@ use mathlib.Core.Path.{_≡_, refl, sym, ap, _∙_}
 use mathlib.Core.Bool.{Bool, true, false}
 use mathlib.Core.List.{List, [], _∷_, map}
 use lib.ListN.{length, take, drop}
+use Rattle.model.specs.Limits.{mostIdentifiers}
 use Rattle.model.specs.Lists.{pick, gather}
 use Rattle.model.specs.Answer.{placeWords, section}
 use Rattle.model.specs.Sheet.{Place}
@@ -29,7 +30,7 @@ use Rattle.summary.proofs.Held.{held, record-held}
 use Rattle.workspace.proofs.Places.{tracked-low, tracked-high}
 
 -- ---- one place
-module _ (ws : List ℕ) (p : Place) (b : p .identifier < 512) where
+module _ (ws : List ℕ) (p : Place) (b : p .identifier < mostIdentifiers) where
   mark-is : (t : State) → Holds ws t → marked t p ≡ pick (hasRecord (recordAt (nodesOf ws) (p .identifier))) (captureMark p) p
   unfolding marked
   mark-is t h = rw (record-held ws t h (p .identifier) b)
@@ -50,7 +51,7 @@ unfolding captureMark
 same-identifier p true = refl
 same-identifier p false = refl
 
-pub mark-below : (ws : List ℕ) (p q : Place) → ((t : State) → Holds ws t → q ≡ marked t p) → p .identifier < 512 → q .identifier < 512
+pub mark-below : (ws : List ℕ) (p q : Place) → ((t : State) → Holds ws t → q ≡ marked t p) → p .identifier < mostIdentifiers → q .identifier < mostIdentifiers
 unfolding marked
 mark-below ws p q m b =
     let s : State = stateOf ws 0 in

@@ -5,6 +5,7 @@ use native.Mathlib.Nat.{mul-suc}
 use mathlib.Core.Path.{_≡_, refl, ap, _∙_}
 use mathlib.Core.List.{List, [], _∷_, _++_, map, append-nil}
 use lib.ListN.{length, length-append}
+use Rattle.model.specs.Limits.{mostIdentifiers}
 use Rattle.model.specs.Lists.{pick, gather}
 use Rattle.model.specs.Sheet.{Identifier, Place, Effect, Sheet}
 use Rattle.model.specs.Reading.{Position, got, times}
@@ -13,6 +14,7 @@ use Rattle.model.specs.State.{State}
 use Rattle.model.specs.Summary.{marked, collectParamEffects}
 use Rattle.model.specs.Simulated.{tracked, flows, flowEffect, flowEffects}
 use Rattle.model.specs.Answer.{Range, rangesOf, rangeWords, placeWords, effectWords, countWords, section}
+use Rattle.workspace.specs.Layout.{LEAST}
 use Rattle.workspace.specs.Graph.{tab}
 use Rattle.workspace.proofs.Tables.{tab-length}
 use Rattle.aliasing.specs.State.{nodesOf, endsOf, stateOf}
@@ -32,7 +34,7 @@ use Rattle.summary.proofs.Counts.{taken-length, simulated-length, count
 use Rattle.copies.proofs.Gathers.{gather-append, gather-gather}
 
 module _ {a : List ℕ} {at : ℕ} {a′ : List ℕ} {r : ℕ} where
-  pub ranges-next : (sheet : List ℕ) (c : Position) (n : ℕ) (ws : List ℕ) (ids : List Identifier) (d : Position) → n ≤ 512 → 16384 ≤ length ws → times n identifier sheet c ≡ got ids d
+  pub ranges-next : (sheet : List ℕ) (c : Position) (n : ℕ) (ws : List ℕ) (ids : List Identifier) (d : Position) → n ≤ mostIdentifiers → LEAST ≤ length ws → times n identifier sheet c ≡ got ids d
       → Wrote (section rangeWords (rangesOf ids (endsOf (nodesOf ws)))) a at a′ r → r ≡ at + 1 + 2 * n
   ranges-next sheet c n ws ids d b h g w =
       let l : List Range = rangesOf ids (endsOf (nodesOf ws)) in

@@ -3,6 +3,8 @@ ghost use mathlib.Core.Path.{_≡_};
 ghost use mathlib.Core.List.{[], _∷_};
 ghost use Prim.Native.Nat.{_+_, _*_, _≤_, _<_};
 ghost use lib.ListN.{length};
+ghost use Rattle.model.specs.Limits.{mostIdentifiers};
+ghost use Rattle.workspace.specs.Layout.{LEAST};
 ghost use Rattle.model.specs.Lists.{gather};
 ghost use Rattle.model.specs.Mutation.{reasonOf};
 ghost use Rattle.model.specs.Summary.{reasonWord};
@@ -11,9 +13,8 @@ ghost use Rattle.hir.specs.Numbers.{kindSays};
 ghost use Rattle.hir.specs.Says.{placeIs};
 ghost use Rattle.writing.specs.Wrote.{Wrote, farthest};
 ghost use Rattle.summary.specs.Records.{levelEffects, Collected};
-ghost use Rattle.workspace.specs.Tracked.{trackedFrom};
+ghost use Rattle.workspace.specs.Tracked.{mostTracked, trackedFrom};
 use workspace::tracked::tracked;
-use aliasing::field;
 use copies::NO_PLACE;
 use copies::put_effect;
 use hir::AliasingEffect;
@@ -66,7 +67,7 @@ fn put_record(
 
 // The records of a place's identifier as effects: the local one first.
 fn collect_param_effects(ws: &[u32], p: Place, answer: &mut [u32], at: usize) -> usize
-    requires { ⌜ (p .identifier .0 < 512) × (16384 ≤ length (now ws)) ⌝ }
+    requires { ⌜ (p .identifier .0 < mostIdentifiers) × (LEAST ≤ length (now ws)) ⌝ }
     requires { ⌜ at + 16 ≤ farthest ⌝ }
     ensures { λ r. ⌜ Collected (now (ws .entry)) (placeIs p ∷ []) (now (answer .entry)) at (now (answer .exit)) r ⌝ }
 {
@@ -85,7 +86,7 @@ fn collect_param_effects(ws: &[u32], p: Place, answer: &mut [u32], at: usize) ->
         reactive: p.reactive,
         span: ws[TSPAN + x],
     };
-    let w = field(ws, RECORD, x);
+    let w = ws[RECORD + x];
     let to = put_record(
         answer,
         at,
@@ -114,7 +115,7 @@ pub fn collect_effects(
     answer: &mut [u32],
     at: usize,
 ) -> usize
-    requires { ⌜ (first + count ≤ 129) × (16384 ≤ length (now ws)) ⌝ }
+    requires { ⌜ (first + count ≤ mostTracked) × (LEAST ≤ length (now ws)) ⌝ }
     requires { ⌜ at + 16 * count ≤ farthest ⌝ }
     ensures { λ r. ⌜ Collected (now (ws .entry)) (trackedFrom (now (ws .entry)) first count) (now (answer .entry)) at (now (answer .exit)) r ⌝ }
 {
