@@ -4,7 +4,7 @@ use native.Mathlib.Omega.{arith}
 use native.Mathlib.Decide.{ℕ-discrete}
 use mathlib.Core.Bool.{Bool, true, false}
 use mathlib.Core.List.{List, [], _∷_, _++_, map}
-use mathlib.Core.Option.{Option, none}
+use mathlib.Core.Option.{Option}
 use mathlib.Core.Path.{_≡_, refl, sym, ap, _∙_}
 use lib.ListN.{length, getD, length-map}
 use lib.Seq.{length-slice}
@@ -107,7 +107,6 @@ module _ (s : Logs) (clean : Clean s) where
   logs-entries : entries (graphOfLogs s) ≡ length (s .entries)
   unfolding graphOfLogs
   logs-entries = entries-below mostIdentifiers (omega arith) ∙ low-all 1 mostLists keys₁ (s .entries)
-
 
 -- ---- in the workspace
 module _ (ws : List ℕ) (h : Held) (room : Room 0 0 ws h) where

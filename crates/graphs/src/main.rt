@@ -4,6 +4,8 @@
 ghost use Prim.Native.Nat.{_+_, _≤_, _<_};
 ghost use mathlib.Core.Path.{_≡_};
 ghost use lib.ListN.{length};
+ghost use Rattle.model.specs.Limits.{mostIdentifiers, mostMutations, mostRenders};
+ghost use Rattle.workspace.specs.Layout.{LEAST, HANDED, MUTATIONS};
 ghost use Rattle.workspace.specs.Rows.{Indexed};
 ghost use Rattle.graphs.specs.Graphs.{Held};
 use files::load_words;
@@ -12,7 +14,7 @@ use libc::STDIN_FILENO;
 use libc::STDOUT_FILENO;
 use workspace::END;
 use workspace::HANDED;
-use workspace::KEPT;
+use workspace::IDENTIFIERS;
 use workspace::LSPAN;
 use workspace::MUTATIONS;
 use workspace::RECORD;
@@ -100,7 +102,7 @@ fn words(c: Comparison, graph: &[u32], ws: &[u32], first: usize, end: usize) -> 
 
 // The entries taken by each walk come next, after their count.
 fn taken(c: Comparison, graph: &[u32], ws: &[u32], count: usize) -> Comparison
-    requires { ⌜ (16384 ≤ length (now ws)) × (count ≤ 512) ⌝ }
+    requires { ⌜ (LEAST ≤ length (now ws)) × (count ≤ mostMutations) ⌝ }
 {
     let mut r = c.word(graph, count as u32);
     let mut i = 0;
@@ -113,7 +115,7 @@ fn taken(c: Comparison, graph: &[u32], ws: &[u32], count: usize) -> Comparison
 
 // The local record of x, its transitive one, its largest index and reason, and its end come next.
 fn node(c: Comparison, graph: &[u32], ws: &[u32], x: usize) -> Comparison
-    requires { ⌜ (16384 ≤ length (now ws)) × (x < 512) ⌝ }
+    requires { ⌜ (LEAST ≤ length (now ws)) × (x < mostIdentifiers) ⌝ }
 {
     let w = ws[RECORD + x];
     let local = c.word(graph, w % 4).word(graph, ws[LSPAN + x]);
@@ -124,7 +126,7 @@ fn node(c: Comparison, graph: &[u32], ws: &[u32], x: usize) -> Comparison
 
 // An identifier that the sheet has not: no record, no end.
 fn bare(c: Comparison, ws: &[u32], x: usize) -> Comparison
-    requires { ⌜ (16384 ≤ length (now ws)) × (x < 512) ⌝ }
+    requires { ⌜ (LEAST ≤ length (now ws)) × (x < mostIdentifiers) ⌝ }
 {
     let spans = c.zero(ws[LSPAN + x]).zero(ws[TSPAN + x]);
     spans.zero(ws[RECORD + x]).zero(ws[END + x])
@@ -132,11 +134,11 @@ fn bare(c: Comparison, ws: &[u32], x: usize) -> Comparison
 
 // The records and the ends of all identifiers.
 fn nodes(c: Comparison, graph: &[u32], ws: &[u32], identifiers: usize) -> Comparison
-    requires { ⌜ 16384 ≤ length (now ws) ⌝ }
+    requires { ⌜ LEAST ≤ length (now ws) ⌝ }
 {
     let mut r = c;
     let mut x = 0;
-    while x < 512 {
+    while x < IDENTIFIERS {
         if x < identifiers {
             r = node(r, graph, ws, x);
         } else {
@@ -149,7 +151,7 @@ fn nodes(c: Comparison, graph: &[u32], ws: &[u32], identifiers: usize) -> Compar
 
 // The functions handed over come next, after their count.
 fn handed(c: Comparison, graph: &[u32], ws: &[u32], hand: usize) -> Comparison
-    requires { ⌜ (16384 ≤ length (now ws)) × ((13315 ≤ hand) × (hand ≤ 13827)) ⌝ }
+    requires { ⌜ (LEAST ≤ length (now ws)) × ((HANDED ≤ hand) × (hand ≤ MUTATIONS)) ⌝ }
 {
     let r = c.word(graph, (hand - HANDED) as u32);
     words(r, graph, ws, HANDED, hand)
@@ -198,11 +200,11 @@ fn count_at(graph: &[u32], at: usize) -> usize
 
 // The ends of the identifiers, from a position on, go to the workspace.
 fn put_ends(graph: &[u32], at: usize, identifiers: usize, ws: &mut [u32])
-    requires { ⌜ (16384 ≤ length (now ws)) × (at ≤ 1000000) ⌝ }
+    requires { ⌜ (LEAST ≤ length (now ws)) × (at ≤ 1000000) ⌝ }
     ensures { λ _. ⌜ length (now (ws .exit)) ≡ length (now (ws .entry)) ⌝ }
 {
     let mut x = 0;
-    while x < 512 && x < identifiers {
+    while x < IDENTIFIERS && x < identifiers {
         ws[END + x] = word_at(graph, at + x);
         x += 1;
     }
@@ -231,7 +233,7 @@ fn walked(
     hand: usize,
     errors: bool,
 ) -> Comparison
-    requires { ⌜ (16384 ≤ length (now ws)) × ((mutations ≤ 512) × ((13315 ≤ hand) × (hand ≤ 13827))) ⌝ }
+    requires { ⌜ (LEAST ≤ length (now ws)) × ((mutations ≤ mostMutations) × ((HANDED ≤ hand) × (hand ≤ MUTATIONS))) ⌝ }
 {
     let start = Comparison {
         at: at,
@@ -245,7 +247,7 @@ fn walked(
 
 // The tally of one graph.
 fn one_graph(walks: usize, renders: usize, differences: u32) -> Tally
-    requires { ⌜ (walks ≤ 512) × (renders ≤ 256) ⌝ }
+    requires { ⌜ (walks ≤ mostMutations) × (renders ≤ mostRenders) ⌝ }
 {
     Tally {
         graphs: 1,
@@ -265,7 +267,7 @@ fn walks(
     renders: usize,
 ) -> Tally
     requires { ⌜ Indexed (now ws) ⌝ }
-    requires { ⌜ (mutations ≤ 512) × (renders ≤ 256) ⌝ }
+    requires { ⌜ (mutations ≤ mostMutations) × (renders ≤ 256) ⌝ }
     ensures { λ _. ⌜ Held (now (ws .entry)) (now (ws .exit)) ⌝ }
 {
     let errors = word_at(graph, at) == 1;
@@ -278,7 +280,7 @@ fn walks(
 
 // One graph: built, walked and compared.
 fn graph(graph: &[u32], ws: &mut [u32]) -> Tally
-    requires { ⌜ 16384 ≤ length (now ws) ⌝ }
+    requires { ⌜ LEAST ≤ length (now ws) ⌝ }
     ensures { λ _. ⌜ length (now (ws .exit)) ≡ length (now (ws .entry)) ⌝ }
 {
     let count = count_at(graph, 0);
@@ -288,7 +290,6 @@ fn graph(graph: &[u32], ws: &mut [u32]) -> Tally
     }
     let identifiers = count_at(graph, ends);
     workspace::clear(ws, RECORD, SEEN);
-    ws[KEPT] = 512;
     put_ends(graph, ends + 1, identifiers, ws);
     let p = steps::lay_out_steps(&graph[1..ends], ws);
     walks(
@@ -325,7 +326,7 @@ fn no_graph() -> Tally {
 
 // All graphs of a part, each after the number of its words; 0 ends the part.
 fn graphs(part: &[u32], ws: &mut [u32]) -> Tally
-    requires { ⌜ 16384 ≤ length (now ws) ⌝ }
+    requires { ⌜ LEAST ≤ length (now ws) ⌝ }
 {
     let mut t = no_graph();
     let mut i = 0;

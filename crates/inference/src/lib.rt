@@ -1,5 +1,4 @@
 // The port of `infer_mutation_aliasing_ranges` up to its second loop over the blocks, and of its Part 3.
-ghost use mathlib.Core.Path.{_≡_};
 ghost use Prim.Native.Nat.{_≤_};
 ghost use lib.ListN.{length};
 ghost use Rattle.model.specs.Limits.{mostIdentifiers};

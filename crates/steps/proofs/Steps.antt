@@ -6,21 +6,18 @@ use mathlib.Core.Bool.{Bool}
 use mathlib.Core.List.{List, [], _∷_}
 use mathlib.Core.Path.{_≡_, refl, sym, subst, _∙_}
 use lib.ListN.{getD}
-use lib.Seq.{getD-take}
 use Rattle.model.specs.Limits.{mostOrder}
 use Rattle.model.specs.Lists.{Every}
 use Rattle.model.specs.Mutation.{Mutation}
 use Rattle.model.specs.Built.{Built}
 use Rattle.model.proofs.Everywhere.{every-append}
-use Rattle.workspace.specs.Layout.{KEPT, SEEN, VALUE, FBOUND, NODES, HANDED, MUTATIONS}
+use Rattle.workspace.specs.Layout.{SEEN, VALUE, FBOUND, HANDED, MUTATIONS}
 use Rattle.workspace.specs.Rows.{Good, Indexed}
 use Rattle.workspace.specs.Graph.{tab}
 use Rattle.workspace.specs.Pending.{mutationOf, mutationAt, mutationsOf}
 use Rattle.workspace.proofs.Parts.{take-less}
-use Rattle.workspace.proofs.Rows.{limit-at}
 use Rattle.building.specs.Built.{Sound, Steps, Starts, LaysOut}
 use Rattle.building.specs.declared.Building.{Building}
-use Rattle.aliasing.specs.State.{nodesOf, Covered}
 use Rattle.aliasing.specs.Pending.{Processed}
 use Rattle.steps.specs.Steps.{Goes, Laid, Orders, Walked}
 
@@ -81,8 +78,3 @@ walked i p = record {
 
 pub not-walked : {ws : List ℕ} → Indexed ws → Walked ws ws HANDED
 not-walked i = record { indexed = i; from = omega arith; room = omega arith; same = refl }
-
--- as many records are kept as there can be nodes
-pub kept-covered : (ws : List ℕ) → Indexed ws → getD ws NODES 0 ≤ getD ws KEPT 0 → Covered ws
-unfolding nodesOf
-kept-covered ws i h = omega (arith, limit-at ws (i .size), getD-take 2624 ws 2048 0 (omega arith), h)

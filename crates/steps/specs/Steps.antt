@@ -3,7 +3,7 @@ use Prim.Native.Nat.{ℕ, _+_, _*_, _≤_, _<_}
 use mathlib.Core.List.{List}
 use mathlib.Core.Path.{_≡_}
 use lib.ListN.{length, getD, take}
-use Rattle.model.specs.Limits.{mostOrder}
+use Rattle.model.specs.Limits.{mostMutations, mostRenders, mostOrder}
 use Rattle.workspace.specs.Layout.{SEEN, HANDED, MUTATIONS}
 use Rattle.workspace.specs.Rows.{Indexed}
 use Rattle.building.specs.Built.{Sound}
@@ -19,8 +19,8 @@ pub record Goes (ws ws′ : List ℕ) (r : Building) : Type 0 where
 -- the graph is laid out for the walks, and no more than a sheet's mutations and renders are to come
 pub record Laid (ws ws′ : List ℕ) (r : Pending) : Type 0 where
   pub indexed : Indexed ws′
-  pub mutations : r .mutations ≤ 512
-  pub renders : r .renders ≤ 256
+  pub mutations : r .mutations ≤ mostMutations
+  pub renders : r .renders ≤ mostRenders
   pub low : take SEEN ws′ ≡ take SEEN ws
   pub same : length ws′ ≡ length ws
 

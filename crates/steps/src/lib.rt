@@ -4,6 +4,7 @@ ghost use mathlib.Core.Bool.{true};
 ghost use mathlib.Core.Path.{_≡_};
 ghost use Prim.Native.Nat.{_+_, _*_, _≤_, _<_};
 ghost use lib.ListN.{length};
+ghost use Rattle.model.specs.Limits.{mostMutations};
 ghost use Rattle.workspace.specs.Layout.{LEAST, MUTATIONS};
 ghost use Rattle.workspace.specs.Rows.{Indexed};
 ghost use Rattle.building.specs.Built.{FunctionBelow, Sound};
@@ -14,10 +15,10 @@ use hir::BlockId;
 use hir::EvaluationOrder;
 use hir::FunctionId;
 use hir::IdentifierId;
+use workspace::FUNCTION;
 use workspace::HANDED;
-use workspace::KEPT;
 use workspace::MUTATIONS;
-use workspace::NODES;
+use workspace::PHI;
 
 // What building leaves: how many mutations and renders are to come.
 #[repr(C)]
@@ -30,14 +31,14 @@ pub struct Pending {
 fn value_of(number: u32) -> NodeValue
     ensures { λ r. ⌜ FunctionBelow r ⌝ }
 {
-    if number == 2 {
+    if number == PHI {
         return NodeValue::Phi;
     }
-    if number < 3 {
+    if number < FUNCTION {
         return NodeValue::Object;
     }
     if number < 67 {
-        return NodeValue::Function(FunctionId(number - 3));
+        return NodeValue::Function(FunctionId(number - FUNCTION));
     }
     NodeValue::Object
 }
@@ -174,7 +175,7 @@ pub fn lay_out_steps(steps: &[u32], ws: &mut [u32]) -> Pending
 
 // Has each of the first `count` mutations an order?
 fn have_orders(ws: &[u32], count: usize) -> bool
-    requires { ⌜ (LEAST ≤ length (now ws)) × (count ≤ 512) ⌝ }
+    requires { ⌜ (LEAST ≤ length (now ws)) × (count ≤ mostMutations) ⌝ }
     ensures { λ r. ⌜ (r ≡ true → Orders (now (ws .entry)) count) ⌝ }
 {
     let mut i = 0;
@@ -187,15 +188,12 @@ fn have_orders(ws: &[u32], count: usize) -> bool
     true
 }
 
-// The walks of the first `count` mutations: returned is where the functions handed over end. No walk if an order is out of range, or fewer records are kept than there can be nodes.
+// The walks of the first `count` mutations: returned is where the functions handed over end. No walk if an order is out of range.
 pub fn walk_mutations(ws: &mut [u32], count: usize, should_record_errors: bool) -> usize
     requires { ⌜ Indexed (now ws) ⌝ }
-    requires { ⌜ count ≤ 512 ⌝ }
+    requires { ⌜ count ≤ mostMutations ⌝ }
     ensures { λ r. ⌜ Walked (now (ws .entry)) (now (ws .exit)) r ⌝ }
 {
-    if ws[KEPT] < ws[NODES] {
-        return HANDED;
-    }
     if have_orders(ws, count) {
         return aliasing::process_mutations(ws, count, should_record_errors);
     }
@@ -220,7 +218,7 @@ pub extern "C" fn steps_build(steps: &[u32], ws: &mut [u32]) -> Pending
 #[no_mangle]
 pub extern "C" fn steps_walk(ws: &mut [u32], count: usize, should_record_errors: bool) -> usize
     requires { ⌜ Indexed (now ws) ⌝ }
-    requires { ⌜ count ≤ 512 ⌝ }
+    requires { ⌜ count ≤ mostMutations ⌝ }
     ensures { λ r. ⌜ Walked (now (ws .entry)) (now (ws .exit)) r ⌝ }
 {
     walk_mutations(ws, count, should_record_errors)

@@ -1,7 +1,7 @@
 -- The records of a place as effects.
 use Prim.Native.Nat.{ℕ, zero, suc, _+_, _/_, _%_, _≤_, _<_}
 use native.Mathlib.Omega.{arith}
-use mathlib.Core.Path.{_≡_, refl, sym, ap, _∙_, subst}
+use mathlib.Core.Path.{_≡_, refl, sym, ap, _∙_}
 use mathlib.Core.List.{List, [], _∷_, _++_, append-nil}
 use lib.ListN.{length, getD, drop, length-append}
 use Rattle.model.specs.Limits.{mostIdentifiers}
@@ -13,7 +13,7 @@ use Rattle.model.specs.Summary.{reasonWord, localEffects, transitiveEffects, co
 use Rattle.model.specs.Answer.{effectWords}
 use Rattle.workspace.specs.Layout.{RECORD, LSPAN, TSPAN}
 use Rattle.workspace.specs.Graph.{tab}
-use Rattle.aliasing.specs.State.{nodesOf, infoOf, recordIn, stateOf}
+use Rattle.aliasing.specs.State.{infoOf, recordIn, stateOf}
 use Rattle.writing.specs.Wrote.{Wrote}
 use Rattle.writing.proofs.Writing.{wrote-then, wrote-as}
 use Rattle.copies.proofs.Gathers.{gather-append, gather-gather}

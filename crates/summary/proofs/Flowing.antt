@@ -11,7 +11,7 @@ use Rattle.model.specs.Limits.{mostIdentifiers}
 use Rattle.model.specs.Lists.{pick, gather}
 use Rattle.model.specs.Sheet.{Place, EffectKind, Alias, Capture, Effect}
 use Rattle.model.specs.State.{Record, State}
-use Rattle.model.specs.Simulated.{tracked, flows, flowEffect, flowEffects}
+use Rattle.model.specs.Simulated.{flows, flowEffect, flowEffects}
 use Rattle.model.specs.Answer.{effectWords}
 use Rattle.workspace.specs.Layout.{RECORD}
 use Rattle.workspace.specs.Graph.{tab}

@@ -12,13 +12,13 @@ ghost use Rattle.hir.specs.Numbers.{kindSays};
 ghost use Rattle.hir.specs.Says.{placeIs};
 ghost use Rattle.writing.specs.Wrote.{farthest};
 ghost use Rattle.summary.specs.Sections.{Flow, Flows};
-use workspace::tracked::tracked;
 use copies::put_effect;
 use hir::AliasingEffect;
 use hir::EffectKind;
 use hir::IdentifierId;
 use hir::Place;
 use workspace::RECORD;
+use workspace::tracked::tracked;
 
 // Alias into returns, Capture into any other place.
 fn flow_kind(into: IdentifierId, returns: IdentifierId) -> EffectKind

@@ -14,7 +14,6 @@ ghost use Rattle.hir.specs.Says.{placeIs};
 ghost use Rattle.writing.specs.Wrote.{Wrote, farthest};
 ghost use Rattle.summary.specs.Records.{levelEffects, Collected};
 ghost use Rattle.workspace.specs.Tracked.{mostTracked, trackedFrom};
-use workspace::tracked::tracked;
 use copies::NO_PLACE;
 use copies::put_effect;
 use hir::AliasingEffect;
@@ -23,6 +22,7 @@ use hir::Place;
 use workspace::LSPAN;
 use workspace::RECORD;
 use workspace::TSPAN;
+use workspace::tracked::tracked;
 
 // A reason as an extra word.
 fn reason_word(reason: u32) -> u32

@@ -1,7 +1,5 @@
 use native.Mathlib.Omega.{arith}
 use mathlib.Core.Path.{refl, _∙_}
-use lib.ListN.{length-set}
-use borrow.Author.Needs.{needs}
 use Rattle.graphs.proofs.graph.Statement.{statement}
 use Rattle.graphs.proofs.graph.Tie as tie
 
@@ -26,14 +24,11 @@ count-at-requires-2 c κs = tt
 clear-requires : tie.Need-clear-requires
 clear-requires c κs = omega (arith, c .before .before .before .before .before .before .pre)
 
-slice-write-ws : tie.Need-slice-write-ws
-slice-write-ws c = search needs
-
 add-put-ends : tie.Need-add-put-ends
 add-put-ends c = omega (arith, c .before .before .before .before .before .before .count-at .ensures)
 
 put-ends-requires : tie.Need-put-ends-requires
-put-ends-requires c κs = (simp length-set (omega (arith, c .before .before .before .before .before .before .before .before .before .before .pre, c .before .before .before .clear .kept .0)), omega (arith, c .before .before .before .before .before .before .before .count-at .ensures))
+put-ends-requires c κs = (omega (arith, c .before .before .before .before .before .before .before .before .before .before .pre, c .before .before .before .clear .kept .0), omega (arith, c .before .before .before .before .before .before .before .count-at .ensures))
 
 sub-lay-out-steps : tie.Need-sub-lay-out-steps
 sub-lay-out-steps c = omega arith
@@ -45,7 +40,7 @@ part-lay-out-steps-end : tie.Need-part-lay-out-steps-end
 part-lay-out-steps-end c = omega (arith, c .before .before .before .before .before .before .before .before .before .if1 .left)
 
 lay-out-steps-requires : tie.Need-lay-out-steps-requires
-lay-out-steps-requires c κs = omega (arith, c .before .before .before .before .before .before .before .before .before .before .before .before .before .before .before .pre, c .before .before .before .before .before .before .before .before .clear .kept .0, simp length-set at (c .before .before .before .before .put-ends .ensures))
+lay-out-steps-requires c κs = omega (arith, c .before .before .before .before .before .before .before .before .before .before .before .before .before .before .before .pre, c .before .before .before .before .before .before .before .before .clear .kept .0, c .before .before .before .before .put-ends .ensures)
 
 add-walks : tie.Need-add-walks
 add-walks c = omega (arith, c .before .before .before .before .before .before .before .before .before .before .before .before .before .before .before .count-at .ensures)
@@ -57,10 +52,10 @@ walks-requires : tie.Need-walks-requires
 walks-requires c κs = (c .before .before .before .lay-out-steps .ensures .indexed, (c .before .before .before .lay-out-steps .ensures .mutations, c .before .before .before .lay-out-steps .ensures .renders))
 
 same-length : tie.Need-same-length
-same-length c = c .before .before .walks .ensures .same ∙ c .before .before .before .before .before .before .lay-out-steps .ensures .same ∙ c .before .before .before .before .before .before .before .before .before .before .before .put-ends .ensures ∙ simp length-set (c .before .before .before .before .before .before .before .before .before .before .before .before .before .before .before .clear .kept .0)
+same-length c = c .before .before .walks .ensures .same ∙ c .before .before .before .before .before .before .lay-out-steps .ensures .same ∙ c .before .before .before .before .before .before .before .before .before .before .before .put-ends .ensures ∙ c .before .before .before .before .before .before .before .before .before .before .before .before .before .before .before .clear .kept .0
 
 returns-2 : tie.Need-returns-2
-returns-2 c = c .before .before .walks .ensures .same ∙ c .before .before .before .before .before .before .lay-out-steps .ensures .same ∙ c .before .before .before .before .before .before .before .before .before .before .before .put-ends .ensures ∙ simp length-set (c .before .before .before .before .before .before .before .before .before .before .before .before .before .before .before .clear .kept .0)
+returns-2 c = c .before .before .walks .ensures .same ∙ c .before .before .before .before .before .before .lay-out-steps .ensures .same ∙ c .before .before .before .before .before .before .before .before .before .before .before .put-ends .ensures ∙ c .before .before .before .before .before .before .before .before .before .before .before .before .before .before .before .clear .kept .0
 
 pub graph-spec : {M : Type 1} → statement M
 graph-spec =
@@ -73,7 +68,6 @@ graph-spec =
     returns
     count-at-requires-2
     clear-requires
-    slice-write-ws
     add-put-ends
     put-ends-requires
     sub-lay-out-steps

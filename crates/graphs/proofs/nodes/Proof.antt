@@ -1,13 +1,14 @@
 use Prim.Native.Nat.{_-_, _≤_}
 use native.Mathlib.Omega.{arith}
+use Rattle.model.specs.Limits.{mostIdentifiers}
 use Rattle.graphs.proofs.nodes.Statement.{statement}
 use Rattle.graphs.proofs.nodes.Tie as tie
 
 abbrev Inv-loop : tie.InvT-loop
-Inv-loop graph ws identifiers r₀ x₀ r x = x ≤ 512
+Inv-loop graph ws identifiers r₀ x₀ r x = x ≤ mostIdentifiers
 
 abbrev μ-loop : tie.MeasureT-loop
-μ-loop graph ws identifiers r₀ x₀ r x = 512 - x
+μ-loop graph ws identifiers r₀ x₀ r x = mostIdentifiers - x
 
 loop-holds : tie.Need-loop-holds Inv-loop μ-loop
 loop-holds c = omega arith

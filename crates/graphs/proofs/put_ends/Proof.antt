@@ -3,14 +3,15 @@ use Prim.Native.Nat.{_-_, _≤_}
 use native.Mathlib.Omega.{arith}
 use mathlib.Core.Path.{_≡_}
 use lib.ListN.{length, length-set}
+use Rattle.model.specs.Limits.{mostIdentifiers}
 use Rattle.graphs.proofs.put_ends.Statement.{statement}
 use Rattle.graphs.proofs.put_ends.Tie as tie
 
 abbrev Inv-loop : tie.InvT-loop
-Inv-loop graph at identifiers ws₀ x₀ ws x = (x ≤ 512) × (length ws ≡ length ws₀)
+Inv-loop graph at identifiers ws₀ x₀ ws x = (x ≤ mostIdentifiers) × (length ws ≡ length ws₀)
 
 abbrev μ-loop : tie.MeasureT-loop
-μ-loop graph at identifiers ws₀ x₀ ws x = 512 - x
+μ-loop graph at identifiers ws₀ x₀ ws x = mostIdentifiers - x
 
 loop-holds : tie.Need-loop-holds Inv-loop μ-loop
 loop-holds c = omega arith

@@ -1,5 +1,4 @@
 use Rattle.summary.proofs.Flowing.{flow-own, flow-returns, flow-none, flow-some}
-use native.Mathlib.Omega.{arith}
 use borrow.Author.Needs.{needs}
 use Rattle.summary.proofs.flows.put_flow.Statement.{statement}
 use Rattle.summary.proofs.flows.put_flow.Tie as tie
