@@ -15,7 +15,7 @@ use Rattle.model.specs.Graph.{Value, object, phi, function}
 use Rattle.model.specs.Mutation.{Mutation}
 use Rattle.model.specs.State.{Info, Record, noRecord, hasRecord, recordsErrors, highest, touch, functionOf}
 use Rattle.workspace.specs.Layout.{RECORD, LSPAN, TSPAN, SEEN, BASE, QUEUE, HANDED}
-use Rattle.workspace.specs.Rows.{rowsOf, Kept}
+use Rattle.workspace.specs.Rows.{Kept}
 use Rattle.workspace.specs.Graph.{valueOf}
 use Rattle.workspace.proofs.Tables.{tab-at, tab-length}
 use Rattle.aliasing.specs.declared.Mutation.{Mutation as CodeMutation}
@@ -24,7 +24,7 @@ use Rattle.aliasing.specs.State.{nodesOf, NoneAbove, recordAt, recordsOf
 use Rattle.aliasing.specs.Accepts.{functionW, handW}
 use Rattle.aliasing.specs.Walks.{Callable}
 use Rattle.aliasing.proofs.Packed.{has-word}
-use Rattle.aliasing.proofs.Parts.{nodes-below, seen-below, rows-below, base-below}
+use Rattle.aliasing.proofs.Parts.{nodes-below, seen-below, base-below}
 use Rattle.aliasing.proofs.Levels.{above-as}
 
 -- ---- which

@@ -51,6 +51,9 @@ pub struct Mutation {
     pub should_record_errors: bool,
 }
 
+// Marks are cleared before a walk would count from a higher base.
+const MOST_BASE: u32 = 4096;
+
 // What a step leaves: the queue's top, and where the next function is to be handed over.
 pub struct StepLeft {
     pub top: usize,
@@ -240,7 +243,7 @@ fn take_base(ws: &mut [u32]) -> u32
     requires { ⌜ NoneAbove (getD (now ws) BASE 0) (now ws) ⌝ }
     ensures { λ r. ⌜ BaseTaken (now (ws .entry)) (now (ws .exit)) r ⌝ }
 {
-    if 4096 < ws[BASE] {
+    if MOST_BASE < ws[BASE] {
         clear_marks(ws);
     }
     let base = ws[BASE];

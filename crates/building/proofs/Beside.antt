@@ -7,7 +7,7 @@ use mathlib.Core.Option.{Option}
 use mathlib.Core.Path.{_≡_, refl, sym, ap, subst, _∙_}
 use lib.ListN.{take, drop}
 use lib.Seq.{slice}
-use Rattle.model.specs.Limits.{mostBlocks, mostMutations, mostRenders}
+use Rattle.model.specs.Limits.{mostMutations, mostRenders, mostBlocks}
 use Rattle.model.specs.Mutation.{Kind, Reason}
 use Rattle.model.specs.Built.{mutates, comes}
 use Rattle.model.specs.Built.{renders as rendersPlace}

@@ -4,14 +4,16 @@ use native.Mathlib.Omega.{arith}
 use native.Mathlib.Decide.{ℕ-discrete}
 use mathlib.Core.Bool.{Bool, true, false}
 use mathlib.Core.List.{List, [], _∷_, _++_, map}
-use mathlib.Core.Option.{Option, none}
+use mathlib.Core.Option.{Option}
 use mathlib.Core.Path.{_≡_, refl, sym, ap, _∙_}
 use lib.ListN.{length, getD, length-map}
 use lib.Seq.{length-slice}
 use lib.Dec.{eqb}
+use Rattle.model.specs.Limits.{mostIdentifiers}
 use Rattle.model.specs.Lists.{pick}
 use Rattle.model.specs.Graph.{Node, Graph}
 use Rattle.model.specs.Size.{nodeEdges, nodeEntries, edges, entries}
+use Rattle.workspace.specs.Rows.{mostLists}
 use Rattle.workspace.specs.Layout.{EDGES, ENTRIES}
 use Rattle.workspace.specs.Sort.{keyW, wordW, sel, cnt, low}
 use Rattle.workspace.specs.Graph.{edgeRow, entryRow, nodeOf, tab}
@@ -45,10 +47,10 @@ module _ (s : Logs) (clean : Clean s) where
   node = nodeOf (s .values) (λ y. sel 0 y (s .edges)) (λ k. sel 1 k (s .entries))
 
   -- a missing node has no row
-  no-edges : (x : ℕ) → x < 512 → getD (s .values) x 0 ≡ 0 → cnt 0 x (s .edges) ≡ 0
+  no-edges : (x : ℕ) → x < mostIdentifiers → getD (s .values) x 0 ≡ 0 → cnt 0 x (s .edges) ≡ 0
   no-edges x h e = sym (sel-count 0 x (s .edges)) ∙ ap length (ap (sel 0 x) (sym (clean .edges x h e)) ∙ sel-own 0 x x (λ w p. key-edge w x p) (s .edges))
 
-  no-entries : (x t : ℕ) → x < 512 → t < 4 → getD (s .values) x 0 ≡ 0 → cnt 1 (4 * x + t) (s .entries) ≡ 0
+  no-entries : (x t : ℕ) → x < mostIdentifiers → t < 4 → getD (s .values) x 0 ≡ 0 → cnt 1 (4 * x + t) (s .entries) ≡ 0
   no-entries x t h k e =
       sym (sel-count 1 (4 * x + t) (s .entries))
       ∙ ap length (ap (sel 1 (4 * x + t)) (sym (clean .entries x h e)) ∙ sel-own 1 (4 * x + t) x (λ w p. key-entry w x t k p) (s .entries))
@@ -64,7 +66,7 @@ module _ (s : Logs) (clean : Clean s) where
       let l : ℕ → ℕ = λ k. low 1 k (s .entries) in
       omega (arith, ap l e, low-suc 1 (4 * x + 3) (s .entries), ap l a, low-suc 1 (4 * x + 2) (s .entries), ap l b, low-suc 1 (4 * x + 1) (s .entries), ap l c, low-suc 1 (4 * x + 0) (s .entries), ap l d)
 
-  edges-at : (x : ℕ) → x < 512 → nodeEdges (node x) ≡ cnt 0 x (s .edges)
+  edges-at : (x : ℕ) → x < mostIdentifiers → nodeEdges (node x) ≡ cnt 0 x (s .edges)
   edges-at x h = go (ℕ-discrete (getD (s .values) x 0) 0)
     where
       go : Dec (getD (s .values) x 0 ≡ 0) → nodeEdges (node x) ≡ cnt 0 x (s .edges)
@@ -77,7 +79,7 @@ module _ (s : Logs) (clean : Clean s) where
   first-count : (x : ℕ) → cnt 1 (4 * x) (s .entries) ≡ cnt 1 (4 * x + 0) (s .entries)
   first-count x = let d : 4 * x ≡ 4 * x + 0 = omega arith in ap (λ (k : ℕ). cnt 1 k (s .entries)) d
 
-  entries-at : (x : ℕ) → x < 512 → nodeEntries (node x) ≡ cnt 1 (4 * x + 0) (s .entries) + cnt 1 (4 * x + 1) (s .entries) + cnt 1 (4 * x + 2) (s .entries) + cnt 1 (4 * x + 3) (s .entries)
+  entries-at : (x : ℕ) → x < mostIdentifiers → nodeEntries (node x) ≡ cnt 1 (4 * x + 0) (s .entries) + cnt 1 (4 * x + 1) (s .entries) + cnt 1 (4 * x + 2) (s .entries) + cnt 1 (4 * x + 3) (s .entries)
   entries-at x h = go (ℕ-discrete (getD (s .values) x 0) 0)
     where
       go : Dec (getD (s .values) x 0 ≡ 0) → nodeEntries (node x) ≡ cnt 1 (4 * x + 0) (s .entries) + cnt 1 (4 * x + 1) (s .entries) + cnt 1 (4 * x + 2) (s .entries) + cnt 1 (4 * x + 3) (s .entries)
@@ -88,24 +90,23 @@ module _ (s : Logs) (clean : Clean s) where
           ap nodeEntries (node-some (s .values) (λ y. sel 0 y (s .edges)) (λ k. sel 1 k (s .entries)) x e)
           ∙ (rw (row-count (4 * x), row-count (4 * x + 1), row-count (4 * x + 2), row-count (4 * x + 3)) (omega (arith, first-count x)))
 
-  edges-below : (n : ℕ) → n ≤ 512 → edges (tab n node) ≡ low 0 n (s .edges)
+  edges-below : (n : ℕ) → n ≤ mostIdentifiers → edges (tab n node) ≡ low 0 n (s .edges)
   unfolding tab
   edges-below zero h = sym (low-zero 0 (s .edges))
   edges-below (suc n) h = omega (arith, edges-last (tab n node) (node n), edges-below n (omega arith), edges-at n h, low-suc 0 n (s .edges))
 
-  entries-below : (n : ℕ) → n ≤ 512 → entries (tab n node) ≡ low 1 (4 * n) (s .entries)
+  entries-below : (n : ℕ) → n ≤ mostIdentifiers → entries (tab n node) ≡ low 1 (4 * n) (s .entries)
   unfolding tab
   entries-below zero h = sym (low-zero 1 (s .entries))
   entries-below (suc n) h = omega (arith, entries-last (tab n node) (node n), entries-below n (omega arith), entries-at n h, four n)
 
   logs-edges : edges (graphOfLogs s) ≡ length (s .edges)
   unfolding graphOfLogs
-  logs-edges = edges-below 512 (omega arith) ∙ low-all 0 512 keys₀ (s .edges)
+  logs-edges = edges-below mostIdentifiers (omega arith) ∙ low-all 0 mostIdentifiers keys₀ (s .edges)
 
   logs-entries : entries (graphOfLogs s) ≡ length (s .entries)
   unfolding graphOfLogs
-  logs-entries = entries-below 512 (omega arith) ∙ low-all 1 2048 keys₁ (s .entries)
-
+  logs-entries = entries-below mostIdentifiers (omega arith) ∙ low-all 1 mostLists keys₁ (s .entries)
 
 -- ---- in the workspace
 module _ (ws : List ℕ) (h : Held) (room : Room 0 0 ws h) where

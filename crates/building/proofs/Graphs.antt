@@ -10,6 +10,7 @@ use lib.ListN.{length, getD, set}
 use lib.Seq.{getD-set-same, getD-set-other}
 use lib.Dec.{eqb}
 use borrow.Author.Tests.{ne-eqb}
+use Rattle.model.specs.Limits.{mostIdentifiers}
 use Rattle.model.specs.Lists.{pick, mapOption}
 use Rattle.model.specs.Graph.{Edge, Node, nodeAt, hasNode, newNode, create, edgeKind, enter, withEdge, withEntry, change}
 use Rattle.workspace.specs.Sort.{keyW, wordW, sel}
@@ -20,15 +21,15 @@ use Rattle.building.specs.Logs.{Logs, graphOfLogs, without, onceW, creat
 use Rattle.building.proofs.Words.{sel-hit, sel-miss, sel-own, sel-other, key-edge, key-entry, key-edge-is, key-entry-is, once-own, once-other}
 
 -- ---- a node
-pub node-at : (s : Logs) (x : ℕ) → x < 512 → nodeAt (graphOfLogs s) x ≡ nodeOf (s .values) (λ y. sel 0 y (s .edges)) (λ k. sel 1 k (s .entries)) x
+pub node-at : (s : Logs) (x : ℕ) → x < mostIdentifiers → nodeAt (graphOfLogs s) x ≡ nodeOf (s .values) (λ y. sel 0 y (s .edges)) (λ k. sel 1 k (s .entries)) x
 unfolding graphOfLogs
-node-at s x h = tab-at 512 (nodeOf (s .values) (λ y. sel 0 y (s .edges)) (λ k. sel 1 k (s .entries))) x none h
+node-at s x h = tab-at mostIdentifiers (nodeOf (s .values) (λ y. sel 0 y (s .edges)) (λ k. sel 1 k (s .entries))) x none h
 
 -- a node is there if its value is not 0
-pub there : (s : Logs) (x : ℕ) → x < 512 → (getD (s .values) x 0 ≡ 0 → ⊥) → hasNode (graphOfLogs s) x ≡ true
+pub there : (s : Logs) (x : ℕ) → x < mostIdentifiers → (getD (s .values) x 0 ≡ 0 → ⊥) → hasNode (graphOfLogs s) x ≡ true
 there s x h e = rw (node-at s x h, node-some (s .values) (λ y. sel 0 y (s .edges)) (λ k. sel 1 k (s .entries)) x e)
 
-pub missing : (s : Logs) (x : ℕ) → x < 512 → getD (s .values) x 0 ≡ 0 → hasNode (graphOfLogs s) x ≡ false
+pub missing : (s : Logs) (x : ℕ) → x < mostIdentifiers → getD (s .values) x 0 ≡ 0 → hasNode (graphOfLogs s) x ≡ false
 missing s x h e = rw (node-at s x h, node-none (s .values) (λ y. sel 0 y (s .edges)) (λ k. sel 1 k (s .entries)) x e)
 
 -- ---- an edge
@@ -73,11 +74,11 @@ module _ (w : ℕ) (v l m : List ℕ) where
 pub edge-step : (w : ℕ) (s : Logs) → graphOfLogs (edgeL w s) ≡ edgeG w (graphOfLogs s)
 unfolding graphOfLogs edgeL change
 edge-step w s =
-    let h : w % 512 < 512 = omega arith in
+    let h : w % 512 < mostIdentifiers = omega arith in
     let f : ℕ → Option Node = nodeOf (s .values) (λ y. sel 0 y (s .edges)) (λ k. sel 1 k (s .entries)) in
-    tab-set 512 (w % 512) f (nodeOf (s .values) (λ y. sel 0 y (s .edges ++ (w ∷ []))) (λ k. sel 1 k (s .entries)))
-    (mapOption (withEdge (relationOf (w / 262144 % 4)) (w / 1048576) (w / 512 % 512)) (getD (tab 512 f) (w % 512) none))
-    (edge-own w (s .values) (s .edges) (s .entries) ∙ ap (mapOption (withEdge (relationOf (w / 262144 % 4)) (w / 1048576) (w / 512 % 512))) (sym (tab-at 512 f (w % 512) none h)))
+    tab-set mostIdentifiers (w % 512) f (nodeOf (s .values) (λ y. sel 0 y (s .edges ++ (w ∷ []))) (λ k. sel 1 k (s .entries)))
+    (mapOption (withEdge (relationOf (w / 262144 % 4)) (w / 1048576) (w / 512 % 512)) (getD (tab mostIdentifiers f) (w % 512) none))
+    (edge-own w (s .values) (s .edges) (s .entries) ∙ ap (mapOption (withEdge (relationOf (w / 262144 % 4)) (w / 1048576) (w / 512 % 512))) (sym (tab-at mostIdentifiers f (w % 512) none h)))
     (λ y q e. edge-other w (s .values) (s .edges) (s .entries) y e)
 
 -- ---- an entry
@@ -128,13 +129,13 @@ module _ (w : ℕ) (v l m : List ℕ) where
 pub entry-step : (w : ℕ) (s : Logs) → graphOfLogs (entryL w s) ≡ entryG w (graphOfLogs s)
 unfolding graphOfLogs entryL change
 entry-step w s =
-    let h : w / 512 % 512 < 512 = omega arith in
+    let h : w / 512 % 512 < mostIdentifiers = omega arith in
     let k : w / 262144 % 4 < 4 = omega arith in
     let f : ℕ → Option Node = nodeOf (s .values) (λ y. sel 0 y (s .edges)) (λ k. sel 1 k (s .entries)) in
     let c : Node → Node = withEntry (relationOf (w / 262144 % 4)) (w / 1048576) (w % 512) in
-    tab-set 512 (w / 512 % 512) f (nodeOf (s .values) (λ y. sel 0 y (s .edges)) (λ k. sel 1 k (onceW w (s .entries))))
-    (mapOption c (getD (tab 512 f) (w / 512 % 512) none))
-    (entry-own w (s .values) (s .edges) (s .entries) (w / 512 % 512) (w / 262144 % 4) (key-entry-is w) k ∙ ap (mapOption c) (sym (tab-at 512 f (w / 512 % 512) none h)))
+    tab-set mostIdentifiers (w / 512 % 512) f (nodeOf (s .values) (λ y. sel 0 y (s .edges)) (λ k. sel 1 k (onceW w (s .entries))))
+    (mapOption c (getD (tab mostIdentifiers f) (w / 512 % 512) none))
+    (entry-own w (s .values) (s .edges) (s .entries) (w / 512 % 512) (w / 262144 % 4) (key-entry-is w) k ∙ ap (mapOption c) (sym (tab-at mostIdentifiers f (w / 512 % 512) none h)))
     (λ y q e. entry-other w (s .values) (s .edges) (s .entries) (w / 512 % 512) (w / 262144 % 4) y (key-entry-is w) k e)
 
 -- ---- a creation
@@ -168,7 +169,7 @@ module _ (x n : ℕ) (v l m : List ℕ) where
 pub create-step : (x n : ℕ) (s : Logs) → x < length (s .values) → (n ≡ 0 → ⊥) → graphOfLogs (createL x n s) ≡ create x (valueOf n) (graphOfLogs s)
 unfolding graphOfLogs createL create
 create-step x n s h e =
-    tab-set 512 x (nodeOf (s .values) (λ y. sel 0 y (s .edges)) (λ k. sel 1 k (s .entries)))
+    tab-set mostIdentifiers x (nodeOf (s .values) (λ y. sel 0 y (s .edges)) (λ k. sel 1 k (s .entries)))
     (nodeOf (set (s .values) x n) (λ y. sel 0 y (without 0 x (s .edges))) (λ k. sel 1 k (without 1 x (s .entries))))
     (some (newNode (valueOf n))) (create-own x n (s .values) (s .edges) (s .entries) h e)
     (λ y q d. create-other x n (s .values) (s .edges) (s .entries) y d)
@@ -180,5 +181,5 @@ pub record Says (w t index from into : ℕ) : Type 0 where
   pub list-is : w / 262144 % 4 ≡ t
   pub index-is : w / 1048576 ≡ index
 
-pub says : (from into t index : ℕ) → from < 512 → into < 512 → t < 4 → (w : ℕ) → w ≡ from + 512 * into + 262144 * t + 1048576 * index → Says w t index from into
+pub says : (from into t index : ℕ) → from < mostIdentifiers → into < mostIdentifiers → t < 4 → (w : ℕ) → w ≡ from + 512 * into + 262144 * t + 1048576 * index → Says w t index from into
 says from into t index h k l w e = record { from-is = omega (arith, e); into-is = omega (arith, e); list-is = omega (arith, e); index-is = omega (arith, e) }

@@ -1,16 +1,16 @@
 -- The loops over a log.
-use Prim.Native.Nat.{ℕ, zero, suc, _+_, _-_, _≤_, _<_}
+use Prim.Native.Nat.{ℕ, suc, _+_, _-_, _≤_, _<_}
 use native.Mathlib.Omega.{arith}
 use native.Mathlib.Nat.{add-zero}
 use mathlib.Core.Bool.{Bool, true, false, true≢false}
 use mathlib.Core.List.{List, [], _∷_, _++_, append-nil}
 use mathlib.Core.Path.{_≡_, refl, sym, ap, _∙_}
 use lib.ListN.{length, getD, set, drop}
-use lib.Seq.{slice, slice-cons, slice-empty, length-slice, drop-set-lt, append-snoc}
+use lib.Seq.{slice, slice-cons, slice-empty, drop-set-lt, append-snoc}
 use borrow.Author.Tests.{eq-eqb, ne-eqb}
 use Rattle.model.specs.Lists.{pick}
 use Rattle.workspace.specs.Rows.{Kept}
-use Rattle.workspace.proofs.Parts.{drop-more, drop-word, slice-at, slice-slice, slice-split, slice-push, kept-none, kept-set}
+use Rattle.workspace.proofs.Parts.{drop-more, drop-word, slice-split, slice-push, kept-none, kept-set}
 use Rattle.building.specs.Logs.{ownerW, ownsW, without, anyP}
 use Rattle.building.specs.Held.{Others, Left}
 

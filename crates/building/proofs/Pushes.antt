@@ -8,6 +8,7 @@ use mathlib.Core.Path.{_≡_, refl, sym, ap, _∙_}
 use lib.ListN.{length, getD, set, take, drop, length-set}
 use lib.Seq.{slice, slice-empty, getD-set-same, getD-set-other, take-suc, drop-append-le, length-take-le}
 use lib.Dec.{eqb}
+use Rattle.model.specs.Limits.{mostIdentifiers, mostMutations, mostRenders}
 use Rattle.model.specs.Lists.{pick, among}
 use Rattle.model.specs.Mutation.{reasonOf}
 use Rattle.workspace.specs.Layout.{LEAST, SEEN, MUTATIONS, RENDERS}
@@ -25,7 +26,7 @@ come-kept ws ws′ b zero h e = refl
 come-kept ws ws′ b (suc n) h e =
     ap (λ (v : ℕ). v ∷ comeOf ws′ n) (take-word b (SEEN + n) ws ws′ (omega arith) e) ∙ ap (λ (l : List ℕ). getD ws (SEEN + n) 0 ∷ l) (come-kept ws ws′ b n (omega arith) e)
 
-module _ (ws : List ℕ) (n block : ℕ) (size : LEAST ≤ length ws) (few : n < 256) where
+module _ (ws : List ℕ) (n block : ℕ) (size : LEAST ≤ length ws) (few : n < mostRenders) where
   block-kept : Kept (SEEN + n) (SEEN + n + 1) ws (set ws (SEEN + n) block)
   block-kept = kept-set (kept-none (SEEN + n) (SEEN + n + 1) ws) (SEEN + n) block (omega arith) (omega arith)
 
@@ -69,18 +70,18 @@ come-among ws block (suc n) h =
     ∙ ap (λ (b : Bool). eqb block (getD ws (SEEN + n) 0) || b) (come-among ws block n (omega arith))
 
 -- ---- a mutation
-digits : (x t l r i w : ℕ) → x < 512 → t < 2 → l < 2 → r < 2 → w ≡ x + 512 * t + 1024 * l + 2048 * r + 4096 * i
+digits : (x t l r i w : ℕ) → x < mostIdentifiers → t < 2 → l < 2 → r < 2 → w ≡ x + 512 * t + 1024 * l + 2048 * r + 4096 * i
     → (w % 512 ≡ x) × ((w / 512 % 2 ≡ t) × ((w / 1024 % 2 ≡ l) × ((w / 2048 % 2 ≡ r) × (w / 4096 ≡ i))))
 digits x t l r i w a b c d e = (omega arith, (omega arith, (omega arith, (omega arith, omega arith))))
 
-decoded : (x t l r i w order span : ℕ) → x < 512 → t < 2 → l < 2 → r < 2 → w ≡ x + 512 * t + 1024 * l + 2048 * r + 4096 * i
+decoded : (x t l r i w order span : ℕ) → x < mostIdentifiers → t < 2 → l < 2 → r < 2 → w ≡ x + 512 * t + 1024 * l + 2048 * r + 4096 * i
     → mutationOf w order span ≡ record { index = i; order = order; kind = kindOf l; transitive = eqb t 1; identifier = x; span = span; reason = reasonOf r }
 unfolding mutationOf
 decoded x t l r i w order span a b c d e =
     let q : (w % 512 ≡ x) × ((w / 512 % 2 ≡ t) × ((w / 1024 % 2 ≡ l) × ((w / 2048 % 2 ≡ r) × (w / 4096 ≡ i)))) = digits x t l r i w a b c d e in
     rw (q .0, q .1 .0, q .1 .1 .0, q .1 .1 .1 .0, q .1 .1 .1 .1)
 
-module _ (ws : List ℕ) (n : ℕ) (size : LEAST ≤ length ws) (few : n < 512) (w order span : ℕ) where
+module _ (ws : List ℕ) (n : ℕ) (size : LEAST ≤ length ws) (few : n < mostMutations) (w order span : ℕ) where
   abbrev three : List ℕ
   three = set (set (set ws (MUTATIONS + 3 * n) w) (MUTATIONS + 3 * n + 1) order) (MUTATIONS + 3 * n + 2) span
 
@@ -109,7 +110,7 @@ module _ (ws : List ℕ) (n : ℕ) (size : LEAST ≤ length ws) (few : n < 512) 
   unfolding mutationAt
   three-at = rw (first-word, second-word, third-word)
 
-  pub mutation-pushed : (x t l r i : ℕ) → x < 512 → t < 2 → l < 2 → r < 2 → w ≡ x + 512 * t + 1024 * l + 2048 * r + 4096 * i
+  pub mutation-pushed : (x t l r i : ℕ) → x < mostIdentifiers → t < 2 → l < 2 → r < 2 → w ≡ x + 512 * t + 1024 * l + 2048 * r + 4096 * i
       → PushesMutation (record { index = i; order = order; kind = kindOf l; transitive = eqb t 1; identifier = x; span = span; reason = reasonOf r }) ws n three
   mutation-pushed x t l r i a b c d e = record {
     mutations = mutations-more ws three n _ (three-kept .low) (three-at ∙ decoded x t l r i w order span a b c d e);
@@ -117,14 +118,14 @@ module _ (ws : List ℕ) (n : ℕ) (size : LEAST ≤ length ws) (few : n < 512) 
   }
 
 -- ---- a render
-render-word : (x i w : ℕ) → x < 512 → w ≡ x + 512 * i → renderOf w ≡ record { index = i; identifier = x }
+render-word : (x i w : ℕ) → x < mostIdentifiers → w ≡ x + 512 * i → renderOf w ≡ record { index = i; identifier = x }
 unfolding renderOf
 render-word x i w h e =
     let p : w % 512 ≡ x = omega arith in
     let q : w / 512 ≡ i = omega arith in
     rw (p, q)
 
-module _ (ws : List ℕ) (n x i : ℕ) (size : LEAST ≤ length ws) (few : n < 256) (below : x < 512) where
+module _ (ws : List ℕ) (n x i : ℕ) (size : LEAST ≤ length ws) (few : n < mostRenders) (below : x < mostIdentifiers) where
   render-kept : Kept (RENDERS + n) (RENDERS + n + 1) ws (set ws (RENDERS + n) (x + 512 * i))
   render-kept = kept-set (kept-none (RENDERS + n) (RENDERS + n + 1) ws) (RENDERS + n) (x + 512 * i) (omega arith) (omega arith)
 

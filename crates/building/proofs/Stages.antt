@@ -5,6 +5,7 @@ use mathlib.Core.Bool.{Bool, true, false}
 use mathlib.Core.List.{List, [], _∷_, _++_}
 use mathlib.Core.Path.{_≡_, refl, sym, ap, subst, _∙_}
 use lib.ListN.{length, take, drop}
+use Rattle.model.specs.Limits.{mostRelations, mostMutations, mostRenders}
 use Rattle.model.specs.Lists.{keep, each, among}
 use Rattle.model.specs.Mutation.{Mutation, RenderOf}
 use Rattle.model.specs.Graph.{Graph, intoAliases, relate}
@@ -25,13 +26,13 @@ use Rattle.building.specs.Built.{valueIs, FunctionBelow, placeAt, comeOf
 use Rattle.building.proofs.Pushes.{come-kept}
 
 -- ---- room
-pub room-more : (ws : List ℕ) (b : Building) → Sound ws b → b .relations < 1024 → Room 1 1 ws (b .held)
+pub room-more : (ws : List ℕ) (b : Building) → Sound ws b → b .relations < mostRelations → Room 1 1 ws (b .held)
 room-more ws b s h = record { size = s .size; edges = omega (arith, s .edges); entries = omega (arith, s .entries); clean = s .clean }
 
 pub room-none : (ws : List ℕ) (b : Building) → Sound ws b → Room 0 0 ws (b .held)
 room-none ws b s = record { size = s .size; edges = omega (arith, s .edges, s .relations); entries = omega (arith, s .entries, s .relations); clean = s .clean }
 
-pub limits : (ws : List ℕ) (b : Building) → Sound ws b → (b .relations ≤ 1024) × ((b .mutations ≤ 512) × (b .renders ≤ 256))
+pub limits : (ws : List ℕ) (b : Building) → Sound ws b → (b .relations ≤ mostRelations) × ((b .mutations ≤ mostMutations) × (b .renders ≤ mostRenders))
 limits ws b s = (s .relations, (s .mutations, s .renders))
 
 pub built-eq : {g g′ : Graph} {i i′ : ℕ} {c c′ : List ℕ} {w w′ : List Waiting} {m m′ : List Mutation} {n n′ : List RenderOf} → g ≡ g′ → i ≡ i′ → c ≡ c′ → w ≡ w′ → m ≡ m′ → n ≡ n′
@@ -40,7 +41,7 @@ built-eq p q r s t u = cc
 
 -- ---- a step on what is held: n relation effects have come, d of them now
 module _ (F : Built → Built) (d n : ℕ) (ws : List ℕ) (b : Building) (ws′ : List ℕ) (h : Held) (sound : Sound ws b) where
-  module _ (counts : n ≡ b .relations + d) (few : n ≤ 1024) (clean : Clean (logsOf ws′ h)) (edges : h .edges + h .waiting ≤ b .held .edges + b .held .waiting + d) (entries : h .entries + h .waiting ≤ b .held .entries + b .held .waiting + d) where
+  module _ (counts : n ≡ b .relations + d) (few : n ≤ mostRelations) (clean : Clean (logsOf ws′ h)) (edges : h .edges + h .waiting ≤ b .held .edges + b .held .waiting + d) (entries : h .entries + h .waiting ≤ b .held .entries + b .held .waiting + d) where
     module _ (low : take VALUE ws′ ≡ take VALUE ws) (high : drop HANDED ws′ ≡ drop HANDED ws) (same : length ws′ ≡ length ws) where
       still-sound : Sound ws′ (record { held = h; come = b .come; relations = n; mutations = b .mutations; renders = b .renders })
       still-sound = record {
@@ -99,7 +100,7 @@ module _ (F G : Graph → Graph) (same-step : F ≡ G) (ws : List ℕ) (b : Buil
       (parts (changed G) 0 (b .relations) ws b ws′ h sound k (sound .relations) (s .clean) e n (s .low) made-high (s .same) (s .graph ∙ ap (λ (k : Graph → Graph). k (graphOf ws (b .held))) same-step) refl (s .operands))
 
 -- ---- a relation effect
-module _ (f : ℕ → Graph → Graph) (ws : List ℕ) (b : Building) (ws′ : List ℕ) (h : Held) (sound : Sound ws b) (more : b .relations < 1024) (i : ℕ) (is : i ≡ indexOf b) (s : Builds (f i) 1 1 ws (b .held) ws′ h) where
+module _ (f : ℕ → Graph → Graph) (ws : List ℕ) (b : Building) (ws′ : List ℕ) (h : Held) (sound : Sound ws b) (more : b .relations < mostRelations) (i : ℕ) (is : i ≡ indexOf b) (s : Builds (f i) 1 1 ws (b .held) ws′ h) where
   rel-high : drop HANDED ws′ ≡ drop HANDED ws
   rel-high = drop-more PREDS HANDED ws′ ws (omega arith) (s .high)
 
@@ -113,7 +114,7 @@ module _ (f : ℕ → Graph → Graph) (ws : List ℕ) (b : Building) (ws′ : L
       (parts (related f) 1 (b .relations + 1) ws b ws′ h sound refl (omega arith) (s .clean) e n (s .low) rel-high (s .same) (s .graph ∙ ap (λ (j : ℕ). f j (graphOf ws (b .held))) is) q (s .operands))
 
 -- ---- an operand that waits
-module _ (p from into : ℕ) (ws : List ℕ) (b : Building) (ws′ : List ℕ) (h : Held) (sound : Sound ws b) (more : b .relations < 1024) (i : ℕ) (is : i ≡ indexOf b)
+module _ (p from into : ℕ) (ws : List ℕ) (b : Building) (ws′ : List ℕ) (h : Held) (sound : Sound ws b) (more : b .relations < mostRelations) (i : ℕ) (is : i ≡ indexOf b)
     (s : Waits (record { predecessor = p; index = i; origin = from; into = into }) ws (b .held) ws′ h) where
   pub waited : Steps (waits p from into) 1 0 0 0 ws b ws′ (record { held = h; come = b .come; relations = b .relations + 1; mutations = b .mutations; renders = b .renders })
   unfolding builtOf

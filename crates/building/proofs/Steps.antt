@@ -7,6 +7,7 @@ use mathlib.Core.Option.{Option, none, some}
 use mathlib.Core.Path.{_≡_, refl, sym, ap, subst, _∙_}
 use lib.ListN.{length}
 use lib.Seq.{getD-set-same}
+use Rattle.model.specs.Limits.{mostIdentifiers}
 use Rattle.model.specs.Lists.{isSome, mapOption}
 use Rattle.model.specs.Graph.{Node, Graph, Value, object, hasNode, newNode, change, Relation, intoCreatedFrom, intoAliases, create, withEdge, store, relate, createFrom}
 use Rattle.model.specs.Graph.{assign as assignEffect}
@@ -39,9 +40,9 @@ change-none zero f (none ∷ g) e = refl
 change-none zero f (some n ∷ g) e = absurd (true≢false e)
 change-none (suc x) f (o ∷ g) e = ap (λ (l : Graph). o ∷ l) (change-none x f g e)
 
-pub graph-size : (ws : List ℕ) (h : Held) → length (graphOf ws h) ≡ 512
+pub graph-size : (ws : List ℕ) (h : Held) → length (graphOf ws h) ≡ mostIdentifiers
 unfolding graphOf graphOfLogs
-graph-size ws h = tab-length 512 (nodeOf (logsOf ws h .values) (λ x. sel 0 x (logsOf ws h .edges)) (λ k. sel 1 k (logsOf ws h .entries)))
+graph-size ws h = tab-length mostIdentifiers (nodeOf (logsOf ws h .values) (λ x. sel 0 x (logsOf ws h .edges)) (λ k. sel 1 k (logsOf ws h .entries)))
 
 create-has : (x : ℕ) (v : Value) (g : Graph) → x < length g → hasNode (create x v g) x ≡ true
 unfolding create
@@ -62,7 +63,7 @@ module _ (r : Relation) (index from into : ℕ) (g : Graph) where
   relate-no-into p q = rw (p, q)
 
 -- ---- a packed word
-module _ (from into t index w : ℕ) (hf : from < 512) (hi : into < 512) (ht : t < 4) (is : w ≡ packW from into t index) where
+module _ (from into t index w : ℕ) (hf : from < mostIdentifiers) (hi : into < mostIdentifiers) (ht : t < 4) (is : w ≡ packW from into t index) where
   says-it : Says w t index from into
   says-it = says from into t index hf hi ht w is
 
@@ -123,7 +124,7 @@ module _ (index from into : ℕ) (ws : List ℕ) (h : Held) where
   effect-assigns e s = builds-as s (sym (effect-there e))
 
 -- ---- CreateFrom
-module _ (from into index w : ℕ) (hf : from < 512) (hi : into < 512) (is : w ≡ packW from into 0 index) (ws : List ℕ) (h : Held) (ws₁ : List ℕ) (r₁ : Held) (s : Builds (create into object) 0 0 ws h ws₁ r₁) where
+module _ (from into index w : ℕ) (hf : from < mostIdentifiers) (hi : into < mostIdentifiers) (is : w ≡ packW from into 0 index) (ws : List ℕ) (h : Held) (ws₁ : List ℕ) (r₁ : Held) (s : Builds (create into object) 0 0 ws h ws₁ r₁) where
   into-new : hasNode (graphOf ws₁ r₁) into ≡ true
   into-new = ap (λ (g : Graph). hasNode g into) (s .graph) ∙ create-has into object (graphOf ws h) (omega (arith, graph-size ws h))
 

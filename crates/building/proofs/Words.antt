@@ -7,6 +7,7 @@ use mathlib.Core.List.{List, [], _∷_, _++_, map}
 use mathlib.Core.Path.{_≡_, refl, sym, ap, _∙_}
 use lib.Dec.{eqb}
 use borrow.Author.Tests.{eq-eqb, ne-eqb}
+use Rattle.model.specs.Limits.{mostIdentifiers}
 use Rattle.model.specs.Lists.{pick}
 use Rattle.model.specs.Graph.{Entry, keepsFrom, enter}
 use Rattle.workspace.specs.Sort.{keyW, wordW, sel}
@@ -92,7 +93,7 @@ record Same (a b c a′ b′ c′ : ℕ) : Type 0 where
   pub mid : b ≡ b′
   pub high : c ≡ c′
 
-same-digits : (a b c a′ b′ c′ : ℕ) → a < 512 → b < 512 → a′ < 512 → b′ < 512 → a + 512 * b + 262144 * c ≡ a′ + 512 * b′ + 262144 * c′ → Same a b c a′ b′ c′
+same-digits : (a b c a′ b′ c′ : ℕ) → a < mostIdentifiers → b < mostIdentifiers → a′ < mostIdentifiers → b′ < mostIdentifiers → a + 512 * b + 262144 * c ≡ a′ + 512 * b′ + 262144 * c′ → Same a b c a′ b′ c′
 same-digits a b c a′ b′ c′ h k h′ k′ e = record { low = omega arith; mid = omega arith; high = omega arith }
 
 same-parts : (v w : ℕ) → v % 1048576 ≡ w % 1048576 → Same (v % 512) (v / 512 % 512) (v / 262144 % 4) (w % 512) (w / 512 % 512) (w / 262144 % 4)

@@ -4,7 +4,7 @@ use mathlib.Core.Bool.{false}
 use mathlib.Core.List.{List, [], _∷_, _++_}
 use mathlib.Core.Path.{_≡_}
 use lib.ListN.{length, getD, take, drop}
-use Rattle.model.specs.Limits.{mostIdentifiers, mostFunctions, mostBlocks, mostRelations, mostMutations, mostRenders}
+use Rattle.model.specs.Limits.{mostIdentifiers, mostRelations, mostFunctions, mostMutations, mostRenders, mostBlocks}
 use Rattle.model.specs.Sheet.{BlockId, Place}
 use Rattle.model.specs.Graph.{Value, object, phi, function}
 use Rattle.model.specs.Mutation.{Mutation, RenderOf}

@@ -1,5 +1,5 @@
 -- The alias graph and the waiting phi operands in the lent workspace, by their counts; and what each step of building promises.
-use Prim.Native.Nat.{ℕ, _+_, _/_, _%_, _≤_, _<_}
+use Prim.Native.Nat.{ℕ, _+_, _/_, _%_, _≤_}
 use mathlib.Core.Bool.{Bool, false, not}
 use mathlib.Core.List.{List, [], _∷_, _++_}
 use mathlib.Core.Path.{_≡_}
@@ -11,7 +11,7 @@ use Rattle.model.specs.Lists.{keep, each}
 use Rattle.model.specs.Graph.{Graph, intoAliases, relate}
 use Rattle.model.specs.Built.{Waiting}
 use Rattle.model.specs.Building.{waitingFor}
-use Rattle.workspace.specs.Layout.{LEAST, VALUE, FBOUND, EDGES, ENTRIES, PREDS, RELATIONS, QUEUE, HANDED}
+use Rattle.workspace.specs.Layout.{LEAST, VALUE, FBOUND, QUEUE, EDGES, ENTRIES, PREDS, RELATIONS, HANDED}
 use Rattle.workspace.specs.Rows.{rowsOf, mostLists, fb, bb, Indexed, Kept}
 use Rattle.workspace.specs.Graph.{MISSING, graphOfRows}
 use Rattle.building.specs.declared.Held.{Held}

@@ -16,7 +16,7 @@ use workspace::MISSING;
 use workspace::OBJECT;
 use workspace::VALUE;
 ghost use mathlib.Core.Path.{_≡_};
-ghost use Prim.Native.Nat.{_+_, _*_, _≤_, _<_};
+ghost use Prim.Native.Nat.{_+_, _≤_, _<_};
 ghost use lib.ListN.{length};
 ghost use Rattle.model.specs.Limits.{mostIdentifiers};
 ghost use Rattle.model.specs.Graph.{create, relate, createFrom};

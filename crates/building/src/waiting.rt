@@ -5,7 +5,6 @@ use crate::logs::pack;
 use workspace::ALIASES;
 use workspace::PREDS;
 use workspace::RELATIONS;
-ghost use mathlib.Core.Path.{_≡_};
 ghost use Prim.Native.Nat.{_<_};
 ghost use Rattle.model.specs.Limits.{mostIdentifiers};
 ghost use Rattle.building.specs.Held.{Room, Waits, Wakes};

@@ -12,7 +12,7 @@ use Rattle.model.specs.Reading.{Position, got, refused, _>>=_, pure, count, tim
 use Rattle.model.specs.Sections.{diagnostic, innerFunction}
 use Rattle.model.specs.Answer.{functionErrors, diagnosticWords}
 use Rattle.model.proofs.Got.{got-value, got-next, bind-got}
-use Rattle.workspace.specs.Layout.{FUNCTIONS, HANDED}
+use Rattle.workspace.specs.Layout.{HANDED, MUTATIONS, FUNCTIONS}
 use Rattle.writing.proofs.Writing.{wrote-none, wrote-as}
 use Rattle.copies.specs.Copies.{Copies}
 use Rattle.copies.specs.Functions.{Functions, Appended, AllAppended}
@@ -63,7 +63,7 @@ pub record Handing (sheet ws : List ℕ) (m hand : ℕ) (a₀ : List ℕ) (at₀
   pub few : at + 64 * (hand - i) ≤ at₀ + 32768
   pub same : length a ≡ length a₀
 
-pub handing-start : (sheet ws : List ℕ) (m hand : ℕ) (a : List ℕ) (at : ℕ) → hand ≤ 13827 → Handing sheet ws m hand a at HANDED a at
+pub handing-start : (sheet ws : List ℕ) (m hand : ℕ) (a : List ℕ) (at : ℕ) → hand ≤ MUTATIONS → Handing sheet ws m hand a at HANDED a at
 handing-start sheet ws m hand a at h = record { leaves = λ fs q g. leaves-all (gather diagnosticWords (gather (functionErrors fs) (slice HANDED hand ws))) a at; few = omega (arith, h); same = refl }
 
 module _ {sheet ws : List ℕ} {m hand : ℕ} {a₀ : List ℕ} {at₀ i : ℕ} {a : List ℕ} {at : ℕ} (v : Handing sheet ws m hand a₀ at₀ i a at) where

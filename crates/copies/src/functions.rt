@@ -5,6 +5,7 @@ ghost use Rattle.model.specs.Lists.{gather};
 ghost use Rattle.model.specs.Reading.{times};
 ghost use Rattle.model.specs.Sections.{diagnostic};
 ghost use Rattle.model.specs.Answer.{diagnosticWords};
+ghost use Rattle.workspace.specs.Layout.{LEAST, MUTATIONS};
 ghost use Rattle.writing.specs.Wrote.{farthest};
 ghost use Rattle.copies.specs.Copies.{Copies};
 ghost use Rattle.copies.specs.Functions.{Appended, AllAppended};
@@ -48,7 +49,7 @@ fn append_function_errors(
     answer: &mut [u32],
     at: usize,
 ) -> usize
-    requires { ⌜ (count ≤ 64) × (16384 ≤ length (now ws)) ⌝ }
+    requires { ⌜ (count ≤ 64) × (LEAST ≤ length (now ws)) ⌝ }
     requires { ⌜ at + 64 ≤ farthest ⌝ }
     ensures { λ r. ⌜ Appended (now (sheet .entry)) (now (ws .entry)) count (function .0) (now (answer .entry)) at (now (answer .exit)) r ⌝ }
 {
@@ -76,7 +77,7 @@ pub fn put_handed(
     answer: &mut [u32],
     at: usize,
 ) -> usize
-    requires { ⌜ (count ≤ 64) × ((hand ≤ 13827) × (16384 ≤ length (now ws))) ⌝ }
+    requires { ⌜ (count ≤ 64) × ((hand ≤ MUTATIONS) × (LEAST ≤ length (now ws))) ⌝ }
     requires { ⌜ at + 32768 ≤ farthest ⌝ }
     ensures { λ r. ⌜ AllAppended (now (sheet .entry)) (now (ws .entry)) count hand (now (answer .entry)) at (now (answer .exit)) r ⌝ }
 {

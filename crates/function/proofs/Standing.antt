@@ -7,10 +7,9 @@ use lib.ListN.{length, getD, drop}
 use Rattle.model.specs.Sheet.{noFunction, Sheet}
 use Rattle.model.specs.Reading.{Position, got}
 use Rattle.model.specs.Sections.{innerFunction}
-use Rattle.workspace.specs.Layout.{FUNCTIONS}
+use Rattle.workspace.specs.Layout.{FUNCTIONS, TRACKED}
 use Rattle.workspace.proofs.Parts.{drop-more, drop-word}
-use Rattle.summary.specs.Tracked.{TRACKED}
-use Rattle.summary.proofs.Places.{tracked-kept}
+use Rattle.workspace.proofs.Places.{tracked-kept}
 use Rattle.function.specs.Function.{Stands}
 
 -- so it stays if those words stay

@@ -11,7 +11,7 @@ use Rattle.model.specs.Summary.{errors, copied}
 use Rattle.hir.specs.Says.{placeIs}
 use Rattle.workspace.specs.Layout.{LEAST}
 use Rattle.copies.specs.Functions.{Functions}
-use Rattle.summary.specs.Tracked.{trackedOf}
+use Rattle.workspace.specs.Tracked.{trackedOf}
 use Rattle.function.specs.declared.HirFunction.{HirFunction}
 
 -- no count is above its limit, and returns has an identifier

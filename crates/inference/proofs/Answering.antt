@@ -2,9 +2,10 @@
 use Prim.Native.Nat.{ℕ, _+_, _*_, _≤_, _<_}
 use native.Mathlib.Omega.{arith}
 use mathlib.Core.Path.{_≡_, refl, sym, ap, _∙_}
-use mathlib.Core.List.{List, [], _∷_, _++_, map, append-assoc}
+use mathlib.Core.List.{List, [], _∷_, _++_, map, append-assoc, map-append}
 use lib.ListN.{length, getD}
 use lib.Seq.{slice, slice-empty}
+use Rattle.model.specs.Limits.{mostIdentifiers, mostMutations}
 use Rattle.model.specs.Lists.{listIf}
 use Rattle.model.specs.Sheet.{Sheet, Place}
 use Rattle.model.specs.Mutation.{Mutation, RenderOf}
@@ -19,7 +20,7 @@ use Rattle.model.specs.Answer.{rangesOf, rangeWords, placeWords, diagnosticWord
 use Rattle.model.proofs.Quiet.{final-ends, quiet}
 use Rattle.model.proofs.Handed.{withHanded}
 use Rattle.model.proofs.Rendering.{render-leaves}
-use Rattle.workspace.specs.Layout.{HANDED, MUTATIONS, RENDERS, SIMULATED, FUNCTIONS}
+use Rattle.workspace.specs.Layout.{HANDED, MUTATIONS, RENDERS, FUNCTIONS, SIMULATED}
 use Rattle.workspace.specs.Rows.{Indexed}
 use Rattle.workspace.specs.Graph.{graphOfRows}
 use Rattle.workspace.specs.Pending.{mutationsOf, rendersOf}
@@ -35,9 +36,8 @@ use Rattle.writing.specs.Wrote.{Wrote}
 use Rattle.writing.proofs.Writing.{wrote-then, wrote-as}
 use Rattle.summary.specs.Records.{Holds}
 use Rattle.summary.specs.Ranges.{Ranges}
-use Rattle.summary.specs.Tracked.{trackedFrom}
+use Rattle.workspace.specs.Tracked.{trackedFrom}
 use Rattle.summary.specs.Sections.{Marked, simulatedOf}
-use Rattle.summary.proofs.Places.{map-append}
 use Rattle.summary.proofs.Whole.{params-tracked, context-tracked}
 use Rattle.summary.proofs.Rooms.{ranges-next, marked-next}
 use Rattle.function.specs.declared.HirFunction.{HirFunction}
@@ -46,7 +46,7 @@ use Rattle.function.proofs.Standing.{stands-kept}
 use Rattle.inference.specs.Whole.{Prepared, PlacesPut}
 
 -- ---- ranges, params, context
-pub ranges-room : {sheet ws : List ℕ} {f : HirFunction} {a a₁ : List ℕ} {at₁ : ℕ} → Limited f → ((s : Sheet) × (Describes s sheet f × Stands s sheet ws)) → Ranges sheet (f .identifiers .at) (f .n) ws a 0 a₁ at₁ → at₁ ≤ 1025
+pub ranges-room : {sheet ws : List ℕ} {f : HirFunction} {a a₁ : List ℕ} {at₁ : ℕ} → Limited f → ((s : Sheet) × (Describes s sheet f × Stands s sheet ws)) → Ranges sheet (f .identifiers .at) (f .n) ws a 0 a₁ at₁ → at₁ ≤ 1 + 2 * mostIdentifiers
 ranges-room {sheet} {ws} {f} l q r =
     let ids = q .1 .0 .identifiers in
     omega (arith, ranges-next sheet (f .identifiers .at) (f .n) ws (q .0 .identifiers) (ids .0) (l .n) (q .1 .1 .size) (ids .1) (r (q .0 .identifiers) (ids .0) (ids .1)), l .n)
@@ -117,7 +117,7 @@ module _ {s : Sheet} {sheet ws : List ℕ} {f : HirFunction} {b : Building} (p :
       graph = graphOfRows (u .aside .graph j);
       records = recordsOf (u .nodes j);
       ends = endsOf (u .nodes j);
-      handed = slice-empty 13315 ws₂ j;
+      handed = slice-empty HANDED ws₂ j;
     }
 
     pub next-state : stateOf ws₂ HANDED ≡ withHanded [] (afterRenders s)
@@ -128,7 +128,7 @@ module _ {s : Sheet} {sheet ws : List ℕ} {f : HirFunction} {b : Building} (p :
     module _ (ws₃ : List ℕ) (kept : slice MUTATIONS SIMULATED ws₃ ≡ slice MUTATIONS SIMULATED ws₂) where
       word-kept : (i : ℕ) → i < b .mutations → getD ws₃ (MUTATIONS + 3 * i + 2) 0 ≡ getD ws₁ (MUTATIONS + 3 * i + 2) 0
       word-kept i h =
-          let few : i < 512 = omega (arith, h, p .pending .few) in
+          let few : i < mostMutations = omega (arith, h, p .pending .few) in
           let e : MUTATIONS + 3 * i + 2 ≡ MUTATIONS + (3 * i + 2) = omega arith in
           ap (λ (k : ℕ). getD ws₃ k 0) e
           ∙ sym (slice-at MUTATIONS SIMULATED (3 * i + 2) ws₃ (omega (arith, few)))

@@ -5,6 +5,7 @@ use mathlib.Core.Path.{_≡_, subst, _∙_}
 use mathlib.Core.Bool.{Bool, false}
 use mathlib.Core.List.{List, []}
 use lib.ListN.{length}
+use Rattle.model.specs.Limits.{mostIdentifiers}
 use Rattle.model.specs.Lists.{each}
 use Rattle.model.specs.Sheet.{Place, Sheet}
 use Rattle.model.specs.Totals.{totals, over}
@@ -80,7 +81,7 @@ module _ {sheet ws ws₁ : List ℕ} {x : FunctionStep} (h : ReadsFunction sheet
     function-got s is = subst (functionIs s sheet ws ws₁) q (h .read s (is .0) (is-read sheet is))
 
     pub blocks-can : ((s : Sheet) × IsSheet sheet s)
-        → ((f .n ≤ 512) × ((f .m ≤ 64) × (f .returns .identifier .0 < 512))) × Ready (numbered (f .count) [] (block (f .n) (f .m)) sheet (f .blocks .at)) (costs blockCost) ws₁ b
+        → ((f .n ≤ mostIdentifiers) × ((f .m ≤ 64) × (f .returns .identifier .0 < mostIdentifiers))) × Ready (numbered (f .count) [] (block (f .n) (f .m)) sheet (f .blocks .at)) (costs blockCost) ws₁ b
     blocks-can p =
         let g = function-got (p .0) (p .1) in
         let l = g .limited in
@@ -108,7 +109,7 @@ module _ {sheet ws ws₁ : List ℕ} {x : FunctionStep} (h : ReadsFunction sheet
         pub whole-got : (s : Sheet) → IsSheet sheet s → Whole s ws₁ ws₂ b′
         whole-got s is = let k = whole s is in let v : WholeAt s (k .0) ws₁ ws₂ (GotBlocks b′ c) = subst (WholeAt s (k .0) ws₁ ws₂) e (k .1) in v .0
 
-        pub few-identifiers : ((s : Sheet) × IsSheet sheet s) → f .n ≤ 512
+        pub few-identifiers : ((s : Sheet) × IsSheet sheet s) → f .n ≤ mostIdentifiers
         few-identifiers p = function-got (p .0) (p .1) .limited .n
 
         pub prepares : ((s : Sheet) × IsSheet sheet s) → {copies : Bool} → NoneUnless copies sheet → {ws₃ ws₄ : List ℕ} → LEAST ≤ length ws → LaysOut ws₂ b′ ws₃ → Keeps (f .n) ws₃ ws₄

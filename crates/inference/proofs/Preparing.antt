@@ -8,7 +8,7 @@ use lib.ListN.{length, getD, take, replicate, length-replicate, length-append, l
 use lib.Seq.{sets, length-sets, ext-getD, getD-append-add}
 use lib.Dec.{ltb}
 use borrow.Author.Tests.{lt-ltb, le-ltb}
-use Rattle.model.specs.Limits.{mostOrder}
+use Rattle.model.specs.Limits.{mostIdentifiers, mostOrder}
 use Rattle.model.specs.Lists.{pick, Every}
 use Rattle.model.specs.Sheet.{Identifier, Sheet}
 use Rattle.model.specs.Reading.{Position, got}
@@ -18,7 +18,7 @@ use Rattle.model.specs.Built.{Built}
 use Rattle.model.specs.Building.{build}
 use Rattle.model.specs.Summary.{sheetEnds, built}
 use Rattle.workspace.specs.Layout.{LEAST, END, SEEN, FBOUND, QUEUE, MUTATIONS, RENDERS, FUNCTIONS}
-use Rattle.workspace.specs.Rows.{Kept, rowsOf}
+use Rattle.workspace.specs.Rows.{rowsOf, Kept}
 use Rattle.workspace.specs.Graph.{tab, graphOfRows}
 use Rattle.workspace.specs.Pending.{mutationsOf}
 use Rattle.workspace.proofs.Parts.{drop-more, take-less, take-word, slice-at, slice-sets}
@@ -26,7 +26,7 @@ use Rattle.workspace.proofs.Tables.{tab-length, tab-at}
 use Rattle.workspace.proofs.Pending.{mutations-kept, renders-kept}
 use Rattle.building.specs.declared.Building.{Building}
 use Rattle.building.specs.Built.{indexOf, builtOf, LaysOut}
-use Rattle.aliasing.specs.State.{nodesOf, fieldAt, endsOf}
+use Rattle.aliasing.specs.State.{nodesOf, endAt, endsOf}
 use Rattle.aliasing.proofs.New.{state-new}
 use Rattle.aliasing.proofs.Parts.{rows-above}
 use Rattle.aliasing.proofs.Walks.{indexed-after}
@@ -38,7 +38,7 @@ use Rattle.inference.specs.Whole.{Keeps, Prepared}
 use Rattle.inference.proofs.Orders.{orders}
 
 -- ---- the sheet's ends
-module _ (ids : List Identifier) (few : length ids ≤ 512) (ws₀ : List ℕ) (size : LEAST ≤ length ws₀) (ws : List ℕ)
+module _ (ids : List Identifier) (few : length ids ≤ mostIdentifiers) (ws₀ : List ℕ) (size : LEAST ≤ length ws₀) (ws : List ℕ)
     (low : take SEEN ws ≡ take SEEN (sets ws₀ END (map (λ (i : Identifier). i .end) ids))) where
   abbrev ends : List ℕ
   ends = map (λ (i : Identifier). i .end) ids
@@ -48,33 +48,33 @@ module _ (ids : List Identifier) (few : length ids ≤ 512) (ws₀ : List ℕ) (
 
   end-word : (x : ℕ) → x < length ids → getD ws (END + x) 0 ≡ getD ends x 0
   end-word x h =
-      let k : 2112 + length ends ≤ length (sets ws₀ 2112 ends) = omega (arith, count, few, size, length-sets ws₀ 2112 ends) in
-      take-word 2624 (2112 + x) (sets ws₀ 2112 ends) ws (omega (arith, h, few)) low
-      ∙ sym (slice-at 2112 (2112 + length ends) x (sets ws₀ 2112 ends) (omega (arith, count, h)))
-      ∙ ap (λ (l : List ℕ). getD l x 0) (slice-sets ends ws₀ 2112 (2112 + length ends) refl (omega (arith, count, few, size)))
+      let k : END + length ends ≤ length (sets ws₀ END ends) = omega (arith, count, few, size, length-sets ws₀ END ends) in
+      take-word SEEN (END + x) (sets ws₀ END ends) ws (omega (arith, h, few)) low
+      ∙ sym (slice-at END (END + length ends) x (sets ws₀ END ends) (omega (arith, count, h)))
+      ∙ ap (λ (l : List ℕ). getD l x 0) (slice-sets ends ws₀ END (END + length ends) refl (omega (arith, count, few, size)))
 
-  sheet-end : (x : ℕ) → x < 512 → getD (sheetEnds ids) x 0 ≡ pick (ltb x (length ids)) (getD ws (END + x) 0) 0
+  sheet-end : (x : ℕ) → x < mostIdentifiers → getD (sheetEnds ids) x 0 ≡ pick (ltb x (length ids)) (getD ws (END + x) 0) 0
   unfolding sheetEnds
   sheet-end x h = go (decLt x (length ids))
     where
-      go : Dec (x < length ids) → getD (ends ++ replicate (512 - length ids) 0) x 0 ≡ pick (ltb x (length ids)) (getD ws (2112 + x) 0) 0
-      go (yes k) = List·getD-append ends (replicate (512 - length ids) 0) 0 x (omega (arith, count, k)) ∙ sym (end-word x k) ∙ sym (rw (lt-ltb x (length ids) k))
+      go : Dec (x < length ids) → getD (ends ++ replicate (mostIdentifiers - length ids) 0) x 0 ≡ pick (ltb x (length ids)) (getD ws (END + x) 0) 0
+      go (yes k) = List·getD-append ends (replicate (mostIdentifiers - length ids) 0) 0 x (omega (arith, count, k)) ∙ sym (end-word x k) ∙ sym (rw (lt-ltb x (length ids) k))
       go (no k) =
           let e : x ≡ length ends + (x - length ends) = omega (arith, count, k) in
-          ap (λ (i : ℕ). getD (ends ++ replicate (512 - length ids) 0) i 0) e
-          ∙ getD-append-add ends (replicate (512 - length ids) 0) (x - length ends) 0
-          ∙ getD-replicate (512 - length ids) (x - length ends) 0 0 (omega (arith, h, count, k))
+          ap (λ (i : ℕ). getD (ends ++ replicate (mostIdentifiers - length ids) 0) i 0) e
+          ∙ getD-append-add ends (replicate (mostIdentifiers - length ids) 0) (x - length ends) 0
+          ∙ getD-replicate (mostIdentifiers - length ids) (x - length ends) 0 0 (omega (arith, h, count, k))
           ∙ sym (rw (le-ltb x (length ids) (omega (arith, k))))
 
-  ends-length : length (sheetEnds ids) ≡ 512
+  ends-length : length (sheetEnds ids) ≡ mostIdentifiers
   unfolding sheetEnds
-  ends-length = omega (arith, length-append ends (replicate {A = ℕ} (512 - length ids) 0), length-replicate {A = ℕ} (512 - length ids) 0, count, few)
+  ends-length = omega (arith, length-append ends (replicate {A = ℕ} (mostIdentifiers - length ids) 0), length-replicate {A = ℕ} (mostIdentifiers - length ids) 0, count, few)
 
-  ends-stand : (ws′ : List ℕ) → ((x : ℕ) → x < 512 → fieldAt (nodesOf ws′) END x ≡ pick (ltb x (length ids)) (getD ws (END + x) 0) 0) → endsOf (nodesOf ws′) ≡ sheetEnds ids
+  ends-stand : (ws′ : List ℕ) → ((x : ℕ) → x < mostIdentifiers → endAt (nodesOf ws′) x ≡ pick (ltb x (length ids)) (getD ws (END + x) 0) 0) → endsOf (nodesOf ws′) ≡ sheetEnds ids
   unfolding endsOf
   ends-stand ws′ h =
-      ext-getD 0 (tab 512 (fieldAt (nodesOf ws′) 2112)) (sheetEnds ids) (tab-length 512 (fieldAt (nodesOf ws′) 2112) ∙ sym ends-length)
-      (λ i q. let k : i < 512 = omega (arith, q, tab-length 512 (fieldAt (nodesOf ws′) 2112)) in tab-at 512 (fieldAt (nodesOf ws′) 2112) i 0 k ∙ h i k ∙ sym (sheet-end i k))
+      ext-getD 0 (tab mostIdentifiers (endAt (nodesOf ws′))) (sheetEnds ids) (tab-length mostIdentifiers (endAt (nodesOf ws′)) ∙ sym ends-length)
+      (λ i q. let k : i < mostIdentifiers = omega (arith, q, tab-length mostIdentifiers (endAt (nodesOf ws′))) in tab-at mostIdentifiers (endAt (nodesOf ws′)) i 0 k ∙ h i k ∙ sym (sheet-end i k))
 
 module _ (s : Sheet) (sheet : List ℕ) (d : Position) (is : sheetReader sheet 0 ≡ got s d) (f : HirFunction) (b : Building) (ws₀ ws₁ ws₂ ws₃ ws₄ : List ℕ) where
   module _ (describes : Describes s sheet f) (limited : Limited f) (stands : Stands s sheet ws₁) (size : LEAST ≤ length ws₀)
@@ -83,7 +83,7 @@ module _ (s : Sheet) (sheet : List ℕ) (d : Position) (is : sheetReader sheet 0
       low-kept : take SEEN ws₃ ≡ take SEEN (sets ws₀ END (map (λ (i : Identifier). i .end) (s .identifiers)))
       low-kept = take-less SEEN FBOUND ws₃ ws₂ (omega arith) (l .low) ∙ w .low ∙ ends
 
-      few-ids : length (s .identifiers) ≤ 512
+      few-ids : length (s .identifiers) ≤ mostIdentifiers
       few-ids = omega (arith, limited .n, describes .n)
 
       high-kept : Kept 0 SEEN ws₃ ws₄
@@ -113,7 +113,6 @@ module _ (s : Sheet) (sheet : List ℕ) (d : Position) (is : sheetReader sheet 0
         index = index-is;
         pending = record {
           few = w .sound .mutations;
-          covered = k .covered;
           orders = subst (Every (λ (m : Mutation). m .order ≤ mostOrder)) (sym mutations-are) (orders sheet s d is);
         };
         fewRelations = w .sound .relations;

@@ -17,7 +17,6 @@ use Rattle.function.specs.declared.HirFunction.{HirFunction}
 use Rattle.diagnostics.specs.Diagnosed.{DiagnosticsPut}
 use Rattle.simulation.specs.Simulates.{Before, EffectsPut}
 use Rattle.inference.specs.Whole.{Prepared, PlacesPut, AnswerPut}
-use Rattle.aliasing.proofs.Fields.{covered-nodes}
 use Rattle.inference.proofs.Answering.{real-state, real-renders, real-stands, next-stands, next-state, answer-put}
 
 -- the functions handed over stay in their part
@@ -26,7 +25,7 @@ hand-low m = omega (arith, m .handing .room)
 
 pub before-effects : {s : Sheet} {sheet ws : List ℕ} {f : HirFunction} {b : Building} {ws₁ ws₂ : List ℕ} {hand i : ℕ}
     → Prepared s sheet ws f b → Processed (f .errors) ws (b .mutations) ws₁ hand → Unmoved ws₁ ws₂ → i ≡ indexOf b → Before s sheet ws₂ f i
-before-effects {ws₁ = ws₁} {ws₂ = ws₂} p m u is = record { describes = p .describes; stands = next-stands p m u; state = next-state p m u; covered = covered-nodes ws₁ ws₂ (u .aside .graph) (u .nodes) (m .handing .covered); first = is ∙ p .index }
+before-effects {ws₁ = ws₁} {ws₂ = ws₂} p m u is = record { describes = p .describes; stands = next-stands p m u; state = next-state p m u; first = is ∙ p .index }
 
 -- all stages
 pub stages : {sheet ws : List ℕ} {f : HirFunction} {b : Building} {ws₁ ws₂ ws₃ : List ℕ} {hand i : ℕ} {a a₁ a₂ a₃ a₄ : List ℕ} {at₁ at₂ at₃ at₄ : ℕ}

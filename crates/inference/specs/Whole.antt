@@ -5,6 +5,7 @@ use mathlib.Core.Path.{_≡_}
 use mathlib.Core.List.{List, [], _++_, map}
 use lib.ListN.{length, getD, drop}
 use lib.Dec.{ltb}
+use Rattle.model.specs.Limits.{mostIdentifiers, mostRelations, mostRenders}
 use Rattle.model.specs.Lists.{pick}
 use Rattle.model.specs.Sheet.{Sheet}
 use Rattle.model.specs.State.{State}
@@ -17,7 +18,7 @@ use Rattle.workspace.specs.Rows.{Indexed}
 use Rattle.workspace.specs.Pending.{mutationsOf, rendersOf}
 use Rattle.building.specs.declared.Building.{Building}
 use Rattle.building.specs.Built.{indexOf}
-use Rattle.aliasing.specs.State.{nodesOf, fieldAt, Covered, endsOf, stateOf}
+use Rattle.aliasing.specs.State.{nodesOf, endAt, endsOf, stateOf}
 use Rattle.aliasing.specs.Pending.{Pending}
 use Rattle.writing.specs.Wrote.{Wrote}
 use Rattle.summary.specs.Records.{Holds}
@@ -32,11 +33,10 @@ use Rattle.inference.specs.Outcome.{Came}
 abbrev pub NoneUnless : Bool → List ℕ → Type 0
 NoneUnless copies sheet = copies ≡ false → (s : Sheet) → IsSheet sheet s → copied s ≡ []
 
--- there is no record, and the ends are those of the first n words; every identifier that can have a node has its words
+-- there is no record, and the ends are those of the first n words
 pub record Keeps (n : ℕ) (ws ws′ : List ℕ) : Type 0 where
-  pub records : (x : ℕ) → x < 512 → fieldAt ws′ RECORD x ≡ 0
-  pub ends : (x : ℕ) → x < 512 → fieldAt (nodesOf ws′) END x ≡ pick (ltb x n) (getD ws (END + x) 0) 0
-  pub covered : Covered ws′
+  pub records : (x : ℕ) → x < mostIdentifiers → getD ws′ (RECORD + x) 0 ≡ 0
+  pub ends : (x : ℕ) → x < mostIdentifiers → endAt (nodesOf ws′) x ≡ pick (ltb x n) (getD ws (END + x) 0) 0
   pub high : drop SEEN ws′ ≡ drop SEEN ws
   pub same : length ws′ ≡ length ws
 
@@ -51,8 +51,8 @@ pub record Prepared (s : Sheet) (sheet ws : List ℕ) (f : HirFunction) (b : Bui
   pub renders : rendersOf ws (b .renders) ≡ build s .renders
   pub index : indexOf b ≡ build s .index
   pub pending : Pending ws (b .mutations)
-  pub fewRelations : b .relations ≤ 1024
-  pub fewRenders : b .renders ≤ 256
+  pub fewRelations : b .relations ≤ mostRelations
+  pub fewRenders : b .renders ≤ mostRenders
 
 -- the ranges, the params and the context of s were written, t having the records of the words
 pub record PlacesPut (sheet ws : List ℕ) (f : HirFunction) (ans ans′ : List ℕ) (r : ℕ) : Type 0 where

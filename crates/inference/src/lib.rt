@@ -1,8 +1,8 @@
 // The port of `infer_mutation_aliasing_ranges` up to its second loop over the blocks, and of its Part 3.
-ghost use mathlib.Core.Path.{_≡_};
-ghost use Prim.Native.Nat.{_≤_, max};
+ghost use Prim.Native.Nat.{_≤_};
 ghost use lib.ListN.{length};
-ghost use Rattle.workspace.specs.Rows.{Indexed};
+ghost use Rattle.model.specs.Limits.{mostIdentifiers};
+ghost use Rattle.workspace.specs.Layout.{LEAST};
 ghost use Rattle.model.specs.Sheet.{Sheet};
 ghost use Rattle.model.specs.Call.{refusal, IsSheet};
 ghost use Rattle.function.specs.Function.{Limited, Describes, Stands};
@@ -22,8 +22,7 @@ use summary::ranges::put_ranges;
 use summary::tracked::put_marked;
 use summary::walks::put_walks;
 use workspace::END;
-use workspace::KEPT;
-use workspace::NODES;
+use workspace::IDENTIFIERS;
 use workspace::RECORD;
 use workspace::clear;
 
@@ -33,32 +32,18 @@ pub enum Outcome {
     Accepted(usize),
 }
 
-// The larger of two.
-fn larger(a: usize, b: usize) -> usize
-    ensures { λ r. ⌜ r ≡ max a b ⌝ }
-{
-    if a < b {
-        return b;
-    }
-    a
-}
-
-// A record's word and an end are kept for each identifier of the sheet and each that can have a node: no record yet, and the sheet's n ends. The spans are not cleared: a record whose word is 0 is none.
+// There is no record yet, and the ends are the sheet's n ones. The spans are not cleared: a record whose word is 0 is none.
 fn keep(ws: &mut [u32], n: usize)
-    requires { ⌜ Indexed (now ws) ⌝ }
-    requires { ⌜ n ≤ 512 ⌝ }
+    requires { ⌜ (LEAST ≤ length (now ws)) × (n ≤ mostIdentifiers) ⌝ }
     ensures { λ _. ⌜ Keeps n (now (ws .entry)) (now (ws .exit)) ⌝ }
 {
-    let nodes = ws[NODES] as usize;
-    let kept = larger(nodes, n);
-    clear(ws, RECORD, kept);
-    clear(ws, END + n, kept - n);
-    ws[KEPT] = kept as u32;
+    clear(ws, RECORD, IDENTIFIERS);
+    clear(ws, END + n, IDENTIFIERS - n);
 }
 
 // Part 1: builds the data flow graph and lays it out for the walks.
 fn build(sheet: &[u32], ws: &mut [u32], copies: bool) -> FunctionStep
-    requires { ⌜ 16384 ≤ length (now ws) ⌝ }
+    requires { ⌜ LEAST ≤ length (now ws) ⌝ }
     requires { ⌜ ((s : Sheet) × IsSheet (now sheet) s) ⌝ }
     requires { ⌜ NoneUnless copies (now sheet) ⌝ }
     ensures { λ r. ⌜ Prepares (now (sheet .entry)) (now (ws .entry)) (now (ws .exit)) r ⌝ }

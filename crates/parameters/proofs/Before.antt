@@ -6,7 +6,7 @@ use mathlib.Core.Bool.{true, true≢false}
 use mathlib.Core.List.{List, [], _∷_, _++_, map}
 use lib.ListN.{length, getD, length-append}
 use lib.Seq.{sets}
-use Rattle.model.specs.Limits.{mostFunctions}
+use Rattle.model.specs.Limits.{mostIdentifiers, mostFunctions}
 use Rattle.model.specs.Lists.{each}
 use Rattle.model.specs.Sheet.{Identifier, Place, noFunction, Sheet}
 use Rattle.model.specs.Reading.{Position, got, numbered}
@@ -14,18 +14,18 @@ use Rattle.model.specs.Sections.{innerFunction, block}
 use Rattle.model.specs.Sections.{sheet as sheetReader}
 use Rattle.model.specs.Building.{firstPlaces}
 use Rattle.model.proofs.ReadLaws.{counted-length}
-use Rattle.workspace.specs.Layout.{END, SEEN, VALUE, FBOUND, FUNCTIONS}
+use Rattle.workspace.specs.Layout.{END, SEEN, VALUE, FBOUND, FUNCTIONS, TRACKED}
 use Rattle.workspace.specs.Graph.{tab}
 use Rattle.workspace.proofs.Parts.{take-less, drop-word, slice-at}
 use Rattle.building.specs.declared.Building.{Building}
-use Rattle.building.specs.Built.{begun, Starts}
+use Rattle.building.specs.Built.{Starts}
 use Rattle.dataflow.specs.Whole.{createdFor, First}
 use Rattle.dataflow.proofs.Sheet.{sheet-sections, first-nodes}
 use Rattle.header.specs.declared.Top.{Top}
 use Rattle.header.specs.declared.TopStep.{TopStep}
 use Rattle.header.specs.declared.TopStep.the-variants.{Got as GotTop, Refused as NoTop}
 use Rattle.header.specs.Read.{Tops, topIs, topFew, Topped}
-use Rattle.summary.specs.Tracked.{TRACKED, trackedOf}
+use Rattle.workspace.specs.Tracked.{trackedOf}
 use Rattle.function.specs.declared.HirFunction.{HirFunction}
 use Rattle.function.specs.Function.{Limited, Describes, Stands}
 use Rattle.parameters.specs.declared.Tracked.{Tracked}
@@ -36,7 +36,7 @@ use Rattle.parameters.specs.Places.{TrackedRead, trackedIs, ReadsTracked
 use Rattle.parameters.specs.Function.{FunctionRead, ReadsFunction}
 
 -- a sheet's inner functions
-few-functions : (sheet : List ℕ) (s : Sheet) (d : Position) → sheetReader sheet 0 ≡ got s d → length (s .functions) ≤ 64
+few-functions : (sheet : List ℕ) (s : Sheet) (d : Position) → sheetReader sheet 0 ≡ got s d → length (s .functions) ≤ mostFunctions
 few-functions sheet s d e =
     let p = sheet-sections sheet s d e in
     counted-length mostFunctions innerFunction sheet (p .afterIdentifiers) (s .functions) (p .afterFunctions) (p .functions)
@@ -61,7 +61,7 @@ functionOf t u = record {
 }
 
 -- the calls one after another, for a sheet that was read
-module _ (sheet : List ℕ) (s : Sheet) (d : Position) (e : sheetReader sheet 0 ≡ got s d) {ws ws₁ : List ℕ} {t : Top} (T : Tops s d sheet ws ws₁ t) (few : t .n ≤ 512) {ws₂ : List ℕ} {b : Building} (start : Starts ws₁ ws₂ b) where
+module _ (sheet : List ℕ) (s : Sheet) (d : Position) (e : sheetReader sheet 0 ≡ got s d) {ws ws₁ : List ℕ} {t : Top} (T : Tops s d sheet ws ws₁ t) (few : t .n ≤ mostIdentifiers) {ws₂ : List ℕ} {b : Building} (start : Starts ws₁ ws₂ b) where
   module _ {ws₃ : List ℕ} {u : Tracked} {r : Building} (U : TrackedRead s d sheet (t .n) ws₂ b ws₃ u r) where
     describes : Describes s sheet (functionOf t u)
     describes = record {
@@ -131,7 +131,7 @@ module _ {sheet ws ws₁ : List ℕ} {x : TopStep} (T : Topped sheet ws ws₁ x)
   no-top q = record { read = λ s d e. subst (topIs s d sheet ws ws₁) q (T .read s d e) }
 
   module _ {t : Top} (q : x ≡ GotTop t) where
-    pub few-identifiers : t .n ≤ 512
+    pub few-identifiers : t .n ≤ mostIdentifiers
     few-identifiers = subst topFew q (T .few)
 
     module _ {ws₂ : List ℕ} {b : Building} (start : Starts ws₁ ws₂ b) {ws₃ : List ℕ} {y : TrackedStep} (U : ReadsTracked sheet (t .next .at) (t .n) ws₂ b ws₃ y) where
@@ -142,9 +142,9 @@ module _ {sheet ws ws₁ : List ℕ} {x : TopStep} (T : Topped sheet ws ws₁ x)
             subst (trackedIs s d sheet (t .n) ws₂ b ws₃) p (U .read s d (top .n) (top .rest));
       }
 
-      pub function-read : {u : Tracked} {nodes : ℕ} → y ≡ GotTracked u nodes → {r : Building} → r ≡ begun nodes → ReadsFunction sheet ws ws₃ (Got (functionOf t u) r)
-      function-read {u} {nodes} p is = record {
+      pub function-read : {u : Tracked} {r : Building} → y ≡ GotTracked u r → ReadsFunction sheet ws ws₃ (Got (functionOf t u) r)
+      function-read {u} {r} p = record {
         read = λ s d e.
             let top : Tops s d sheet ws ws₁ t = subst (topIs s d sheet ws ws₁) q (T .read s d e) in
-            subst (FunctionRead s sheet ws ws₃ (functionOf t u)) (sym is) (function-is sheet s d e top few-identifiers start (subst (trackedIs s d sheet (t .n) ws₂ b ws₃) p (U .read s d (top .n) (top .rest))));
+            function-is sheet s d e top few-identifiers start (subst (trackedIs s d sheet (t .n) ws₂ b ws₃) p (U .read s d (top .n) (top .rest)));
       }

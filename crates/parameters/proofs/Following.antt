@@ -4,7 +4,7 @@ use native.Mathlib.Omega.{arith}
 use mathlib.Core.Path.{_≡_, sym, ap, subst, _∙_}
 use mathlib.Core.List.{List, [], _∷_, _++_}
 use lib.ListN.{length}
-use Rattle.model.specs.Limits.{mostParams, mostContext, returnsCount, mostBlocks}
+use Rattle.model.specs.Limits.{mostBlocks, mostParams, mostContext, returnsCount}
 use Rattle.model.specs.Sheet.{Place, Sheet}
 use Rattle.model.specs.Reading.{Position, Result, got, refused, Read, count, fixed, numbered, counted}
 use Rattle.model.specs.Sections.{place, block}
@@ -17,10 +17,10 @@ use Rattle.hir.specs.declared.Place.{Place as HirPlace}
 use Rattle.hir.specs.declared.Cursor.{Cursor}
 use Rattle.hir.specs.Says.{placeIs}
 use Rattle.building.specs.declared.Building.{Building}
-use Rattle.building.specs.Built.{begun, Steps}
+use Rattle.building.specs.Built.{Steps}
 use Rattle.instructions.proofs.Gots.{both-got}
 use Rattle.header.specs.Read.{afterFunctions}
-use Rattle.summary.specs.Tracked.{Tracks}
+use Rattle.workspace.specs.Tracked.{Tracks}
 use Rattle.parameters.specs.declared.ListStep.{ListStep}
 use Rattle.parameters.specs.declared.ListStep.the-variants.{Refused as NoList}
 use Rattle.parameters.specs.declared.TrackedStep.the-variants.{Got as GotTracked, Refused as NoTracked}
@@ -128,9 +128,9 @@ module _ {n : ℕ} {sheet : List ℕ} {c : Position} {ws : List ℕ} {b : Buildi
 
       -- all of it
       pub tracked-read : {p : HirPlace} {c₄ : Position} → place n sheet c₃ ≡ got (placeIs p) c₄ → {m : ℕ} {c₅ : Cursor} → count mostBlocks sheet c₄ ≡ got m (c₅ .at)
-          → {ws₃ : List ℕ} → Tracks ws₂ (params + context) (placeIs p) ws₃ → {ws₄ : List ℕ} {nodes : ℕ} → Steps (changed (create (p .identifier .0) object)) 0 0 0 0 ws₃ b₂ ws₄ (begun nodes)
-          → ReadsTracked sheet c n ws b ws₄ (GotTracked (record { params = params; context = context; returns = p; count = m; next = c₅ }) nodes)
-      tracked-read {p} {c₄} h₄ {m} h₅ t {ws₄} {nodes} u =
+          → {ws₃ : List ℕ} → Tracks ws₂ (params + context) (placeIs p) ws₃ → {ws₄ : List ℕ} {b₃ : Building} → Steps (changed (create (p .identifier .0) object)) 0 0 0 0 ws₃ b₂ ws₄ b₃
+          → ReadsTracked sheet c n ws b ws₄ (GotTracked (record { params = params; context = context; returns = p; count = m; next = c₅ }) b₃)
+      tracked-read {p} {c₄} h₄ {m} h₅ t {ws₄} {b₃} u =
           let third = places-one (l₂ .places .sound) t u in
           let all = places-then (l₁ .places) (omega (arith, l₁ .long)) (places-then (l₂ .places) (omega (arith, l₂ .long)) third) in
           record {
@@ -140,7 +140,7 @@ module _ {n : ℕ} {sheet : List ℕ} {c : Position} {ws : List ℕ} {b : Buildi
                 let cs : l₂ .list ≡ s .context = got-value (sym (l₂ .reads) ∙ at-context a (l₁ .reads)) in
                 let is : placeIs p ≡ s .returns = got-value (sym h₄ ∙ at-returns a (l₁ .reads) (l₂ .reads) h₃) in
                 record {
-                  places = subst (λ (l : List Place). Places l 0 ws b ws₄ (begun nodes)) (firsts ps cs is) all;
+                  places = subst (λ (l : List Place). Places l 0 ws b ws₄ b₃) (firsts ps cs is) all;
                   params = l₁ .long ∙ ap (λ (l : List Place). length l) ps;
                   context = l₂ .long ∙ ap (λ (l : List Place). length l) cs;
                   returns = is;

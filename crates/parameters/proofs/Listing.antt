@@ -12,7 +12,6 @@ use Rattle.model.proofs.Got.{not-both}
 use Rattle.model.proofs.ReadLaws.{times-length, counted-length}
 use Rattle.hir.specs.declared.Cursor.{Cursor}
 use Rattle.building.specs.declared.Building.{Building}
-use Rattle.building.specs.Built.{begun}
 use Rattle.instructions.proofs.Gots.{counted-is, counted-refused}
 use Rattle.parameters.specs.declared.PlacesStep.{PlacesStep}
 use Rattle.parameters.specs.declared.PlacesStep.the-variants.{Got, Refused}
@@ -28,9 +27,9 @@ module _ (n : ℕ) (sheet : List ℕ) (c : Position) {first : ℕ} {ws : List �
     pub list-refused : {j : ℕ} → r ≡ Refused j → ReadsList (counted mostParams (place n) sheet c) first ws b ws′ NoList
     list-refused q = record { read = λ ps d f. subst (placesAre ps d first ws b ws′) q (p .read ps d (sym (counted-is mostParams (place n) sheet c h) ∙ f)); only = tt }
 
-    pub list-got : {nodes : ℕ} {c′ : Cursor} → r ≡ Got nodes c′ → ReadsList (counted mostParams (place n) sheet c) first ws b ws′ (GotList k nodes c′)
-    list-got {nodes} {c′} q =
-        let t : ReadsPlaces (times k (place n) sheet e) first ws b ws′ (Got nodes c′) = subst (λ (r : PlacesStep). ReadsPlaces (times k (place n) sheet e) first ws b ws′ r) q p in
+    pub list-got : {b′ : Building} {c′ : Cursor} → r ≡ Got b′ c′ → ReadsList (counted mostParams (place n) sheet c) first ws b ws′ (GotList k b′ c′)
+    list-got {b′} {c′} q =
+        let t : ReadsPlaces (times k (place n) sheet e) first ws b ws′ (Got b′ c′) = subst (λ (r : PlacesStep). ReadsPlaces (times k (place n) sheet e) first ws b ws′ r) q p in
         let is : counted mostParams (place n) sheet c ≡ times k (place n) sheet e = counted-is mostParams (place n) sheet c h in
         record {
           read = λ ps d f.
@@ -46,12 +45,12 @@ pub record Listed (n : ℕ) (sheet : List ℕ) (c : Position) (first : ℕ) (ws 
   pub reads : counted mostParams (place n) sheet c ≡ got list d
   pub places : Places list first ws b ws′ r
   pub long : k ≡ length list
-  pub few : k ≤ 64
+  pub few : k ≤ mostParams
 
 pub list-listed : (n : ℕ) (sheet : List ℕ) (c : Position) {first : ℕ} {ws : List ℕ} {b : Building} {ws′ : List ℕ} {x : ListStep} → ReadsList (counted mostParams (place n) sheet c) first ws b ws′ x
-    → {k nodes : ℕ} {d : Cursor} → x ≡ GotList k nodes d → Listed n sheet c first ws b ws′ k (begun nodes) (d .at)
-list-listed n sheet c {first} {ws} {b} {ws′} l {k} {nodes} {d} q =
-    let t : ReadsList (counted mostParams (place n) sheet c) first ws b ws′ (GotList k nodes d) = subst (λ (y : ListStep). ReadsList (counted mostParams (place n) sheet c) first ws b ws′ y) q l in
+    → {k : ℕ} {r : Building} {d : Cursor} → x ≡ GotList k r d → Listed n sheet c first ws b ws′ k r (d .at)
+list-listed n sheet c {first} {ws} {b} {ws′} l {k} {r} {d} q =
+    let t : ReadsList (counted mostParams (place n) sheet c) first ws b ws′ (GotList k r d) = subst (λ (y : ListStep). ReadsList (counted mostParams (place n) sheet c) first ws b ws′ y) q l in
     let g = t .only .1 in
     let y = t .read (t .only .0) (d .at) g in
     record {

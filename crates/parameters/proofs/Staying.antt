@@ -5,7 +5,7 @@ use mathlib.Core.Path.{_≡_, refl, sym, ap, subst, _∙_}
 use mathlib.Core.List.{List}
 use lib.ListN.{length, take}
 use lib.Seq.{slice}
-use Rattle.workspace.specs.Layout.{VALUE, EDGES, ENTRIES, PREDS, RELATIONS, MUTATIONS, RENDERS, FUNCTIONS}
+use Rattle.workspace.specs.Layout.{VALUE, FBOUND, EDGES, ENTRIES, PREDS, RELATIONS, MUTATIONS, RENDERS, FUNCTIONS}
 use Rattle.workspace.proofs.Parts.{take-less, slice-take}
 use Rattle.workspace.proofs.Pending.{mutations-below, renders-below}
 use Rattle.building.specs.declared.Building.{Building}
@@ -19,7 +19,7 @@ use Rattle.building.proofs.Stages.{built-eq}
 module _ (ws ws′ : List ℕ) (b : Building) (sound : Sound ws b) (e : take FUNCTIONS ws′ ≡ take FUNCTIONS ws) where
   logs-stay : logsOf ws′ (b .held) ≡ logsOf ws (b .held)
   logs-stay =
-      logs-eq (slice-take FUNCTIONS VALUE (VALUE + b .held .nodes) ws′ ws (omega (arith, sound .clean .few)) e) (slice-take FUNCTIONS EDGES (EDGES + b .held .edges) ws′ ws (omega (arith, sound .edges, sound .relations)) e)
+      logs-eq (slice-take FUNCTIONS VALUE FBOUND ws′ ws (omega arith) e) (slice-take FUNCTIONS EDGES (EDGES + b .held .edges) ws′ ws (omega (arith, sound .edges, sound .relations)) e)
       (slice-take FUNCTIONS ENTRIES (ENTRIES + b .held .entries) ws′ ws (omega (arith, sound .entries, sound .relations)) e)
 
   graph-stays : graphOf ws′ (b .held) ≡ graphOf ws (b .held)

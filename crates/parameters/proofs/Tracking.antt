@@ -12,15 +12,15 @@ use Rattle.model.specs.Sections.{place}
 use Rattle.model.specs.Graph.{object, create}
 use Rattle.model.specs.Built.{Built, changed}
 use Rattle.model.proofs.Got.{got-value, got-next, not-both}
-use Rattle.workspace.specs.Layout.{SEEN, FUNCTIONS}
+use Rattle.workspace.specs.Layout.{SEEN, FUNCTIONS, TRACKED}
 use Rattle.workspace.proofs.Parts.{take-less, drop-more, slice-take, slice-drop}
 use Rattle.building.specs.declared.Building.{Building}
-use Rattle.building.specs.Built.{builtOf, begun, Sound, Steps}
+use Rattle.building.specs.Built.{builtOf, Sound, Steps}
 use Rattle.dataflow.specs.Whole.{createdFor}
 use Rattle.instructions.proofs.Gots.{joined, times-joined, times-none}
 use Rattle.hir.specs.declared.Cursor.{Cursor}
-use Rattle.summary.specs.Tracked.{TRACKED, trackedOf, Tracks}
-use Rattle.summary.proofs.Places.{tracked-kept}
+use Rattle.workspace.specs.Tracked.{trackedOf, Tracks}
+use Rattle.workspace.proofs.Places.{tracked-kept}
 use Rattle.parameters.specs.declared.PlacesStep.the-variants.{Got, Refused}
 use Rattle.parameters.specs.Places.{Places, ReadsPlaces}
 use Rattle.parameters.proofs.Staying.{built-stays, sound-stays}
@@ -137,12 +137,12 @@ module _ {sheet : List ℕ} {n count first : ℕ} {ws₀ : List ℕ} {b₀ : Bui
       let e : times count (place n) sheet c₀ ≡ refused k = v .whole ∙ ap (after (v .done)) (times-joined left (place n) sheet c h ∙ ap (λ (x : Result Place). joined x (times (left - 1) (place n) sheet)) g) in
       record { read = λ ps d f. not-both f e; only = tt }
 
-pub places-done : {sheet : List ℕ} {n count first : ℕ} {ws₀ : List ℕ} {b₀ : Building} {c₀ : Position} {ws : List ℕ} {nodes : ℕ} {c : Cursor} {left i : ℕ}
-    → PlacesInv sheet n count first ws₀ b₀ c₀ ws (begun nodes) (c .at) left i → left ≤ 0 → ReadsPlaces (times count (place n) sheet c₀) first ws₀ b₀ ws (Got nodes c)
-places-done {sheet} {n} {count} {first} {ws₀} {b₀} {c₀} {ws} {nodes} {c} {left} v h =
+pub places-done : {sheet : List ℕ} {n count first : ℕ} {ws₀ : List ℕ} {b₀ : Building} {c₀ : Position} {ws : List ℕ} {b : Building} {c : Cursor} {left i : ℕ}
+    → PlacesInv sheet n count first ws₀ b₀ c₀ ws b (c .at) left i → left ≤ 0 → ReadsPlaces (times count (place n) sheet c₀) first ws₀ b₀ ws (Got b c)
+places-done {sheet} {n} {count} {first} {ws₀} {b₀} {c₀} {ws} {b} {c} {left} v h =
     let e : times count (place n) sheet c₀ ≡ got (v .done) (c .at) =
     v .whole ∙ ap (after (v .done)) (times-none left (place n) sheet (c .at) h) ∙ ap (λ (l : List Place). got l (c .at)) (append-nil (v .done)) in
     record {
-      read = λ ps d f. (subst (λ (l : List Place). Places l first ws₀ b₀ ws (begun nodes)) (got-value (sym e ∙ f)) (v .places), got-next (sym e ∙ f));
+      read = λ ps d f. (subst (λ (l : List Place). Places l first ws₀ b₀ ws b) (got-value (sym e ∙ f)) (v .places), got-next (sym e ∙ f));
       only = (v .done, e);
     }

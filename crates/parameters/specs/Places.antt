@@ -4,18 +4,19 @@ use mathlib.Core.Path.{_≡_}
 use mathlib.Core.List.{List, [], _++_}
 use lib.ListN.{length, take}
 use lib.Seq.{slice}
+use Rattle.model.specs.Limits.{mostBlocks, mostParams, mostContext}
 use Rattle.model.specs.Lists.{each}
 use Rattle.model.specs.Sheet.{Place, Sheet}
 use Rattle.model.specs.Reading.{Position, Result, got, numbered}
 use Rattle.model.specs.Sections.{block}
 use Rattle.model.specs.Building.{firstPlaces}
 use Rattle.hir.specs.Says.{placeIs}
-use Rattle.workspace.specs.Layout.{SEEN, FUNCTIONS}
+use Rattle.workspace.specs.Layout.{SEEN, FUNCTIONS, TRACKED}
 use Rattle.building.specs.declared.Building.{Building}
-use Rattle.building.specs.Built.{builtOf, begun, Sound}
+use Rattle.building.specs.Built.{builtOf, Sound}
 use Rattle.dataflow.specs.Whole.{createdFor}
 use Rattle.header.specs.Read.{afterFunctions}
-use Rattle.summary.specs.Tracked.{TRACKED, trackedOf}
+use Rattle.workspace.specs.Tracked.{trackedOf}
 use Rattle.parameters.specs.declared.PlacesStep.{PlacesStep}
 use Rattle.parameters.specs.declared.PlacesStep.the-variants.{Got, Refused}
 use Rattle.parameters.specs.declared.ListStep.{ListStep}
@@ -39,12 +40,12 @@ pub record Places (ps : List Place) (first : ℕ) (ws : List ℕ) (b : Building)
 
 -- the reading stands at d; a refusal is no answer
 abbrev pub placesAre : List Place → Position → ℕ → List ℕ → Building → List ℕ → PlacesStep → Type 0
-placesAre ps d first ws b ws′ (Got nodes c) = Places ps first ws b ws′ (begun nodes) × (c .at ≡ d)
+placesAre ps d first ws b ws′ (Got r c) = Places ps first ws b ws′ r × (c .at ≡ d)
 placesAre ps d first ws b ws′ (Refused k) = ⊥
 
 -- an answer is given to nothing else than what was read
 abbrev pub placesGot : Result (List Place) → PlacesStep → Type 0
-placesGot x (Got nodes c) = (ps : List Place) × (x ≡ got ps (c .at))
+placesGot x (Got r c) = (ps : List Place) × (x ≡ got ps (c .at))
 placesGot x (Refused k) = Unit {0}
 
 pub record ReadsPlaces (x : Result (List Place)) (first : ℕ) (ws : List ℕ) (b : Building) (ws′ : List ℕ) (r : PlacesStep) : Type 0 where
@@ -53,11 +54,11 @@ pub record ReadsPlaces (x : Result (List Place)) (first : ℕ) (ws : List ℕ) (
 
 -- the same after a count
 abbrev pub listIs : List Place → Position → ℕ → List ℕ → Building → List ℕ → ListStep → Type 0
-listIs ps d first ws b ws′ (GotList k nodes c) = Places ps first ws b ws′ (begun nodes) × ((k ≡ length ps) × (c .at ≡ d))
+listIs ps d first ws b ws′ (GotList k r c) = Places ps first ws b ws′ r × ((k ≡ length ps) × (c .at ≡ d))
 listIs ps d first ws b ws′ NoList = ⊥
 
 abbrev pub listGot : Result (List Place) → ListStep → Type 0
-listGot x (GotList k nodes c) = (ps : List Place) × (x ≡ got ps (c .at))
+listGot x (GotList k r c) = (ps : List Place) × (x ≡ got ps (c .at))
 listGot x NoList = Unit {0}
 
 pub record ReadsList (x : Result (List Place)) (first : ℕ) (ws : List ℕ) (b : Building) (ws′ : List ℕ) (r : ListStep) : Type 0 where
@@ -72,13 +73,13 @@ pub record TrackedRead (s : Sheet) (d : Position) (sheet : List ℕ) (n : ℕ) (
   pub returns : placeIs (t .returns) ≡ s .returns
   pub below : t .returns .identifier .0 < n
   pub blocks : numbered (t .count) [] (block n (length (s .functions))) sheet (t .next .at) ≡ got (s .blocks) d
-  pub fewParams : t .params ≤ 64
-  pub fewContext : t .context ≤ 64
-  pub fewBlocks : t .count ≤ 256
+  pub fewParams : t .params ≤ mostParams
+  pub fewContext : t .context ≤ mostContext
+  pub fewBlocks : t .count ≤ mostBlocks
 
 -- a refusal is given to no sheet
 abbrev pub trackedIs : Sheet → Position → List ℕ → ℕ → List ℕ → Building → List ℕ → TrackedStep → Type 0
-trackedIs s d sheet n ws b ws′ (GotTracked t nodes) = TrackedRead s d sheet n ws b ws′ t (begun nodes)
+trackedIs s d sheet n ws b ws′ (GotTracked t r) = TrackedRead s d sheet n ws b ws′ t r
 trackedIs s d sheet n ws b ws′ NoTracked = ⊥
 
 pub record ReadsTracked (sheet : List ℕ) (c : Position) (n : ℕ) (ws : List ℕ) (b : Building) (ws′ : List ℕ) (r : TrackedStep) : Type 0 where

@@ -1,13 +1,15 @@
 // The sections before the blocks of an accepted sheet, read a second time; parameters, context and returns get their nodes.
 ghost use Prim.Native.Nat.{_+_, _≤_, _<_};
 ghost use lib.ListN.{length};
-ghost use Rattle.model.specs.Limits.{mostParams};
+ghost use Rattle.model.specs.Limits.{mostIdentifiers, mostParams, mostSheet};
 ghost use Rattle.model.specs.Reading.{times, counted};
 ghost use Rattle.model.specs.Sections.{place};
-ghost use Rattle.building.specs.Built.{begun, Sound};
+ghost use Rattle.workspace.specs.Layout.{LEAST};
+ghost use Rattle.building.specs.Built.{Sound};
 ghost use Rattle.parameters.specs.Function.{ReadsFunction};
 ghost use Rattle.parameters.specs.Places.{ReadsPlaces, ReadsList, ReadsTracked};
 use building::Building;
+use building::NodeValue;
 use function::HirFunction;
 use header::TopStep;
 use header::read_top;
@@ -15,7 +17,7 @@ use hir::Cursor;
 use hir::Place;
 use hir::PlaceStep;
 use hir::WordStep;
-use summary::tracked::track;
+use workspace::tracked::track;
 
 // The function and its building before the first block, or a refusal, which no accepted sheet gives.
 pub enum FunctionStep {
@@ -23,9 +25,9 @@ pub enum FunctionStep {
     Refused,
 }
 
-// What the identifiers with a node are below, and the position after the places, or a refusal.
+// The building and the position after the places, or a refusal.
 pub enum PlacesStep {
-    Got(usize, Cursor),
+    Got(Building, Cursor),
     Refused(u32),
 }
 
@@ -33,17 +35,17 @@ pub enum PlacesStep {
 fn read_places(
     sheet: &[u32],
     ws: &mut [u32],
-    nodes: usize,
+    b: Building,
     c: Cursor,
     n: u32,
     first: usize,
     count: u32,
 ) -> PlacesStep
-    requires { ⌜ (n ≤ 512) × ((first ≤ 64) × (count ≤ 64)) ⌝ }
-    requires { ⌜ Sound (now ws) (begun nodes) ⌝ }
-    ensures { λ r. ⌜ ReadsPlaces (times count (place n) (now (sheet .entry)) (c .at)) first (now (ws .entry)) (begun nodes) (now (ws .exit)) r ⌝ }
+    requires { ⌜ (n ≤ mostIdentifiers) × ((first ≤ mostParams) × (count ≤ mostParams)) ⌝ }
+    requires { ⌜ Sound (now ws) b ⌝ }
+    ensures { λ r. ⌜ ReadsPlaces (times count (place n) (now (sheet .entry)) (c .at)) first (now (ws .entry)) b (now (ws .exit)) r ⌝ }
 {
-    let mut built = nodes;
+    let mut built = b;
     let mut at = c;
     let mut left = count;
     let mut i = first;
@@ -51,7 +53,7 @@ fn read_places(
         match at.place(sheet, n) {
             PlaceStep::Got(p, next) => {
                 track(ws, i, p);
-                built = building::create_first(ws, built, p.identifier);
+                built = built.create(ws, p.identifier, NodeValue::Object);
                 at = next;
             }
             PlaceStep::Refused(k) => {
@@ -74,46 +76,46 @@ pub struct Tracked {
 }
 
 pub enum TrackedStep {
-    Got(Tracked, usize),
+    Got(Tracked, Building),
     Refused,
 }
 
 // A count and as many places, tracked from number `first` on.
 pub enum ListStep {
-    Got(u32, usize, Cursor),
+    Got(u32, Building, Cursor),
     Refused,
 }
 
 fn read_list(
     sheet: &[u32],
     ws: &mut [u32],
-    nodes: usize,
+    b: Building,
     c: Cursor,
     n: u32,
     first: usize,
 ) -> ListStep
-    requires { ⌜ (n ≤ 512) × (first ≤ 64) ⌝ }
-    requires { ⌜ Sound (now ws) (begun nodes) ⌝ }
-    ensures { λ r. ⌜ ReadsList (counted mostParams (place n) (now (sheet .entry)) (c .at)) first (now (ws .entry)) (begun nodes) (now (ws .exit)) r ⌝ }
+    requires { ⌜ (n ≤ mostIdentifiers) × (first ≤ mostParams) ⌝ }
+    requires { ⌜ Sound (now ws) b ⌝ }
+    ensures { λ r. ⌜ ReadsList (counted mostParams (place n) (now (sheet .entry)) (c .at)) first (now (ws .entry)) b (now (ws .exit)) r ⌝ }
 {
     let WordStep::Got(count, c1) = c.count(sheet, 64) else {
         return ListStep::Refused;
     };
-    let PlacesStep::Got(built, next) = read_places(sheet, ws, nodes, c1, n, first, count) else {
+    let PlacesStep::Got(built, next) = read_places(sheet, ws, b, c1, n, first, count) else {
         return ListStep::Refused;
     };
     ListStep::Got(count, built, next)
 }
 
-fn read_tracked(sheet: &[u32], ws: &mut [u32], nodes: usize, c: Cursor, n: u32) -> TrackedStep
-    requires { ⌜ n ≤ 512 ⌝ }
-    requires { ⌜ Sound (now ws) (begun nodes) ⌝ }
-    ensures { λ r. ⌜ ReadsTracked (now (sheet .entry)) (c .at) n (now (ws .entry)) (begun nodes) (now (ws .exit)) r ⌝ }
+fn read_tracked(sheet: &[u32], ws: &mut [u32], b: Building, c: Cursor, n: u32) -> TrackedStep
+    requires { ⌜ n ≤ mostIdentifiers ⌝ }
+    requires { ⌜ Sound (now ws) b ⌝ }
+    ensures { λ r. ⌜ ReadsTracked (now (sheet .entry)) (c .at) n (now (ws .entry)) b (now (ws .exit)) r ⌝ }
 {
-    let ListStep::Got(params, n1, c1) = read_list(sheet, ws, nodes, c, n, 0) else {
+    let ListStep::Got(params, b1, c1) = read_list(sheet, ws, b, c, n, 0) else {
         return TrackedStep::Refused;
     };
-    let ListStep::Got(context, n2, c2) = read_list(sheet, ws, n1, c1, n, params as usize) else {
+    let ListStep::Got(context, b2, c2) = read_list(sheet, ws, b1, c1, n, params as usize) else {
         return TrackedStep::Refused;
     };
     let WordStep::Got(_, c3) = c2.fixed(sheet, 1) else {
@@ -126,7 +128,7 @@ fn read_tracked(sheet: &[u32], ws: &mut [u32], nodes: usize, c: Cursor, n: u32) 
         return TrackedStep::Refused;
     };
     track(ws, (params + context) as usize, returns);
-    let n3 = building::create_first(ws, n2, returns.identifier);
+    let b3 = b2.create(ws, returns.identifier, NodeValue::Object);
     let t = Tracked {
         params,
         context,
@@ -134,20 +136,20 @@ fn read_tracked(sheet: &[u32], ws: &mut [u32], nodes: usize, c: Cursor, n: u32) 
         count,
         next: c5,
     };
-    TrackedStep::Got(t, n3)
+    TrackedStep::Got(t, b3)
 }
 
 // The sections before the blocks.
 pub fn read_function(sheet: &[u32], ws: &mut [u32]) -> FunctionStep
-    requires { ⌜ (16384 ≤ length (now ws)) × (length (now sheet) ≤ 16384) ⌝ }
+    requires { ⌜ (LEAST ≤ length (now ws)) × (length (now sheet) ≤ mostSheet) ⌝ }
     ensures { λ r. ⌜ ReadsFunction (now (sheet .entry)) (now (ws .entry)) (now (ws .exit)) r ⌝ }
 {
     let TopStep::Got(top) = read_top(sheet, ws) else {
         return FunctionStep::Refused;
     };
-    let none = building::start(ws);
+    let b = building::start(ws);
     let next = top.next;
-    let TrackedStep::Got(t, nodes) = read_tracked(sheet, ws, none.held.nodes, next, top.n) else {
+    let TrackedStep::Got(t, built) = read_tracked(sheet, ws, b, next, top.n) else {
         return FunctionStep::Refused;
     };
     let identifiers = top.identifiers;
@@ -165,5 +167,5 @@ pub fn read_function(sheet: &[u32], ws: &mut [u32]) -> FunctionStep
         blocks,
         count: t.count,
     };
-    FunctionStep::Got(f, building::begun(nodes))
+    FunctionStep::Got(f, built)
 }

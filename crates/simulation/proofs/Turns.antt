@@ -16,15 +16,14 @@ use Rattle.model.specs.Simulated.{tracked, simulation, flowEffects, simulate}
 use Rattle.model.specs.Answer.{effectWords}
 use Rattle.model.proofs.Handed.{withHanded}
 use Rattle.model.proofs.Simulating.{takenBy, After, after-start, after-turn, after-done}
-use Rattle.workspace.specs.Layout.{HANDED, MUTATIONS, SIMULATED}
+use Rattle.workspace.specs.Layout.{LEAST, HANDED, MUTATIONS, SIMULATED, TRACKED}
 use Rattle.workspace.specs.Rows.{rowsOf, Good, Indexed, Kept}
 use Rattle.workspace.specs.Graph.{tab}
 use Rattle.workspace.proofs.Parts.{kept-none, kept-set, drop-more, drop-word, slice-drop}
 use Rattle.workspace.proofs.Tables.{tab-length, tab-at, tab-same}
 use Rattle.aliasing.specs.declared.Mutation.{Mutation as CodeMutation}
 use Rattle.aliasing.specs.Says.{modeSays, mutationSays}
-use Rattle.aliasing.specs.State.{Covered, stateOf, Handing}
-use Rattle.aliasing.proofs.Fields.{covered-nodes}
+use Rattle.aliasing.specs.State.{stateOf, Handing}
 use Rattle.aliasing.specs.Walks.{Callable, Unmarked, Mutated}
 use Rattle.aliasing.proofs.Parts.{slice-below, nodes-below, rows-below}
 use Rattle.aliasing.proofs.Hands.{handing-behind, handing-anew}
@@ -33,10 +32,10 @@ use Rattle.aliasing.proofs.Steps.{state-same}
 use Rattle.writing.specs.Wrote.{Wrote}
 use Rattle.writing.proofs.Writing.{wrote-none, wrote-then, wrote-as}
 use Rattle.copies.proofs.Gathers.{gather-append}
-use Rattle.summary.specs.Tracked.{TRACKED, trackedAt, trackedOf}
+use Rattle.workspace.specs.Tracked.{trackedAt, trackedOf}
 use Rattle.summary.specs.Sections.{Flows, simulatedOf}
 use Rattle.summary.proofs.Held.{holds-state}
-use Rattle.summary.proofs.Places.{tracked-kept}
+use Rattle.workspace.proofs.Places.{tracked-kept}
 use Rattle.summary.proofs.Rooms.{flows-next}
 use Rattle.simulation.specs.Simulates.{Marked, Simulates}
 
@@ -119,7 +118,7 @@ module _ {ws₀ : List ℕ} {count index returns : ℕ} {answer₀ : List ℕ} {
   stored-kept : Kept SIMULATED TRACKED ws₁ stored
   stored-kept = kept-set (kept-none SIMULATED TRACKED ws₁) (SIMULATED + i) c (omega arith) (omega arith)
 
-  pub stored-size : 16384 ≤ length stored
+  pub stored-size : LEAST ≤ length stored
   stored-size = omega (arith, stored-kept .same, w .aside .same, p .indexed .size)
 
   stored-rows : rowsOf stored ≡ rowsOf ws
@@ -223,16 +222,14 @@ module _ (ws : List ℕ) (indexed : Indexed ws) (l : List ℕ) (clear : Unmarked
   u : Remarked ws l
   u = remarked ws l indexed (clear .kept)
 
-  pub cleared-start : (count index returns : ℕ) (answer : List ℕ) (at : ℕ) → Covered ws → Turned l count index returns answer at l answer at 0 index
-  cleared-start count index returns answer at covered =
-      turned-start l count index returns answer at (u .indexed) (unmarked-handing ws l clear covered)
+  pub cleared-start : (count index returns : ℕ) (answer : List ℕ) (at : ℕ) → Turned l count index returns answer at l answer at 0 index
+  cleared-start count index returns answer at = turned-start l count index returns answer at (u .indexed) (unmarked-handing ws l clear)
 
   pub cleared-marked : (s : Sheet) {count index returns : ℕ} → Marked s ws count index returns → Marked s l count index returns
   cleared-marked s {count} d = record {
     places = d .places ∙ sym (tracked-kept ws l count (drop-more MUTATIONS TRACKED l ws (omega arith) (u .aside .behind)));
     identifier = d .identifier;
     state = u .state HANDED (omega arith) ∙ d .state;
-    covered = covered-nodes ws l (u .aside .graph) (u .nodes) (d .covered);
     first = d .first;
   }
 

@@ -16,7 +16,6 @@ use Rattle.hir.specs.Says.{placeIs}
 use Rattle.workspace.specs.Layout.{HANDED, MUTATIONS, SIMULATED}
 use Rattle.workspace.specs.Rows.{Good, Indexed}
 use Rattle.aliasing.proofs.Parts.{slice-below, nodes-below, rows-below}
-use Rattle.aliasing.proofs.Fields.{covered-nodes}
 use Rattle.aliasing.proofs.Steps.{state-same}
 use Rattle.writing.specs.Wrote.{Wrote}
 use Rattle.writing.proofs.Writing.{wrote-none, wrote-then, wrote-as}
@@ -27,7 +26,8 @@ use Rattle.copies.specs.declared.effect_lists.Section.the-variants.{Effects}
 use Rattle.copies.proofs.Gathers.{gather-append}
 use Rattle.copies.proofs.Sections.{copied-words, section-patched, effects-count}
 use Rattle.summary.specs.Records.{Holds, Collected}
-use Rattle.summary.specs.Tracked.{trackedOf, trackedFrom, Marks}
+use Rattle.workspace.specs.Tracked.{trackedOf, trackedFrom}
+use Rattle.summary.specs.Tracked.{Marks}
 use Rattle.summary.proofs.Held.{holds-state}
 use Rattle.summary.proofs.Rooms.{collected-next}
 use Rattle.summary.proofs.Whole.{params-tracked, context-tracked, marks-tracked}
@@ -107,7 +107,6 @@ module _ (sheet ws : List ℕ) (f : HirFunction) (index : ℕ) (limited : Limite
           places = sym (ap (λ (n : ℕ). trackedOf ws₁ (n + 1)) e ∙ marks-tracked s ws (b .stands .tracked) (holds-after s b) (subst (λ (n : ℕ). Marks ws n ws₁) e m));
           identifier = returns-is;
           state = state-same ws ws₁ HANDED HANDED (rows-below (m .kept) (omega arith)) (nodes-below (m .kept) (omega arith)) (slice-below (m .kept) HANDED HANDED (omega arith)) ∙ b .state;
-          covered = covered-nodes ws ws₁ (rows-below (m .kept) (omega arith)) (nodes-below (m .kept) (omega arith)) (b .covered);
           first = b .first;
         }
 

@@ -13,9 +13,9 @@ use Rattle.model.specs.Summary.{copied, afterRenders}
 use Rattle.model.specs.Simulated.{tracked, simulate}
 use Rattle.model.specs.Answer.{effectWords, section, summary}
 use Rattle.workspace.specs.Layout.{HANDED, MUTATIONS, SIMULATED}
-use Rattle.aliasing.specs.State.{Covered, stateOf}
+use Rattle.aliasing.specs.State.{stateOf}
 use Rattle.writing.specs.Wrote.{Wrote}
-use Rattle.summary.specs.Tracked.{trackedOf}
+use Rattle.workspace.specs.Tracked.{trackedOf}
 use Rattle.summary.specs.Sections.{simulatedOf}
 use Rattle.function.specs.declared.HirFunction.{HirFunction}
 use Rattle.function.specs.Function.{Describes, Stands}
@@ -29,7 +29,6 @@ pub record Marked (s : Sheet) (ws : List ℕ) (count index returns : ℕ) : Type
   pub places : tracked s ≡ trackedOf ws count
   pub identifier : s .returns .identifier ≡ returns
   pub state : stateOf ws HANDED ≡ unhanded (afterRenders s)
-  pub covered : Covered ws
   pub first : index ≡ build s .index
 
 -- the simulated walks were run: what they found was written, and the entries that each took stand in the words
@@ -50,7 +49,6 @@ pub record Before (s : Sheet) (sheet ws : List ℕ) (f : HirFunction) (index : �
   pub describes : Describes s sheet f
   pub stands : Stands s sheet ws
   pub state : stateOf ws HANDED ≡ unhanded (afterRenders s)
-  pub covered : Covered ws
   pub first : index ≡ build s .index
 
 -- the section was written, and the entries that each simulated walk took stand in the words

@@ -25,9 +25,9 @@ use hir::Place;
 use summary::flows::put_flows;
 use summary::records::collect_effects;
 use summary::tracked::mark_tracked;
-use summary::tracked::tracked;
 use workspace::HANDED;
 use workspace::SIMULATED;
+use workspace::tracked::tracked;
 use writing::patch;
 use writing::put;
 

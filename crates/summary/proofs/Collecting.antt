@@ -1,9 +1,10 @@
 -- The records of a place as effects.
 use Prim.Native.Nat.{ℕ, zero, suc, _+_, _/_, _%_, _≤_, _<_}
 use native.Mathlib.Omega.{arith}
-use mathlib.Core.Path.{_≡_, refl, sym, ap, _∙_, subst}
+use mathlib.Core.Path.{_≡_, refl, sym, ap, _∙_}
 use mathlib.Core.List.{List, [], _∷_, _++_, append-nil}
 use lib.ListN.{length, getD, drop, length-append}
+use Rattle.model.specs.Limits.{mostIdentifiers}
 use Rattle.model.specs.Lists.{gather}
 use Rattle.model.specs.Sheet.{Place, noPlace, EffectKind, Mutate, MutateConditionally, MutateTransitive, MutateTransitiveConditionally, Effect}
 use Rattle.model.specs.Mutation.{reasonOf}
@@ -12,14 +13,14 @@ use Rattle.model.specs.Summary.{reasonWord, localEffects, transitiveEffects, co
 use Rattle.model.specs.Answer.{effectWords}
 use Rattle.workspace.specs.Layout.{RECORD, LSPAN, TSPAN}
 use Rattle.workspace.specs.Graph.{tab}
-use Rattle.aliasing.specs.State.{nodesOf, infoOf, recordIn, fieldAt, stateOf}
+use Rattle.aliasing.specs.State.{infoOf, recordIn, stateOf}
 use Rattle.writing.specs.Wrote.{Wrote}
 use Rattle.writing.proofs.Writing.{wrote-then, wrote-as}
 use Rattle.copies.proofs.Gathers.{gather-append, gather-gather}
 use Rattle.copies.proofs.Sections.{effects-length}
 use Rattle.copies.proofs.Loops.{Leaves, leaves-all, table-turn, table-end}
 use Rattle.summary.specs.Records.{Holds, levelEffects, Collected}
-use Rattle.summary.specs.Tracked.{trackedAt, trackedFrom}
+use Rattle.workspace.specs.Tracked.{trackedAt, trackedFrom}
 use Rattle.summary.proofs.Held.{held, state-words}
 
 -- the place with another span
@@ -72,13 +73,13 @@ pub one-effect : (e : Effect) → effectWords e ≡ gather effectWords (e ∷ []
 one-effect e = sym (append-nil (effectWords e))
 
 -- ---- both records of a place
-module _ (ws : List ℕ) (p : Place) (b : p .identifier < 512) where
+module _ (ws : List ℕ) (p : Place) (b : p .identifier < mostIdentifiers) where
   abbrev x : ℕ
   x = p .identifier
 
   -- its record's word
   abbrev word : ℕ
-  word = fieldAt (nodesOf ws) RECORD x
+  word = getD ws (RECORD + x) 0
 
   collect-words : (t : State) → Holds ws t
       → collectParamEffects t p
@@ -93,27 +94,17 @@ module _ (ws : List ℕ) (p : Place) (b : p .identifier < 512) where
       (transitive-words (word / 4 % 4) (getD ws (TSPAN + x) 0) p)
 
   -- the local one first
-  collected-word : {w : ℕ} {a : List ℕ} {at : ℕ} {a′ : List ℕ} {at′ : ℕ} {a″ : List ℕ} {at″ : ℕ} → w ≡ reasonWord (reasonOf (word / 16 % 2))
+  pub collected : {w : ℕ} {a : List ℕ} {at : ℕ} {a′ : List ℕ} {at′ : ℕ} {a″ : List ℕ} {at″ : ℕ} → w ≡ reasonWord (reasonOf (word / 16 % 2))
       → Wrote (gather effectWords (levelEffects (word % 4) MutateConditionally Mutate w (withSpan p (getD ws (LSPAN + x) 0)))) a at a′ at′
       → Wrote (gather effectWords (levelEffects (word / 4 % 4) MutateTransitiveConditionally MutateTransitive 0 (withSpan p (getD ws (TSPAN + x) 0)))) a′ at′ a″ at″
       → Collected ws (p ∷ []) a at a″ at″
-  collected-word {w} e u v t h =
+  collected {w} e u v t h =
       wrote-as (wrote-then u v)
       (ap (λ (k : ℕ). gather effectWords (levelEffects (word % 4) MutateConditionally Mutate k (withSpan p (getD ws (LSPAN + x) 0)))
       ++ gather effectWords (levelEffects (word / 4 % 4) MutateTransitiveConditionally MutateTransitive 0 (withSpan p (getD ws (TSPAN + x) 0)))) e
       ∙ sym (gather-append effectWords (levelEffects (word % 4) MutateConditionally Mutate (reasonWord (reasonOf (word / 16 % 2))) (withSpan p (getD ws (LSPAN + x) 0)))
       (levelEffects (word / 4 % 4) MutateTransitiveConditionally MutateTransitive 0 (withSpan p (getD ws (TSPAN + x) 0))))
       ∙ ap (gather effectWords) (sym (collect-words t h) ∙ sym (append-nil (collectParamEffects t p))))
-
-  -- as the code has its word
-  pub collected : {k w : ℕ} {a : List ℕ} {at : ℕ} {a′ : List ℕ} {at′ : ℕ} {a″ : List ℕ} {at″ : ℕ} → k ≡ word → w ≡ reasonWord (reasonOf (k / 16 % 2))
-      → Wrote (gather effectWords (levelEffects (k % 4) MutateConditionally Mutate w (withSpan p (getD ws (LSPAN + x) 0)))) a at a′ at′
-      → Wrote (gather effectWords (levelEffects (k / 4 % 4) MutateTransitiveConditionally MutateTransitive 0 (withSpan p (getD ws (TSPAN + x) 0)))) a′ at′ a″ at″
-      → Collected ws (p ∷ []) a at a″ at″
-  collected {k} {w} {a} {at} {a′} {at′} {a″} {at″} is e u v =
-      collected-word (e ∙ ap (λ (i : ℕ). reasonWord (reasonOf (i / 16 % 2))) is)
-      (subst (λ (i : ℕ). Wrote (gather effectWords (levelEffects (i % 4) MutateConditionally Mutate w (withSpan p (getD ws (LSPAN + x) 0)))) a at a′ at′) is u)
-      (subst (λ (i : ℕ). Wrote (gather effectWords (levelEffects (i / 4 % 4) MutateTransitiveConditionally MutateTransitive 0 (withSpan p (getD ws (TSPAN + x) 0)))) a′ at′ a″ at″) is v)
 
   -- at most sixteen words
   pub collect-length : (t : State) → Holds ws t → length (gather effectWords (collectParamEffects t p)) ≤ 16

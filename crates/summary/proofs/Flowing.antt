@@ -4,23 +4,24 @@ use native.Mathlib.Omega.{arith}
 use mathlib.Core.Path.{_≡_, refl, sym, ap, _∙_}
 use mathlib.Core.Bool.{Bool, true, false, _&&_, not}
 use mathlib.Core.List.{List, [], _∷_, append-nil}
-use lib.ListN.{length, drop}
+use lib.ListN.{length, drop, getD}
 use lib.Dec.{eqb}
 use borrow.Author.Tests.{eq-eqb, ne-eqb}
+use Rattle.model.specs.Limits.{mostIdentifiers}
 use Rattle.model.specs.Lists.{pick, gather}
 use Rattle.model.specs.Sheet.{Place, EffectKind, Alias, Capture, Effect}
 use Rattle.model.specs.State.{Record, State}
-use Rattle.model.specs.Simulated.{tracked, flows, flowEffect, flowEffects}
+use Rattle.model.specs.Simulated.{flows, flowEffect, flowEffects}
 use Rattle.model.specs.Answer.{effectWords}
 use Rattle.workspace.specs.Layout.{RECORD}
 use Rattle.workspace.specs.Graph.{tab}
-use Rattle.aliasing.specs.State.{nodesOf, fieldAt, stateOf}
+use Rattle.aliasing.specs.State.{stateOf}
 use Rattle.writing.specs.Wrote.{Wrote}
 use Rattle.writing.proofs.Writing.{wrote-as, wrote-none}
 use Rattle.copies.proofs.Gathers.{gather-gather}
 use Rattle.copies.proofs.Loops.{Leaves, leaves-all, table-turn, table-end}
 use Rattle.summary.specs.Records.{Holds}
-use Rattle.summary.specs.Tracked.{trackedAt, trackedOf}
+use Rattle.workspace.specs.Tracked.{trackedAt, trackedOf}
 use Rattle.summary.specs.Sections.{Flow, Flows}
 use Rattle.summary.proofs.Held.{held, state-words}
 
@@ -34,13 +35,13 @@ pick-most true e = omega arith
 pick-most false e = omega arith
 
 -- ---- one tracked place
-module _ (ws : List ℕ) (from into : Place) (index returns : ℕ) (b : from .identifier < 512) where
+module _ (ws : List ℕ) (from into : Place) (index returns : ℕ) (b : from .identifier < mostIdentifiers) where
   -- the test in words
   flow-test : (r : Place) (t : State) → Holds ws t → r .identifier ≡ returns
-      → flows r index into t from ≡ (not (eqb (from .identifier) (into .identifier)) && (not (eqb (from .identifier) returns) && eqb (fieldAt (nodesOf ws) RECORD (from .identifier) / 32) index))
+      → flows r index into t from ≡ (not (eqb (from .identifier) (into .identifier)) && (not (eqb (from .identifier) returns) && eqb (getD ws (RECORD + from .identifier) 0 / 32) index))
   flow-test r t h e =
       ap (λ (x : Record). not (eqb (from .identifier) (into .identifier)) && (not (eqb (from .identifier) (r .identifier)) && eqb (x .last) index)) (state-words ws t h (from .identifier) b)
-      ∙ ap (λ (x : ℕ). not (eqb (from .identifier) (into .identifier)) && (not (eqb (from .identifier) x) && eqb (fieldAt (nodesOf ws) RECORD (from .identifier) / 32) index)) e
+      ∙ ap (λ (x : ℕ). not (eqb (from .identifier) (into .identifier)) && (not (eqb (from .identifier) x) && eqb (getD ws (RECORD + from .identifier) 0 / 32) index)) e
 
   no-flow : (r : Place) (t : State) → flows r index into t from ≡ false → (a : List ℕ) (at : ℕ) → Wrote (gather effectWords (flowOf r index into t from)) a at a at
   no-flow r t e a at = wrote-as (wrote-none a at) (ap (λ (x : Bool). gather effectWords (pick x (flowEffect r into from ∷ []) [])) (sym e))
@@ -48,29 +49,29 @@ module _ (ws : List ℕ) (from into : Place) (index returns : ℕ) (b : from .id
   -- it is the walk's own identifier
   pub flow-own : from .identifier ≡ into .identifier → (a : List ℕ) (at : ℕ) → Flow ws from into index returns a at a at
   flow-own q a at r t h e =
-      no-flow r t (flow-test r t h e ∙ ap (λ (x : Bool). not x && (not (eqb (from .identifier) returns) && eqb (fieldAt (nodesOf ws) RECORD (from .identifier) / 32) index)) (eq-eqb (from .identifier) (into .identifier) q)) a at
+      no-flow r t (flow-test r t h e ∙ ap (λ (x : Bool). not x && (not (eqb (from .identifier) returns) && eqb (getD ws (RECORD + from .identifier) 0 / 32) index)) (eq-eqb (from .identifier) (into .identifier) q)) a at
 
   -- it is that of returns
   pub flow-returns : (from .identifier ≡ into .identifier → ⊥) → from .identifier ≡ returns → (a : List ℕ) (at : ℕ) → Flow ws from into index returns a at a at
   flow-returns n q a at r t h e =
       no-flow r t
-      (flow-test r t h e ∙ ap (λ (x : Bool). not x && (not (eqb (from .identifier) returns) && eqb (fieldAt (nodesOf ws) RECORD (from .identifier) / 32) index)) (ne-eqb (from .identifier) (into .identifier) n)
-      ∙ ap (λ (x : Bool). not x && eqb (fieldAt (nodesOf ws) RECORD (from .identifier) / 32) index) (eq-eqb (from .identifier) returns q)) a at
+      (flow-test r t h e ∙ ap (λ (x : Bool). not x && (not (eqb (from .identifier) returns) && eqb (getD ws (RECORD + from .identifier) 0 / 32) index)) (ne-eqb (from .identifier) (into .identifier) n)
+      ∙ ap (λ (x : Bool). not x && eqb (getD ws (RECORD + from .identifier) 0 / 32) index) (eq-eqb (from .identifier) returns q)) a at
 
   -- the walk did not reach it
-  pub flow-none : (from .identifier ≡ into .identifier → ⊥) → (from .identifier ≡ returns → ⊥) → (fieldAt (nodesOf ws) RECORD (from .identifier) / 32 ≡ index → ⊥) → (a : List ℕ) (at : ℕ) → Flow ws from into index returns a at a at
+  pub flow-none : (from .identifier ≡ into .identifier → ⊥) → (from .identifier ≡ returns → ⊥) → (getD ws (RECORD + from .identifier) 0 / 32 ≡ index → ⊥) → (a : List ℕ) (at : ℕ) → Flow ws from into index returns a at a at
   flow-none n m q a at r t h e =
       no-flow r t
-      (flow-test r t h e ∙ ap (λ (x : Bool). not x && (not (eqb (from .identifier) returns) && eqb (fieldAt (nodesOf ws) RECORD (from .identifier) / 32) index)) (ne-eqb (from .identifier) (into .identifier) n)
-      ∙ ap (λ (x : Bool). not x && eqb (fieldAt (nodesOf ws) RECORD (from .identifier) / 32) index) (ne-eqb (from .identifier) returns m) ∙ ne-eqb (fieldAt (nodesOf ws) RECORD (from .identifier) / 32) index q) a at
+      (flow-test r t h e ∙ ap (λ (x : Bool). not x && (not (eqb (from .identifier) returns) && eqb (getD ws (RECORD + from .identifier) 0 / 32) index)) (ne-eqb (from .identifier) (into .identifier) n)
+      ∙ ap (λ (x : Bool). not x && eqb (getD ws (RECORD + from .identifier) 0 / 32) index) (ne-eqb (from .identifier) returns m) ∙ ne-eqb (getD ws (RECORD + from .identifier) 0 / 32) index q) a at
 
   -- the walk reached it
-  pub flow-some : {k : EffectKind} → k ≡ pick (eqb (into .identifier) returns) Alias Capture → (from .identifier ≡ into .identifier → ⊥) → (from .identifier ≡ returns → ⊥) → fieldAt (nodesOf ws) RECORD (from .identifier) / 32 ≡ index
+  pub flow-some : {k : EffectKind} → k ≡ pick (eqb (into .identifier) returns) Alias Capture → (from .identifier ≡ into .identifier → ⊥) → (from .identifier ≡ returns → ⊥) → getD ws (RECORD + from .identifier) 0 / 32 ≡ index
       → {a : List ℕ} {at : ℕ} {a′ : List ℕ} {at′ : ℕ} → Wrote (effectWords (record { kind = k; first = from; second = into; extra = 0 })) a at a′ at′ → Flow ws from into index returns a at a′ at′
   flow-some {k} g n m q w r t h e =
       let f : flows r index into t from ≡ true =
-      flow-test r t h e ∙ ap (λ (x : Bool). not x && (not (eqb (from .identifier) returns) && eqb (fieldAt (nodesOf ws) RECORD (from .identifier) / 32) index)) (ne-eqb (from .identifier) (into .identifier) n)
-      ∙ ap (λ (x : Bool). not x && eqb (fieldAt (nodesOf ws) RECORD (from .identifier) / 32) index) (ne-eqb (from .identifier) returns m) ∙ eq-eqb (fieldAt (nodesOf ws) RECORD (from .identifier) / 32) index q in
+      flow-test r t h e ∙ ap (λ (x : Bool). not x && (not (eqb (from .identifier) returns) && eqb (getD ws (RECORD + from .identifier) 0 / 32) index)) (ne-eqb (from .identifier) (into .identifier) n)
+      ∙ ap (λ (x : Bool). not x && eqb (getD ws (RECORD + from .identifier) 0 / 32) index) (ne-eqb (from .identifier) returns m) ∙ eq-eqb (getD ws (RECORD + from .identifier) 0 / 32) index q in
       let j : k ≡ pick (eqb (into .identifier) (r .identifier)) Alias Capture = g ∙ ap (λ (x : ℕ). pick (eqb (into .identifier) x) Alias Capture) (sym e) in
       wrote-as w
       (ap (λ (z : EffectKind). effectWords (record { kind = z; first = from; second = into; extra = 0 })) j

@@ -1,6 +1,4 @@
-pub mod Words
 pub mod Held
-pub mod Places
 pub mod Marking
 pub mod Collecting
 pub mod Flowing

@@ -6,29 +6,31 @@ use mathlib.Core.Path.{_≡_, refl, sym, ap, _∙_}
 use mathlib.Core.Bool.{Bool, true, false}
 use mathlib.Core.List.{List, [], _∷_, map}
 use lib.ListN.{length, take, drop}
+use Rattle.model.specs.Limits.{mostIdentifiers}
 use Rattle.model.specs.Lists.{pick, gather}
 use Rattle.model.specs.Answer.{placeWords, section}
 use Rattle.model.specs.Sheet.{Place}
 use Rattle.model.specs.Traits.{captureEffect}
 use Rattle.model.specs.State.{hasRecord, State}
 use Rattle.model.specs.Summary.{recordOf, captureMark, marked}
-use Rattle.workspace.specs.Layout.{SEEN}
+use Rattle.workspace.specs.Layout.{SEEN, TRACKED}
 use Rattle.workspace.specs.Rows.{Kept}
 use Rattle.workspace.specs.Graph.{tab}
 use Rattle.workspace.proofs.Parts.{kept-none, kept-then, take-less}
-use Rattle.workspace.proofs.Tables.{tab-same, tab-length}
+use Rattle.workspace.proofs.Tables.{tab-same, tab-length, tab-map}
 use Rattle.aliasing.specs.State.{nodesOf, recordAt, recordsOf, stateOf}
 use Rattle.writing.specs.Wrote.{Wrote}
 use Rattle.writing.proofs.Writing.{wrote-then, wrote-as}
 use Rattle.copies.proofs.Loops.{Leaves, leaves-all, table-turn, table-end}
 use Rattle.summary.specs.Sections.{Marked}
 use Rattle.summary.specs.Records.{Holds}
-use Rattle.summary.specs.Tracked.{TRACKED, trackedAt, trackedOf, trackedFrom, Tracks, Marks}
+use Rattle.workspace.specs.Tracked.{trackedAt, trackedOf, trackedFrom, Tracks}
+use Rattle.summary.specs.Tracked.{Marks}
 use Rattle.summary.proofs.Held.{held, record-held}
-use Rattle.summary.proofs.Places.{tab-map, tracked-low, tracked-high}
+use Rattle.workspace.proofs.Places.{tracked-low, tracked-high}
 
 -- ---- one place
-module _ (ws : List ℕ) (p : Place) (b : p .identifier < 512) where
+module _ (ws : List ℕ) (p : Place) (b : p .identifier < mostIdentifiers) where
   mark-is : (t : State) → Holds ws t → marked t p ≡ pick (hasRecord (recordAt (nodesOf ws) (p .identifier))) (captureMark p) p
   unfolding marked
   mark-is t h = rw (record-held ws t h (p .identifier) b)
@@ -49,7 +51,7 @@ unfolding captureMark
 same-identifier p true = refl
 same-identifier p false = refl
 
-pub mark-below : (ws : List ℕ) (p q : Place) → ((t : State) → Holds ws t → q ≡ marked t p) → p .identifier < 512 → q .identifier < 512
+pub mark-below : (ws : List ℕ) (p q : Place) → ((t : State) → Holds ws t → q ≡ marked t p) → p .identifier < mostIdentifiers → q .identifier < mostIdentifiers
 unfolding marked
 mark-below ws p q m b =
     let s : State = stateOf ws 0 in

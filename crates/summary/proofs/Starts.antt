@@ -5,30 +5,32 @@ use mathlib.Core.Path.{_≡_, refl, sym, ap, _∙_}
 use mathlib.Core.List.{List, [], _∷_}
 use lib.ListN.{length, getD, drop}
 use lib.Seq.{drop-cons}
+use Rattle.model.specs.Limits.{mostIdentifiers}
 use Rattle.model.specs.Lists.{gather}
 use Rattle.model.specs.Sheet.{Identifier, EvaluationOrder}
 use Rattle.model.specs.Reading.{Position, got, times}
 use Rattle.model.specs.Sections.{identifier}
 use Rattle.model.specs.Answer.{Range, rangesOf, rangeWords, section}
 use Rattle.model.proofs.Got.{times-step, times-done}
-use Rattle.workspace.specs.Layout.{END}
+use Rattle.workspace.specs.Layout.{LEAST, END}
 use Rattle.workspace.specs.Graph.{tab}
 use Rattle.workspace.proofs.Tables.{tab-length, tab-at, tab-drop, tab-end}
-use Rattle.aliasing.specs.State.{nodesOf, fieldAt, endsOf}
+use Rattle.aliasing.specs.State.{nodesOf, endAt, endsOf}
 use Rattle.writing.specs.Wrote.{Wrote}
 use Rattle.writing.proofs.Writing.{wrote-then, wrote-as}
 use Rattle.copies.proofs.Loops.{Leaves, leaves-all, table-turn, table-end}
 use Rattle.copies.proofs.Identifiers.{identifier-is, identifiers-are}
 use Rattle.summary.specs.Ranges.{Ranges}
+use Rattle.summary.proofs.Held.{node-word}
 
 -- ---- the ends in the words
-pub ends-length : (ws : List ℕ) → length (endsOf (nodesOf ws)) ≡ 512
+pub ends-length : (ws : List ℕ) → length (endsOf (nodesOf ws)) ≡ mostIdentifiers
 unfolding endsOf
-ends-length ws = tab-length 512 (fieldAt (nodesOf ws) END)
+ends-length ws = tab-length mostIdentifiers (endAt (nodesOf ws))
 
-pub end-word : (ws : List ℕ) (i : ℕ) → i < 512 → getD (endsOf (nodesOf ws)) i 0 ≡ fieldAt (nodesOf ws) END i
+pub end-word : (ws : List ℕ) (i : ℕ) → i < mostIdentifiers → getD (endsOf (nodesOf ws)) i 0 ≡ getD ws (END + i) 0
 unfolding endsOf
-end-word ws i h = tab-at 512 (fieldAt (nodesOf ws) END) i 0 h
+end-word ws i h = tab-at mostIdentifiers (endAt (nodesOf ws)) i 0 h ∙ node-word ws (END + i) (omega (arith, h))
 
 -- ---- as many ranges as identifiers
 times-count : (k : ℕ) (sheet : List ℕ) (c : Position) (l : List Identifier) (d : Position) → times k identifier sheet c ≡ got l d → length l ≡ k
@@ -42,7 +44,7 @@ ranges-count [] ends h = refl
 ranges-count (i ∷ l) [] h = absurd (omega (arith, h))
 ranges-count (i ∷ l) (e ∷ ends) h = ap suc (ranges-count l ends (omega (arith, h)))
 
-pub ranges-length : (n : ℕ) (sheet ws : List ℕ) → n ≤ 512 → 16384 ≤ length ws → (c : Position) (ids : List Identifier) (d : Position) → times n identifier sheet c ≡ got ids d → length (rangesOf ids (endsOf (nodesOf ws))) ≡ n
+pub ranges-length : (n : ℕ) (sheet ws : List ℕ) → n ≤ mostIdentifiers → LEAST ≤ length ws → (c : Position) (ids : List Identifier) (d : Position) → times n identifier sheet c ≡ got ids d → length (rangesOf ids (endsOf (nodesOf ws))) ≡ n
 ranges-length n sheet ws b h c ids d g =
     let k : length ids ≡ n = times-count n sheet c ids d g in
     ranges-count ids (endsOf (nodesOf ws)) (omega (arith, k, b, ends-length ws)) ∙ k
@@ -50,12 +52,12 @@ ranges-length n sheet ws b h c ids d g =
 -- ---- the ranges as they stand
 module _ (sheet : List ℕ) (c : Position) (n : ℕ) (ws : List ℕ) where
   abbrev pub rangeAt : ℕ → Range
-  rangeAt i = record { start = getD sheet (c + 3 * i) 0; end = fieldAt (nodesOf ws) END i }
+  rangeAt i = record { start = getD sheet (c + 3 * i) 0; end = getD ws (END + i) 0 }
 
   abbrev pub rangesAt : List Range
   rangesAt = tab n rangeAt
 
-  module _ (b : n ≤ 512) (h : 16384 ≤ length ws) where
+  module _ (b : n ≤ mostIdentifiers) (h : LEAST ≤ length ws) where
     -- of n identifiers the last k, after i
     ranges-from : (k i : ℕ) → i + k ≡ n → (p : Position) → p ≡ c + 3 * i → (l : List Identifier) (d : Position) → times k identifier sheet p ≡ got l d
         → rangesOf l (drop i (endsOf (nodesOf ws))) ≡ drop i rangesAt
@@ -95,7 +97,7 @@ module _ (sheet : List ℕ) (c : Position) (n : ℕ) (ws : List ℕ) where
   starting-start a at = record { leaves = leaves-all (gather rangeWords rangesAt) a at; next = omega arith; same = refl }
 
   module _ {a₀ : List ℕ} {at₀ i : ℕ} {a : List ℕ} {at : ℕ} (v : Starting a₀ at₀ i a at) where
-    pub starting-turn : i < n → {a₁ a₂ : List ℕ} {at₁ at₂ : ℕ} → Wrote (getD sheet (c + 3 * i) 0 ∷ []) a at a₁ at₁ → Wrote (fieldAt (nodesOf ws) END i ∷ []) a₁ at₁ a₂ at₂
+    pub starting-turn : i < n → {a₁ a₂ : List ℕ} {at₁ at₂ : ℕ} → Wrote (getD sheet (c + 3 * i) 0 ∷ []) a at a₁ at₁ → Wrote (getD ws (END + i) 0 ∷ []) a₁ at₁ a₂ at₂
         → length a₁ ≡ length a → length a₂ ≡ length a₁ → Starting a₀ at₀ (i + 1) a₂ at₂
     starting-turn h p q e f = record {
       leaves = table-turn rangeWords n rangeAt i (v .leaves) h (wrote-then p q);
@@ -103,7 +105,7 @@ module _ (sheet : List ℕ) (c : Position) (n : ℕ) (ws : List ℕ) where
       same = f ∙ e ∙ v .same;
     }
 
-    pub starting-end : n ≤ 512 → 16384 ≤ length ws → n ≤ i → {a₁ : List ℕ} {at₁ : ℕ} → Wrote (n ∷ []) a₁ at₁ a₀ at₀ → Ranges sheet c n ws a₁ at₁ a at
+    pub starting-end : n ≤ mostIdentifiers → LEAST ≤ length ws → n ≤ i → {a₁ : List ℕ} {at₁ : ℕ} → Wrote (n ∷ []) a₁ at₁ a₀ at₀ → Ranges sheet c n ws a₁ at₁ a at
     starting-end b h z w = ranges-stand b h w (table-end rangeWords n rangeAt i (v .leaves) z)
 
 -- the sheet ends before the last of them: then there is none, or nothing is claimed

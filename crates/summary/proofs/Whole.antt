@@ -3,7 +3,7 @@ use Prim.Native.Nat.{ℕ, _+_}
 use native.Mathlib.Omega.{arith}
 use native.Mathlib.Numerals.{add-one}
 use mathlib.Core.Path.{_≡_, refl, sym, ap, _∙_}
-use mathlib.Core.List.{List, [], _∷_, _++_, map, append-assoc}
+use mathlib.Core.List.{List, [], _∷_, _++_, map, append-assoc, map-append}
 use lib.ListN.{length, getD, take, drop}
 use lib.Seq.{take-at, drop-at}
 use Rattle.model.specs.Sheet.{Place, Sheet}
@@ -12,8 +12,9 @@ use Rattle.model.specs.Simulated.{tracked}
 use Rattle.workspace.specs.Graph.{tab}
 use Rattle.workspace.proofs.Tables.{tab-length}
 use Rattle.summary.specs.Records.{Holds}
-use Rattle.summary.specs.Tracked.{trackedAt, trackedOf, trackedFrom, Marks}
-use Rattle.summary.proofs.Places.{tracked-parts, tracked-first, tracked-high, map-append}
+use Rattle.workspace.specs.Tracked.{trackedAt, trackedOf, trackedFrom}
+use Rattle.summary.specs.Tracked.{Marks}
+use Rattle.workspace.proofs.Places.{tracked-parts, tracked-first, tracked-high}
 
 -- all places of the sheet are tracked
 abbrev pub Tracking : Sheet → List ℕ → Type 0

@@ -13,7 +13,7 @@ use Rattle.workspace.specs.Layout.{SIMULATED}
 use Rattle.workspace.specs.Graph.{tab}
 use Rattle.writing.specs.Wrote.{Wrote}
 use Rattle.summary.specs.Records.{Holds}
-use Rattle.summary.specs.Tracked.{trackedOf, trackedFrom}
+use Rattle.workspace.specs.Tracked.{trackedOf, trackedFrom}
 
 -- the params or the context: `count` tracked places from `first` on, with their marks
 abbrev pub Marked : List ℕ → ℕ → ℕ → List ℕ → ℕ → List ℕ → ℕ → Type 0

@@ -3,20 +3,22 @@ ghost use mathlib.Core.Path.{_≡_};
 ghost use Prim.Native.Nat.{_+_, _*_, _≤_, _<_};
 ghost use lib.ListN.{length};
 ghost use lib.Dec.{eqb};
+ghost use Rattle.model.specs.Limits.{mostIdentifiers};
+ghost use Rattle.workspace.specs.Layout.{LEAST};
+ghost use Rattle.workspace.specs.Tracked.{mostTracked};
 ghost use Rattle.model.specs.Lists.{pick};
 ghost use Rattle.model.specs.Sheet.{Alias, Capture};
 ghost use Rattle.hir.specs.Numbers.{kindSays};
 ghost use Rattle.hir.specs.Says.{placeIs};
 ghost use Rattle.writing.specs.Wrote.{farthest};
 ghost use Rattle.summary.specs.Sections.{Flow, Flows};
-use crate::tracked::tracked;
-use aliasing::field;
 use copies::put_effect;
 use hir::AliasingEffect;
 use hir::EffectKind;
 use hir::IdentifierId;
 use hir::Place;
 use workspace::RECORD;
+use workspace::tracked::tracked;
 
 // Alias into returns, Capture into any other place.
 fn flow_kind(into: IdentifierId, returns: IdentifierId) -> EffectKind
@@ -39,7 +41,7 @@ fn put_flow(
     answer: &mut [u32],
     at: usize,
 ) -> usize
-    requires { ⌜ (from .identifier .0 < 512) × (16384 ≤ length (now ws)) ⌝ }
+    requires { ⌜ (from .identifier .0 < mostIdentifiers) × (LEAST ≤ length (now ws)) ⌝ }
     requires { ⌜ at + 8 ≤ farthest ⌝ }
     ensures { λ r. ⌜ Flow (now (ws .entry)) (placeIs from) (placeIs into) index (returns .0) (now (answer .entry)) at (now (answer .exit)) r ⌝ }
 {
@@ -52,7 +54,7 @@ fn put_flow(
         return at;
     }
     let k = x.0 as usize;
-    if field(ws, RECORD, k) / 32 == index {
+    if ws[RECORD + k] / 32 == index {
         let e = AliasingEffect {
             kind: flow_kind(y, returns),
             first: from,
@@ -74,7 +76,7 @@ pub fn put_flows(
     answer: &mut [u32],
     at: usize,
 ) -> usize
-    requires { ⌜ (count ≤ 129) × (16384 ≤ length (now ws)) ⌝ }
+    requires { ⌜ (count ≤ mostTracked) × (LEAST ≤ length (now ws)) ⌝ }
     requires { ⌜ at + 8 * count ≤ farthest ⌝ }
     ensures { λ r. ⌜ Flows (now (ws .entry)) count (placeIs into) index (returns .0) (now (answer .entry)) at (now (answer .exit)) r ⌝ }
 {

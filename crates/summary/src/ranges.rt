@@ -1,9 +1,10 @@
 // The section of ranges.
 ghost use Prim.Native.Nat.{_+_, _*_, _≤_, _<_};
 ghost use lib.ListN.{length};
+ghost use Rattle.model.specs.Limits.{mostIdentifiers};
+ghost use Rattle.workspace.specs.Layout.{LEAST};
 ghost use Rattle.writing.specs.Wrote.{farthest};
 ghost use Rattle.summary.specs.Ranges.{Ranges};
-use aliasing::field;
 use hir::Cursor;
 use workspace::END;
 use writing::put;
@@ -17,8 +18,8 @@ pub fn put_ranges(
     answer: &mut [u32],
     at: usize,
 ) -> usize
-    requires { ⌜ (n ≤ 512) × (16384 ≤ length (now ws)) ⌝ }
-    requires { ⌜ at + 1025 ≤ farthest ⌝ }
+    requires { ⌜ (n ≤ mostIdentifiers) × (LEAST ≤ length (now ws)) ⌝ }
+    requires { ⌜ at + 1 + 2 * mostIdentifiers ≤ farthest ⌝ }
     ensures { λ r. ⌜ Ranges (now (sheet .entry)) (c .at) n (now (ws .entry)) (now (answer .entry)) at (now (answer .exit)) r ⌝ }
 {
     let first = put(answer, at, n);
@@ -35,7 +36,7 @@ pub fn put_ranges(
     let mut i = 0;
     while i < count {
         let next = put(answer, to, sheet[from + 3 * i]);
-        to = put(answer, next, field(ws, END, i));
+        to = put(answer, next, ws[END + i]);
         i += 1;
     }
     to

@@ -3,6 +3,8 @@ ghost use mathlib.Core.Path.{_≡_};
 ghost use mathlib.Core.List.{[], _∷_};
 ghost use Prim.Native.Nat.{_+_, _*_, _≤_, _<_};
 ghost use lib.ListN.{length};
+ghost use Rattle.model.specs.Limits.{mostIdentifiers};
+ghost use Rattle.workspace.specs.Layout.{LEAST};
 ghost use Rattle.model.specs.Lists.{gather};
 ghost use Rattle.model.specs.Mutation.{reasonOf};
 ghost use Rattle.model.specs.Summary.{reasonWord};
@@ -11,9 +13,7 @@ ghost use Rattle.hir.specs.Numbers.{kindSays};
 ghost use Rattle.hir.specs.Says.{placeIs};
 ghost use Rattle.writing.specs.Wrote.{Wrote, farthest};
 ghost use Rattle.summary.specs.Records.{levelEffects, Collected};
-ghost use Rattle.summary.specs.Tracked.{trackedFrom};
-use crate::tracked::tracked;
-use aliasing::field;
+ghost use Rattle.workspace.specs.Tracked.{mostTracked, trackedFrom};
 use copies::NO_PLACE;
 use copies::put_effect;
 use hir::AliasingEffect;
@@ -22,6 +22,7 @@ use hir::Place;
 use workspace::LSPAN;
 use workspace::RECORD;
 use workspace::TSPAN;
+use workspace::tracked::tracked;
 
 // A reason as an extra word.
 fn reason_word(reason: u32) -> u32
@@ -66,7 +67,7 @@ fn put_record(
 
 // The records of a place's identifier as effects: the local one first.
 fn collect_param_effects(ws: &[u32], p: Place, answer: &mut [u32], at: usize) -> usize
-    requires { ⌜ (p .identifier .0 < 512) × (16384 ≤ length (now ws)) ⌝ }
+    requires { ⌜ (p .identifier .0 < mostIdentifiers) × (LEAST ≤ length (now ws)) ⌝ }
     requires { ⌜ at + 16 ≤ farthest ⌝ }
     ensures { λ r. ⌜ Collected (now (ws .entry)) (placeIs p ∷ []) (now (answer .entry)) at (now (answer .exit)) r ⌝ }
 {
@@ -85,7 +86,7 @@ fn collect_param_effects(ws: &[u32], p: Place, answer: &mut [u32], at: usize) ->
         reactive: p.reactive,
         span: ws[TSPAN + x],
     };
-    let w = field(ws, RECORD, x);
+    let w = ws[RECORD + x];
     let to = put_record(
         answer,
         at,
@@ -114,7 +115,7 @@ pub fn collect_effects(
     answer: &mut [u32],
     at: usize,
 ) -> usize
-    requires { ⌜ (first + count ≤ 129) × (16384 ≤ length (now ws)) ⌝ }
+    requires { ⌜ (first + count ≤ mostTracked) × (LEAST ≤ length (now ws)) ⌝ }
     requires { ⌜ at + 16 * count ≤ farthest ⌝ }
     ensures { λ r. ⌜ Collected (now (ws .entry)) (trackedFrom (now (ws .entry)) first count) (now (answer .entry)) at (now (answer .exit)) r ⌝ }
 {

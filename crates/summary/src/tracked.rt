@@ -1,69 +1,37 @@
-// The tracked places: parameters, context, returns.
+// The tracked places with the marks of those that have a record.
 ghost use mathlib.Core.Path.{_≡_};
 ghost use Prim.Native.Nat.{_+_, _*_, _≤_, _<_};
 ghost use lib.ListN.{length};
+ghost use Rattle.model.specs.Limits.{mostIdentifiers};
 ghost use Rattle.model.specs.Summary.{marked};
 ghost use Rattle.model.specs.State.{State, hasRecord};
 ghost use Rattle.aliasing.specs.State.{nodesOf, recordAt};
 ghost use Rattle.hir.specs.Says.{placeIs};
 ghost use Rattle.writing.specs.Wrote.{farthest};
 ghost use Rattle.summary.specs.Records.{Holds};
-ghost use Rattle.summary.specs.Tracked.{trackedAt, Tracks, Marks};
+ghost use Rattle.workspace.specs.Layout.{LEAST};
+ghost use Rattle.workspace.specs.Tracked.{mostTracked};
+ghost use Rattle.summary.specs.Tracked.{Marks};
 ghost use Rattle.summary.specs.Sections.{Marked};
-use aliasing::field;
 use copies::put_place;
 use hir::Effect;
-use hir::IdentifierId;
 use hir::Place;
-use hir::places::effect_of;
-use hir::places::reactive_of;
-use hir::places::traits_word;
 use workspace::RECORD;
+use workspace::tracked::track;
+use workspace::tracked::tracked;
 use writing::put;
-
-pub const TRACKED: usize = 15812;
-
-// Stores place i.
-pub fn track(ws: &mut [u32], i: usize, p: Place)
-    requires { ⌜ (i < 129) × (16384 ≤ length (now ws)) ⌝ }
-    requires { ⌜ p .identifier .0 < 512 ⌝ }
-    ensures { λ _. ⌜ Tracks (now (ws .entry)) i (placeIs p) (now (ws .exit)) ⌝ }
-{
-    let identifier = p.identifier;
-    let effect = p.effect;
-    let traits = traits_word(effect, p.reactive);
-    ws[TRACKED + 2 * i] = identifier.0 + 512 * traits;
-    ws[TRACKED + 2 * i + 1] = p.span;
-}
-
-// Place i.
-pub fn tracked(ws: &[u32], i: usize) -> Place
-    requires { ⌜ (i < 129) × (16384 ≤ length (now ws)) ⌝ }
-    ensures { λ r. ⌜ placeIs r ≡ trackedAt (now (ws .entry)) i ⌝ }
-{
-    let w = ws[TRACKED + 2 * i];
-    let span = ws[TRACKED + 2 * i + 1];
-    let effect = effect_of(w / 512);
-    let reactive = reactive_of(w / 512);
-    Place {
-        identifier: IdentifierId(w % 512),
-        effect,
-        reactive,
-        span,
-    }
-}
 
 // Whether the node of x has a record.
 fn has_record(ws: &[u32], x: usize) -> bool
-    requires { ⌜ (x < 512) × (16384 ≤ length (now ws)) ⌝ }
+    requires { ⌜ (x < mostIdentifiers) × (LEAST ≤ length (now ws)) ⌝ }
     ensures { λ r. ⌜ r ≡ hasRecord (recordAt (nodesOf (now (ws .entry))) x) ⌝ }
 {
-    field(ws, RECORD, x) % 16 != 0
+    ws[RECORD + x] % 16 != 0
 }
 
 // The place with the Capture mark, if its identifier has a record.
 fn marked(ws: &[u32], p: Place) -> Place
-    requires { ⌜ (p .identifier .0 < 512) × (16384 ≤ length (now ws)) ⌝ }
+    requires { ⌜ (p .identifier .0 < mostIdentifiers) × (LEAST ≤ length (now ws)) ⌝ }
     ensures { λ r. ⌜ ((t : State) → Holds (now (ws .entry)) t → placeIs r ≡ marked t (placeIs p)) ⌝ }
 {
     let identifier = p.identifier;
@@ -80,7 +48,7 @@ fn marked(ws: &[u32], p: Place) -> Place
 
 // The section of params or of context: `count` tracked places from `first` on, with their marks.
 pub fn put_marked(ws: &[u32], first: usize, count: usize, answer: &mut [u32], at: usize) -> usize
-    requires { ⌜ (first + count ≤ 129) × (16384 ≤ length (now ws)) ⌝ }
+    requires { ⌜ (first + count ≤ mostTracked) × (LEAST ≤ length (now ws)) ⌝ }
     requires { ⌜ at + 1 + 3 * count ≤ farthest ⌝ }
     ensures { λ r. ⌜ Marked (now (ws .entry)) first count (now (answer .entry)) at (now (answer .exit)) r ⌝ }
 {
@@ -96,7 +64,7 @@ pub fn put_marked(ws: &[u32], first: usize, count: usize, answer: &mut [u32], at
 
 // The first `count` places get their marks in the workspace.
 pub fn mark_tracked(ws: &mut [u32], count: usize)
-    requires { ⌜ (count ≤ 128) × (16384 ≤ length (now ws)) ⌝ }
+    requires { ⌜ (count < mostTracked) × (LEAST ≤ length (now ws)) ⌝ }
     ensures { λ _. ⌜ Marks (now (ws .entry)) count (now (ws .exit)) ⌝ }
 {
     let mut i = 0;

@@ -2,6 +2,9 @@
 ghost use Prim.Native.Nat.{_+_, _≤_, _<_};
 ghost use mathlib.Core.List.{_++_};
 ghost use lib.ListN.{length};
+ghost use Rattle.model.specs.Limits.{mostMutations};
+ghost use Rattle.workspace.specs.Layout.{LEAST};
+ghost use Rattle.workspace.specs.Tracked.{mostTracked};
 ghost use Rattle.model.specs.Lists.{gather};
 ghost use Rattle.model.specs.Answer.{countWords, section};
 ghost use Rattle.aliasing.specs.Pending.{takenOf};
@@ -13,7 +16,7 @@ use writing::put;
 
 // The counts of the real walks.
 fn put_real(ws: &[u32], count: usize, answer: &mut [u32], at: usize) -> usize
-    requires { ⌜ (count ≤ 512) × (16384 ≤ length (now ws)) ⌝ }
+    requires { ⌜ (count ≤ mostMutations) × (LEAST ≤ length (now ws)) ⌝ }
     requires { ⌜ at + count ≤ farthest ⌝ }
     ensures { λ r. ⌜ Wrote (gather countWords (takenOf (now (ws .entry)) count)) (now (answer .entry)) at (now (answer .exit)) r ⌝ }
 {
@@ -28,7 +31,7 @@ fn put_real(ws: &[u32], count: usize, answer: &mut [u32], at: usize) -> usize
 
 // The counts of the simulated walks.
 fn put_simulated(ws: &[u32], count: usize, answer: &mut [u32], at: usize) -> usize
-    requires { ⌜ (count ≤ 129) × (16384 ≤ length (now ws)) ⌝ }
+    requires { ⌜ (count ≤ mostTracked) × (LEAST ≤ length (now ws)) ⌝ }
     requires { ⌜ at + count ≤ farthest ⌝ }
     ensures { λ r. ⌜ Wrote (gather countWords (simulatedOf (now (ws .entry)) count)) (now (answer .entry)) at (now (answer .exit)) r ⌝ }
 {
@@ -43,7 +46,7 @@ fn put_simulated(ws: &[u32], count: usize, answer: &mut [u32], at: usize) -> usi
 
 // The section of walks.
 pub fn put_walks(ws: &[u32], real: usize, simulated: usize, answer: &mut [u32], at: usize) -> usize
-    requires { ⌜ (real ≤ 512) × ((simulated ≤ 129) × (16384 ≤ length (now ws))) ⌝ }
+    requires { ⌜ (real ≤ mostMutations) × ((simulated ≤ mostTracked) × (LEAST ≤ length (now ws))) ⌝ }
     requires { ⌜ at + 642 ≤ farthest ⌝ }
     ensures { λ r. ⌜ Wrote (section countWords (takenOf (now (ws .entry)) real ++ simulatedOf (now (ws .entry)) simulated)) (now (answer .entry)) at (now (answer .exit)) r ⌝ }
 {

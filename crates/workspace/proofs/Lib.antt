@@ -7,3 +7,4 @@ pub mod Tables
 pub mod Rows
 pub mod Graph
 pub mod Pending
+pub mod Places

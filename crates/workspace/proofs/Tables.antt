@@ -2,7 +2,7 @@
 use Prim.Native.Nat.{ℕ, zero, suc, _+_, _≤_, _<_}
 use native.Mathlib.Omega.{arith}
 use native.Mathlib.Decide.{ℕ-discrete}
-use mathlib.Core.List.{List, [], _∷_, _++_}
+use mathlib.Core.List.{List, [], _∷_, _++_, map, map-append}
 use mathlib.Core.Path.{_≡_, refl, sym, ap, _∙_}
 use native.Mathlib.Numerals.{add-one}
 use lib.ListN.{length, getD, set, drop, drop-of-length-le, length-append, length-set, List·getD-append}
@@ -50,3 +50,9 @@ module _ {A : Type 0} where
 
   pub tab-end : (n : ℕ) (f : ℕ → A) (i : ℕ) → n ≤ i → drop i (tab n f) ≡ []
   tab-end n f i h = drop-of-length-le (tab n f) {i = i} (omega (arith, tab-length n f))
+
+module _ {A B : Type 0} where
+  pub tab-map : (n : ℕ) (f : ℕ → A) (g : A → B) → map g (tab n f) ≡ tab n (λ (i : ℕ). g (f i))
+  unfolding tab
+  tab-map zero f g = refl
+  tab-map (suc n) f g = map-append g (tab n f) (f n ∷ []) ∙ ap (λ (l : List B). l ++ (g (f n) ∷ [])) (tab-map n f g)

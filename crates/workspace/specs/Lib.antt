@@ -3,3 +3,4 @@ pub mod Rows
 pub mod Sort
 pub mod Graph
 pub mod Pending
+pub mod Tracked

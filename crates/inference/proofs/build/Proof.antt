@@ -70,7 +70,7 @@ keep-requires c κs =
     let b14 = b11 .before .before .before in
     let b18 = b14 .before .before .before .before in
     let b22 = b18 .before .before .before .before in
-    (b4 .lay-out .ensures .indexed, few-identifiers (b18 .read-function .ensures) (b14 .f .given .1) (b11 .build-blocks .ensures) (b7 .b .given .1) (b22 .pre .1 .0))
+    (b4 .lay-out .ensures .indexed .size, few-identifiers (b18 .read-function .ensures) (b14 .f .given .1) (b11 .build-blocks .ensures) (b7 .b .given .1) (b22 .pre .1 .0))
 
 same-length-3 : tie.Need-same-length-3
 same-length-3 c =

@@ -1,6 +1,5 @@
 use mathlib.Core.Path.{_∙_}
 use borrow.Author.Needs.{needs}
-use Rattle.building.proofs.Ends.{starts-begun}
 use Rattle.parameters.proofs.Before.{no-top, few-identifiers, no-tracked, function-read}
 use Rattle.parameters.proofs.read_function.Statement.{statement}
 use Rattle.parameters.proofs.read_function.Tie as tie
@@ -30,7 +29,7 @@ read-tracked-requires c κs =
     let b4 = c .before .before .before .before in
     let b7 = b4 .before .before .before in
     let b11 = b7 .before .before .before .before in
-    (few-identifiers (b11 .read-top .ensures) (b7 .top .given .1), starts-begun (b4 .start .ensures) .sound)
+    (few-identifiers (b11 .read-top .ensures) (b7 .top .given .1), b4 .start .ensures .sound)
 
 enum-known-t : tie.Need-enum-known-t
 enum-known-t c = search needs
@@ -47,26 +46,23 @@ returns-2 c =
     let b9 = b4 .before .before .before .before .before in
     let b12 = b9 .before .before .before in
     let b16 = b12 .before .before .before .before in
-    no-tracked (b16 .read-top .ensures) (b12 .top .given .1) (starts-begun (b9 .start .ensures)) (b4 .read-tracked .ensures) (c .enum-told2 .given .1)
-
-begun-requires : tie.Need-begun-requires
-begun-requires c κs = tt
+    no-tracked (b16 .read-top .ensures) (b12 .top .given .1) (b9 .start .ensures) (b4 .read-tracked .ensures) (c .enum-told2 .given .1)
 
 same-length-3 : tie.Need-same-length-3
 same-length-3 c =
-    let b9 = c .before .before .before .before .before .before .before .before .before in
-    let b14 = b9 .before .before .before .before .before in
-    let b21 = b14 .before .before .before .before .before .before .before in
-    b9 .read-tracked .kept .1 .0 ∙ b14 .start .kept .0 ∙ b21 .read-top .kept .1 .0
+    let b8 = c .before .before .before .before .before .before .before .before in
+    let b13 = b8 .before .before .before .before .before in
+    let b20 = b13 .before .before .before .before .before .before .before in
+    b8 .read-tracked .kept .1 .0 ∙ b13 .start .kept .0 ∙ b20 .read-top .kept .1 .0
 
 returns-3 : tie.Need-returns-3
 returns-3 c =
-    let b5 = c .before .before .before .before .before in
-    let b9 = b5 .before .before .before .before in
-    let b14 = b9 .before .before .before .before .before in
-    let b17 = b14 .before .before .before in
-    let b21 = b17 .before .before .before .before in
-    function-read (b21 .read-top .ensures) (b17 .top .given .1) (starts-begun (b14 .start .ensures)) (b9 .read-tracked .ensures) (b5 .t .given .1) (c .begun .ensures)
+    let b4 = c .before .before .before .before in
+    let b8 = b4 .before .before .before .before in
+    let b13 = b8 .before .before .before .before .before in
+    let b16 = b13 .before .before .before in
+    let b20 = b16 .before .before .before .before in
+    function-read (b20 .read-top .ensures) (b16 .top .given .1) (b13 .start .ensures) (b8 .read-tracked .ensures) (b4 .t .given .1)
 
 pub read-function-spec : {M : Type 1} → statement M
 read-function-spec =
@@ -83,6 +79,5 @@ read-function-spec =
     enum-told-2
     same-length-2
     returns-2
-    begun-requires
     same-length-3
     returns-3)

@@ -24,16 +24,15 @@ same-length c = search needs
 
 returns : tie.Need-returns
 returns c =
-    let b3 = c .before .before .before in
-    let b4 = b3 .before in no-params (b4 .read-list .ensures) (c .enum-told .given .1)
+    let b4 = c .before .before .before .before in
+    no-params (b4 .read-list .ensures) (c .enum-told .given .1)
 
 cast-read-list : tie.Need-cast-read-list
 cast-read-list c = search needs
 
 read-list-requires-2 : tie.Need-read-list-requires-2
 read-list-requires-2 c κs =
-    let b5 = c .before .before .before .before .before in
-    let b6 = b5 .before in
+    let b6 = c .before .before .before .before .before .before in
     let b10 = b6 .before .before .before .before in
     let l = (list-listed _ _ _ (b6 .read-list .ensures) (c .before .before .params .given .1)) in
     ((b10 .pre .0, l .few), l .places .sound)
@@ -49,10 +48,10 @@ same-length-2 c = search needs
 
 returns-2 : tie.Need-returns-2
 returns-2 c =
-    let b3 = c .before .before .before in
-    let b4 = b3 .before in
+    let b4 = c .before .before .before .before in
     let b7 = b4 .before .before .before in
-    let b11 = b7 .before .before .before .before in no-context (list-listed _ _ _ (b11 .read-list .ensures) (b7 .params .given .1)) (b4 .read-list2 .ensures) (c .enum-told2 .given .1)
+    let b11 = b7 .before .before .before .before in
+    no-context (list-listed _ _ _ (b11 .read-list .ensures) (b7 .params .given .1)) (b4 .read-list2 .ensures) (c .enum-told2 .given .1)
 
 fixed-requires : tie.Need-fixed-requires
 fixed-requires c κs = search needs
@@ -68,11 +67,11 @@ same-length-3 c = search needs
 
 returns-3 : tie.Need-returns-3
 returns-3 c =
-    let b3 = c .before .before .before in
-    let b4 = b3 .before in
+    let b4 = c .before .before .before .before in
     let b8 = b4 .before .before .before .before in
     let b11 = b8 .before .before .before in
-    let b15 = b11 .before .before .before .before in no-one (list-listed _ _ _ (b15 .read-list .ensures) (b11 .params .given .1)) (list-listed _ _ _ (b8 .read-list2 .ensures) (b4 .context .given .1)) (says wordSays (c .enum-told3 .given .1) (c .before .before .fixed .ensures))
+    let b15 = b11 .before .before .before .before in
+    no-one (list-listed _ _ _ (b15 .read-list .ensures) (b11 .params .given .1)) (list-listed _ _ _ (b8 .read-list2 .ensures) (b4 .context .given .1)) (says wordSays (c .enum-told3 .given .1) (c .before .before .fixed .ensures))
 
 place-requires : tie.Need-place-requires
 place-requires c κs = search needs
@@ -85,22 +84,22 @@ enum-told-4 c = search needs
 
 same-length-4 : tie.Need-same-length-4
 same-length-4 c =
-    let b7 = c .before .before .before .before .before .before .before in
-    let b8 = b7 .before in
+    let b8 = c .before .before .before .before .before .before .before .before in
     let b12 = b8 .before .before .before .before in
     let b15 = b12 .before .before .before in
     let b19 = b15 .before .before .before .before in
-    (list-listed _ _ _ (b12 .read-list2 .ensures) (b8 .context .given .1)) .places .same ∙ (list-listed _ _ _ (b19 .read-list .ensures) (b15 .params .given .1)) .places .same
+    (list-listed _ _ _ (b12 .read-list2 .ensures) (b8 .context .given .1)) .places .same
+    ∙ (list-listed _ _ _ (b19 .read-list .ensures) (b15 .params .given .1)) .places .same
 
 returns-4 : tie.Need-returns-4
 returns-4 c =
-    let b3 = c .before .before .before in
-    let b4 = b3 .before in
+    let b4 = c .before .before .before .before in
     let b6 = b4 .before .before in
     let b8 = b6 .before .before in
     let b12 = b8 .before .before .before .before in
     let b15 = b12 .before .before .before in
-    let b19 = b15 .before .before .before .before in no-returns (list-listed _ _ _ (b19 .read-list .ensures) (b15 .params .given .1)) (list-listed _ _ _ (b12 .read-list2 .ensures) (b8 .context .given .1)) (says wordSays (b4 .c3 .given .1) (b6 .fixed .ensures)) (says placeSays (c .enum-told4 .given .1) (c .before .before .place .ensures))
+    let b19 = b15 .before .before .before .before in
+    no-returns (list-listed _ _ _ (b19 .read-list .ensures) (b15 .params .given .1)) (list-listed _ _ _ (b12 .read-list2 .ensures) (b8 .context .given .1)) (says wordSays (b4 .c3 .given .1) (b6 .fixed .ensures)) (says placeSays (c .enum-told4 .given .1) (c .before .before .place .ensures))
 
 count-requires : tie.Need-count-requires
 count-requires c κs = search needs
@@ -113,45 +112,44 @@ enum-told-5 c = search needs
 
 same-length-5 : tie.Need-same-length-5
 same-length-5 c =
-    let b11 = c .before .before .before .before .before .before .before .before .before .before .before in
-    let b12 = b11 .before in
+    let b12 = c .before .before .before .before .before .before .before .before .before .before .before .before in
     let b16 = b12 .before .before .before .before in
     let b19 = b16 .before .before .before in
     let b23 = b19 .before .before .before .before in
-    (list-listed _ _ _ (b16 .read-list2 .ensures) (b12 .context .given .1)) .places .same ∙ (list-listed _ _ _ (b23 .read-list .ensures) (b19 .params .given .1)) .places .same
+    (list-listed _ _ _ (b16 .read-list2 .ensures) (b12 .context .given .1)) .places .same
+    ∙ (list-listed _ _ _ (b23 .read-list .ensures) (b19 .params .given .1)) .places .same
 
 returns-5 : tie.Need-returns-5
 returns-5 c =
-    let b3 = c .before .before .before in
-    let b4 = b3 .before in
+    let b4 = c .before .before .before .before in
     let b6 = b4 .before .before in
     let b8 = b6 .before .before in
     let b10 = b8 .before .before in
     let b12 = b10 .before .before in
     let b16 = b12 .before .before .before .before in
     let b19 = b16 .before .before .before in
-    let b23 = b19 .before .before .before .before in no-count (list-listed _ _ _ (b23 .read-list .ensures) (b19 .params .given .1)) (list-listed _ _ _ (b16 .read-list2 .ensures) (b12 .context .given .1)) (says wordSays (b8 .c3 .given .1) (b10 .fixed .ensures)) (says placeSays (b4 .returns .given .1) (b6 .place .ensures)) (says wordSays (c .enum-told5 .given .1) (c .before .before .count .ensures))
+    let b23 = b19 .before .before .before .before in
+    no-count (list-listed _ _ _ (b23 .read-list .ensures) (b19 .params .given .1)) (list-listed _ _ _ (b16 .read-list2 .ensures) (b12 .context .given .1)) (says wordSays (b8 .c3 .given .1) (b10 .fixed .ensures)) (says placeSays (b4 .returns .given .1) (b6 .place .ensures)) (says wordSays (c .enum-told5 .given .1) (c .before .before .count .ensures))
 
 add-track : tie.Need-add-track
 add-track c =
-    let b13 = c .before .before .before .before .before .before .before .before .before .before .before .before .before in
-    let b14 = b13 .before in
+    let b14 = c .before .before .before .before .before .before .before .before .before .before .before .before .before .before in
     let b18 = b14 .before .before .before .before in
     let b21 = b18 .before .before .before in
-    let b25 = b21 .before .before .before .before in omega (arith, (list-listed _ _ _ (b25 .read-list .ensures) (b21 .params .given .1)) .few, (list-listed _ _ _ (b18 .read-list2 .ensures) (b14 .context .given .1)) .few)
+    let b25 = b21 .before .before .before .before in
+    omega (arith, (list-listed _ _ _ (b25 .read-list .ensures) (b21 .params .given .1)) .few, (list-listed _ _ _ (b18 .read-list2 .ensures) (b14 .context .given .1)) .few)
 
 cast-track : tie.Need-cast-track
 cast-track c =
-    let b13 = c .before .before .before .before .before .before .before .before .before .before .before .before .before in
-    let b14 = b13 .before in
+    let b14 = c .before .before .before .before .before .before .before .before .before .before .before .before .before .before in
     let b18 = b14 .before .before .before .before in
     let b21 = b18 .before .before .before in
-    let b25 = b21 .before .before .before .before in omega (arith, (list-listed _ _ _ (b25 .read-list .ensures) (b21 .params .given .1)) .few, (list-listed _ _ _ (b18 .read-list2 .ensures) (b14 .context .given .1)) .few)
+    let b25 = b21 .before .before .before .before in
+    omega (arith, (list-listed _ _ _ (b25 .read-list .ensures) (b21 .params .given .1)) .few, (list-listed _ _ _ (b18 .read-list2 .ensures) (b14 .context .given .1)) .few)
 
 track-requires : tie.Need-track-requires
 track-requires c κs =
-    let b5 = c .before .before .before .before .before in
-    let b6 = b5 .before in
+    let b6 = c .before .before .before .before .before .before in
     let b8 = b6 .before .before in
     let b14 = b8 .before .before .before .before .before .before in
     let b18 = b14 .before .before .before .before in
@@ -162,15 +160,15 @@ track-requires c κs =
     let l₂ = (list-listed _ _ _ (b18 .read-list2 .ensures) (b14 .context .given .1)) in
     ((omega (arith, l₁ .few, l₂ .few), l₂ .places .sound .size), place-known _ (b29 .pre .0) _ _ _ _ (says placeSays (b6 .returns .given .1) (b8 .place .ensures)))
 
-create-first-requires : tie.Need-create-first-requires
-create-first-requires c κs =
+create-requires : tie.Need-create-requires
+create-requires c κs =
     let b3 = c .before .before .before in
     let b10 = b3 .before .before .before .before .before .before .before in
     let b12 = b10 .before .before in
     let b18 = b12 .before .before .before .before .before .before in
     let b22 = b18 .before .before .before .before in
     let b33 = b22 .before .before .before .before .before .before .before .before .before .before .before in
-    (tracks-sound ((list-listed _ _ _ (b22 .read-list2 .ensures) (b18 .context .given .1)) .places .sound) (b3 .track .ensures), place-known _ (b33 .pre .0) _ _ _ _ (says placeSays (b10 .returns .given .1) (b12 .place .ensures)))
+    (tracks-sound ((list-listed _ _ _ (b22 .read-list2 .ensures) (b18 .context .given .1)) .places .sound) (b3 .track .ensures), (place-known _ (b33 .pre .0) _ _ _ _ (says placeSays (b10 .returns .given .1) (b12 .place .ensures)), tt))
 
 same-length-6 : tie.Need-same-length-6
 same-length-6 c =
@@ -179,7 +177,7 @@ same-length-6 c =
     let b25 = b21 .before .before .before .before in
     let b28 = b25 .before .before .before in
     let b32 = b28 .before .before .before .before in
-    c .before .before .create-first .ensures .same
+    c .before .before .create .ensures .same
     ∙ b6 .track .ensures .kept .same
     ∙ (list-listed _ _ _ (b25 .read-list2 .ensures) (b21 .context .given .1)) .places .same
     ∙ (list-listed _ _ _ (b32 .read-list .ensures) (b28 .params .given .1)) .places .same
@@ -197,7 +195,7 @@ returns-6 c =
     let b25 = b21 .before .before .before .before in
     let b28 = b25 .before .before .before in
     let b32 = b28 .before .before .before .before in
-    tracked-read (list-listed _ _ _ (b32 .read-list .ensures) (b28 .params .given .1)) (list-listed _ _ _ (b25 .read-list2 .ensures) (b21 .context .given .1)) (says wordSays (b17 .c3 .given .1) (b19 .fixed .ensures)) (says placeSays (b13 .returns .given .1) (b15 .place .ensures)) (says wordSays (b9 .count2 .given .1) (b11 .count .ensures)) (b6 .track .ensures) (c .before .before .create-first .ensures)
+    tracked-read (list-listed _ _ _ (b32 .read-list .ensures) (b28 .params .given .1)) (list-listed _ _ _ (b25 .read-list2 .ensures) (b21 .context .given .1)) (says wordSays (b17 .c3 .given .1) (b19 .fixed .ensures)) (says placeSays (b13 .returns .given .1) (b15 .place .ensures)) (says wordSays (b9 .count2 .given .1) (b11 .count .ensures)) (b6 .track .ensures) (c .before .before .create .ensures)
 
 pub read-tracked-spec : {M : Type 1} → statement M
 read-tracked-spec =
@@ -232,6 +230,6 @@ read-tracked-spec =
     add-track
     cast-track
     track-requires
-    create-first-requires
+    create-requires
     same-length-6
     returns-6)

@@ -1,7 +1,7 @@
 use native.Mathlib.Omega.{arith}
 use mathlib.Core.Path.{_∙_}
 use Prim.Native.Nat.{_-_}
-use Rattle.summary.proofs.Places.{is-below}
+use Rattle.workspace.proofs.Places.{is-below}
 use Rattle.simulation.proofs.Turns.{Turned, cleared-start, cleared-marked, cleared-end, long, stored-size, turned-turn, turned-end}
 use Rattle.simulation.proofs.simulate.Statement.{statement}
 use Rattle.simulation.proofs.simulate.Tie as tie
@@ -18,7 +18,7 @@ clear-marks-requires c κs = c .before .before .before .pre .0
 loop-holds : tie.Need-loop-holds Inv-loop μ-loop
 loop-holds c =
     let b5 = c .before .before .before .before .before in
-    let b6 = b5 .before in cleared-start (b6 .args .ws .now) (b6 .pre .0) (c .before .before .clear-marks .last .0) (c .before .before .clear-marks .ensures) (b6 .args .count) (b6 .args .index) (b6 .args .returns .0) (b6 .args .answer .now) (b6 .args .at) (b6 .pre .1 .0 .1 .covered)
+    let b6 = b5 .before in cleared-start (b6 .args .ws .now) (b6 .pre .0) (c .before .before .clear-marks .last .0) (c .before .before .clear-marks .ensures) (b6 .args .count) (b6 .args .index) (b6 .args .returns .0) (b6 .args .answer .now) (b6 .args .at)
 
 tracked-requires : tie.Need-tracked-requires Inv-loop μ-loop
 tracked-requires c κs = (omega arith, c .before .before .loop .inv .indexed .size)

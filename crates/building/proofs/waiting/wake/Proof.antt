@@ -1,6 +1,6 @@
 use Rattle.workspace.specs.Layout.{PREDS, RELATIONS}
 use Rattle.building.proofs.Operands.{Waking, wake-start, wake-room, wake-store, wake-keep, wake-end}
-use mathlib.Core.Path.{refl, sym, _∙_}
+use mathlib.Core.Path.{refl}
 use Prim.Native.Nat.{_-_, _+_}
 use lib.ListN.{length-set, getD}
 use native.Mathlib.Omega.{arith}

@@ -1,4 +1,5 @@
 use Prim.Native.Nat.{_+_}
+use Rattle.workspace.specs.Layout.{FUNCTIONS}
 use Rattle.copies.proofs.Errors.{appended, appended-refused, appended-none}
 use Rattle.hir.proofs.Answers.{says}
 use Rattle.hir.specs.Says.{wordSays}
@@ -26,7 +27,7 @@ shared-slice-read-start c = search needs
 cast-start : tie.Need-cast-start
 cast-start c =
     let b7 = c .before .before .before .before .before .before .before in
-    omega (arith, c .shared-slice-known3 .given (15619 + b7 .args .function .0))
+    omega (arith, c .shared-slice-known3 .given (FUNCTIONS + b7 .args .function .0))
 
 count-requires : tie.Need-count-requires
 count-requires c κs = search needs

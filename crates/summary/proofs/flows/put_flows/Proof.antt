@@ -1,4 +1,4 @@
-use Rattle.summary.proofs.Places.{is-below}
+use Rattle.workspace.proofs.Places.{is-below}
 use Rattle.summary.proofs.Flowing.{Flowing, flowing-start, flowing-turn, flowing-end, flow-most}
 use Rattle.hir.specs.Says.{placeIs}
 use lib.ListN.{length}

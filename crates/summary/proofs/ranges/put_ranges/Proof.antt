@@ -1,9 +1,7 @@
 use Rattle.summary.proofs.Starts.{Starting, starting-start, starting-turn, starting-end, no-ranges}
-use Rattle.writing.proofs.Writing.{wrote-as}
 use native.Mathlib.Omega.{arith}
-use mathlib.Core.Path.{ap, _∙_}
-use mathlib.Core.List.{[], _∷_}
-use Prim.Native.Nat.{ℕ, _-_}
+use mathlib.Core.Path.{_∙_}
+use Prim.Native.Nat.{_-_}
 use Rattle.summary.proofs.ranges.put_ranges.Statement.{statement}
 use Rattle.summary.proofs.ranges.put_ranges.Tie as tie
 
@@ -52,8 +50,14 @@ shared-slice-read-put c = omega arith
 put-requires-2 : tie.Need-put-requires-2 Inv-loop μ-loop
 put-requires-2 c κs = omega arith
 
-field-requires : tie.Need-field-requires Inv-loop μ-loop
-field-requires c κs = (omega arith, omega arith)
+add-put-2 : tie.Need-add-put-2 Inv-loop μ-loop
+add-put-2 c = omega arith
+
+mul-put-3 : tie.Need-mul-put-3 Inv-loop μ-loop
+mul-put-3 c = omega arith
+
+shared-slice-read-put-2 : tie.Need-shared-slice-read-put-2 Inv-loop μ-loop
+shared-slice-read-put-2 c = omega arith
 
 put-requires-3 : tie.Need-put-requires-3 Inv-loop μ-loop
 put-requires-3 c κs = omega arith
@@ -65,7 +69,7 @@ loop-less : tie.Need-loop-less Inv-loop μ-loop
 loop-less c = omega arith
 
 loop-again : tie.Need-loop-again Inv-loop μ-loop
-loop-again c = starting-turn _ _ _ _ (c .before .before .before .before .before .before .before .before .before .before .before .loop .inv) (c .before .before .before .before .before .before .before .before .before .before .loop-test .taken) (c .before .before .before .before .before .before .before .put2 .ensures) (wrote-as (c .before .before .put3 .ensures) (ap (λ (v : ℕ). v ∷ []) (c .before .before .before .field .ensures))) (c .before .before .before .before .before .before .before .put2 .kept .0) (c .before .before .put3 .kept .0)
+loop-again c = starting-turn _ _ _ _ (c .before .before .before .before .before .before .before .before .before .before .before .loop .inv) (c .before .before .before .before .before .before .before .before .before .before .loop-test .taken) (c .before .before .before .before .before .before .before .put2 .ensures) (c .before .before .put3 .ensures) (c .before .before .before .before .before .before .before .put2 .kept .0) (c .before .before .put3 .kept .0)
 
 same-length-3 : tie.Need-same-length-3 Inv-loop μ-loop
 same-length-3 c = c .before .loop .inv .same ∙ c .before .before .before .before .before .before .put .kept .0
@@ -92,7 +96,9 @@ put-ranges-spec =
     mul-put-2
     shared-slice-read-put
     put-requires-2
-    field-requires
+    add-put-2
+    mul-put-3
+    shared-slice-read-put-2
     put-requires-3
     add-i
     loop-less

@@ -1,4 +1,4 @@
-use Rattle.summary.proofs.Places.{is-below}
+use Rattle.workspace.proofs.Places.{is-below}
 use Rattle.summary.proofs.Collecting.{Collecting, collecting-start, collecting-turn, collecting-end, collected-most}
 use lib.ListN.{length}
 use native.Mathlib.Omega.{arith}

@@ -1,5 +1,5 @@
 use Rattle.summary.proofs.Marking.{mark-below}
-use Rattle.summary.proofs.Places.{is-below}
+use Rattle.workspace.proofs.Places.{is-below}
 use Rattle.summary.proofs.Marking.{Marking, marking-start, marking-turn, marking-end}
 use native.Mathlib.Omega.{arith}
 use Prim.Native.Nat.{_-_, _≤_}

@@ -1,4 +1,4 @@
-use Rattle.summary.proofs.Places.{is-below}
+use Rattle.workspace.proofs.Places.{is-below}
 use Rattle.summary.proofs.Marking.{Putting, putting-start, putting-turn, putting-end}
 use lib.ListN.{length}
 use native.Mathlib.Omega.{arith}

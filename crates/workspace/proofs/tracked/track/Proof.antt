@@ -1,12 +1,11 @@
 use Rattle.hir.specs.Numbers.{effectNumber}
 use lib.ListN.{length-set}
-use Rattle.summary.proofs.Places.{place-stored}
-use Rattle.summary.proofs.Words.{traits-most}
+use Rattle.workspace.proofs.Places.{place-stored, traits-most}
 use Rattle.hir.proofs.Ranges.{effect-number}
 use native.Mathlib.Omega.{arith}
 use borrow.Author.Needs.{needs}
-use Rattle.summary.proofs.tracked.track.Statement.{statement}
-use Rattle.summary.proofs.tracked.track.Tie as tie
+use Rattle.workspace.proofs.tracked.track.Statement.{statement}
+use Rattle.workspace.proofs.tracked.track.Tie as tie
 
 traits-word-requires : tie.Need-traits-word-requires
 traits-word-requires c κs = search needs

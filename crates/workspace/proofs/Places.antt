@@ -1,20 +1,57 @@
--- The tracked places: one that is stored, those that stay, and parts of the list.
-use Prim.Native.Nat.{ℕ, zero, suc, _+_, _*_, _≤_, _<_}
+-- The tracked places: the two words of one give it back, one that is stored, those that stay, and parts of the list.
+use Prim.Native.Nat.{ℕ, zero, suc, _+_, _*_, _/_, _%_, _≤_, _<_}
 use native.Mathlib.Omega.{arith}
 use native.Mathlib.Nat.{add-zero, add-suc}
 use native.Mathlib.Numerals.{add-one}
-use mathlib.Core.Path.{_≡_, refl, sym, ap, _∙_}
-use mathlib.Core.List.{List, [], _∷_, _++_, map, append-nil, append-assoc}
+use mathlib.Core.Bool.{Bool, true, false}
+use mathlib.Core.List.{List, [], _∷_, _++_, append-nil, append-assoc}
+use mathlib.Core.Path.{_≡_, sym, ap, _∙_}
 use lib.ListN.{length, getD, set, take, drop, length-set}
 use lib.Seq.{getD-set-same, getD-set-other}
+use borrow.Author.Tests.{le-leb, lt-leb}
+use Rattle.model.specs.Limits.{mostIdentifiers}
 use Rattle.model.specs.Sheet.{Place}
-use Rattle.model.specs.Traits.{traitsWord}
+use Rattle.model.specs.Traits.{effectOf, reactiveOf, traitsWord}
+use Rattle.workspace.specs.Layout.{TRACKED}
 use Rattle.workspace.specs.Rows.{Kept}
 use Rattle.workspace.specs.Graph.{tab}
+use Rattle.workspace.specs.Tracked.{placeOf, trackedAt, trackedOf, trackedFrom, Tracks}
 use Rattle.workspace.proofs.Parts.{kept-none, kept-set, take-word, drop-word}
 use Rattle.workspace.proofs.Tables.{tab-same}
-use Rattle.summary.specs.Tracked.{TRACKED, placeOf, trackedAt, trackedOf, trackedFrom, Tracks}
-use Rattle.summary.proofs.Words.{place-back, place-below}
+
+-- a traits word, taken apart again
+effect-back : (e : ℕ) (r : Bool) → e ≤ 7 → effectOf (traitsWord e r) ≡ e
+unfolding effectOf traitsWord
+effect-back e true h = omega (arith, h)
+effect-back e false h = omega (arith, h)
+
+reactive-back : (e : ℕ) (r : Bool) → e ≤ 7 → reactiveOf (traitsWord e r) ≡ r
+unfolding reactiveOf traitsWord
+reactive-back e true h = le-leb 8 (e + 8) (omega (arith, h))
+reactive-back e false h = lt-leb 8 (e + 0) (omega (arith, h))
+
+pub traits-most : (e : ℕ) (r : Bool) → e ≤ 7 → traitsWord e r ≤ 15
+unfolding traitsWord
+traits-most e true h = omega (arith, h)
+traits-most e false h = omega (arith, h)
+
+low : (i t : ℕ) → i < mostIdentifiers → (i + 512 * t) % 512 ≡ i
+low i t h = omega (arith, h)
+
+high : (i t : ℕ) → i < mostIdentifiers → (i + 512 * t) / 512 ≡ t
+high i t h = omega (arith, h)
+
+-- both words
+place-back : (p : Place) (t : ℕ) → p .identifier < mostIdentifiers → p .effect ≤ 7 → t ≡ traitsWord (p .effect) (p .reactive) → placeOf (p .identifier + 512 * t) (p .span) ≡ p
+unfolding placeOf
+place-back p t h k e =
+    let a : (p .identifier + 512 * t) % 512 ≡ p .identifier = low (p .identifier) t h in
+    let b : (p .identifier + 512 * t) / 512 ≡ t = high (p .identifier) t h in
+    rw (a, b, e, effect-back, reactive-back)
+
+place-below : (w s : ℕ) → placeOf w s .identifier < mostIdentifiers
+unfolding placeOf
+place-below w s = omega arith
 
 -- ---- parts of a table
 module _ {A : Type 0} where
@@ -25,16 +62,6 @@ module _ {A : Type 0} where
       ap (λ (n : ℕ). tab n f) (add-suc p c)
       ∙ ap (λ (l : List A). l ++ (f (p + c) ∷ [])) (tab-parts p c f)
       ∙ append-assoc (tab p f) (tab c (λ (i : ℕ). f (p + i))) (f (p + c) ∷ [])
-
-module _ {A B : Type 0} where
-  pub map-append : (g : A → B) (l r : List A) → map g (l ++ r) ≡ map g l ++ map g r
-  map-append g [] r = refl
-  map-append g (a ∷ l) r = ap (λ (z : List B). g a ∷ z) (map-append g l r)
-
-  pub tab-map : (n : ℕ) (f : ℕ → A) (g : A → B) → map g (tab n f) ≡ tab n (λ (i : ℕ). g (f i))
-  unfolding tab
-  tab-map zero f g = refl
-  tab-map (suc n) f g = map-append g (tab n f) (f n ∷ []) ∙ ap (λ (l : List B). l ++ (g (f n) ∷ [])) (tab-map n f g)
 
 -- the first p places, then c more
 pub tracked-parts : (ws : List ℕ) (p c : ℕ) → trackedOf ws (p + c) ≡ trackedOf ws p ++ trackedFrom ws p c
@@ -51,11 +78,11 @@ pub tracked-one : (ws : List ℕ) (i : ℕ) → trackedFrom ws i 1 ≡ trackedAt
 unfolding trackedFrom tab
 tracked-one ws i = ap (λ (j : ℕ). trackedAt ws j ∷ []) (add-zero i)
 
-pub tracked-below : (ws : List ℕ) (i : ℕ) → trackedAt ws i .identifier < 512
+pub tracked-below : (ws : List ℕ) (i : ℕ) → trackedAt ws i .identifier < mostIdentifiers
 unfolding trackedAt
 tracked-below ws i = place-below (getD ws (TRACKED + 2 * i) 0) (getD ws (TRACKED + 2 * i + 1) 0)
 
-pub is-below : (ws : List ℕ) (i : ℕ) {p : Place} → p ≡ trackedAt ws i → p .identifier < 512
+pub is-below : (ws : List ℕ) (i : ℕ) {p : Place} → p ≡ trackedAt ws i → p .identifier < mostIdentifiers
 is-below ws i e = rw e (tracked-below ws i)
 
 -- ---- a place stays if its words stay
@@ -77,7 +104,7 @@ unfolding trackedOf
 tracked-kept ws ws′ n e = tab-same n (trackedAt ws′) (trackedAt ws) (λ i h. tracked-high ws ws′ 0 i (omega arith) e)
 
 -- ---- a place is stored
-module _ (ws : List ℕ) (i : ℕ) (p : Place) (t : ℕ) (h : TRACKED + 2 * i + 1 < length ws) (e : t ≡ traitsWord (p .effect) (p .reactive)) (b : p .identifier < 512) (k : p .effect ≤ 7) where
+module _ (ws : List ℕ) (i : ℕ) (p : Place) (t : ℕ) (h : TRACKED + 2 * i + 1 < length ws) (e : t ≡ traitsWord (p .effect) (p .reactive)) (b : p .identifier < mostIdentifiers) (k : p .effect ≤ 7) where
   abbrev stored : List ℕ
   stored = set (set ws (TRACKED + 2 * i) (p .identifier + 512 * t)) (TRACKED + 2 * i + 1) (p .span)
 

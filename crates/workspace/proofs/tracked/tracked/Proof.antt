@@ -1,7 +1,7 @@
-use Rattle.summary.specs.Tracked.{trackedAt, placeOf}
+use Rattle.workspace.specs.Tracked.{trackedAt, placeOf}
 use borrow.Author.Needs.{needs}
-use Rattle.summary.proofs.tracked.tracked.Statement.{statement}
-use Rattle.summary.proofs.tracked.tracked.Tie as tie
+use Rattle.workspace.proofs.tracked.tracked.Statement.{statement}
+use Rattle.workspace.proofs.tracked.tracked.Tie as tie
 
 mul-w : tie.Need-mul-w
 mul-w c = search needs
