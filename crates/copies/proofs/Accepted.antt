@@ -7,17 +7,18 @@ use mathlib.Core.List.{List, []}
 use lib.ListN.{length, getD}
 use lib.Dec.{ltb}
 use borrow.Author.Tests.{ltb-true}
-use Rattle.model.specs.Limits.{mostInnerDiagnostics, mostRange, mostBlocks}
+use Rattle.model.specs.Limits.{mostInnerDiagnostics}
 use Rattle.model.specs.Lists.{pick}
-use Rattle.model.specs.Sheet.{Identifier, InnerFunction, Block}
+use Rattle.model.specs.Sheet.{Identifier, InnerFunction, noFunction, Block}
 use Rattle.model.specs.Reading.{Position, got, refused, Read, _>>=_, word, count, atMost, times, numbered, counted}
 use Rattle.model.specs.Sections.{identifier, diagnostic, innerFunction, block}
 use Rattle.model.specs.Summary.{noIdentifier}
 use Rattle.model.proofs.Got.{got-value, not-both, times-step}
 use Rattle.model.proofs.ReadLaws.{counted-length}
 use Rattle.hir.specs.Words.{identifierWidth, wide, identifierAt, several, functionFrom, blockFrom}
-use Rattle.hir.proofs.Standing.{StandsFor, Stands, in-two, value-is, next-is, count-stands, times-stands, identifier-stands, function-stands, blocks-stands}
-use Rattle.hir.proofs.Widths.{several-wide}
+use Rattle.hir.proofs.Standing.{in-two, value-is, next-is, count-stands, identifier-stands, function-stands, blocks-stands}
+use Rattle.workspace.specs.Layout.{FUNCTIONS}
+use Rattle.copies.specs.Functions.{Functions}
 
 -- ---- a reader that begins with a word begins in the sheet
 abbrev Begins : {A : Type 0} → Read A → Type 0
@@ -46,22 +47,26 @@ function-begins : Begins innerFunction
 unfolding innerFunction counted
 function-begins = then-begins _ _ (then-begins _ _ (count-begins mostInnerDiagnostics))
 
--- ---- an inner function
-pub record FunctionStands (sheet : List ℕ) (c : Position) (f : InnerFunction) : Type 0 where
-  pub is : functionFrom sheet c .what ≡ f
-  pub inside : functionFrom sheet c .next ≤ length sheet
-  pub few : length (f .diagnostics) ≤ mostInnerDiagnostics
+-- ---- the inner functions
+module _ (sheet : List ℕ) (c : Position) {f : InnerFunction} {d : Position} (e : innerFunction sheet c ≡ got f d) where
+  function-is : functionFrom sheet c .what ≡ f
+  function-is = value-is (function-stands sheet c f d e)
 
-pub function-accepted : (sheet : List ℕ) (c : Position) (f : InnerFunction) (d : Position) → innerFunction sheet c ≡ got f d → FunctionStands sheet c f
-unfolding innerFunction
-function-accepted sheet c f d e =
-    let s = function-stands sheet c f d e in
-    let p = in-two (counted mostInnerDiagnostics diagnostic sheet c) _ e in
-    record {
-      is = value-is s;
-      inside = omega (arith, next-is s, s .inside (omega (arith, function-begins sheet c f d e)));
-      few = subst (λ (x : InnerFunction). length (x .diagnostics) ≤ mostInnerDiagnostics) (got-value (p .second)) (counted-length mostInnerDiagnostics diagnostic sheet c (p .value) (p .next) (p .first));
-    }
+  function-inside : functionFrom sheet c .next ≤ length sheet
+  function-inside = let s = function-stands sheet c f d e in omega (arith, next-is s, s .inside (omega (arith, function-begins sheet c f d e)))
+
+  function-few : length (f .diagnostics) ≤ mostInnerDiagnostics
+  unfolding innerFunction
+  function-few =
+      let p = in-two (counted mostInnerDiagnostics diagnostic sheet c) _ e in
+      subst (λ (x : InnerFunction). length (x .diagnostics) ≤ mostInnerDiagnostics) (got-value (p .second)) (counted-length mostInnerDiagnostics diagnostic sheet c (p .value) (p .next) (p .first))
+
+pub functions-accepted : (sheet ws : List ℕ) (fs : List InnerFunction) → ((k : ℕ) → k < length fs → (d : Position) × (innerFunction sheet (getD ws (FUNCTIONS + k) 0) ≡ got (getD fs k noFunction) d)) → Functions sheet ws fs
+functions-accepted sheet ws fs h = record {
+  is = λ k z. function-is sheet (getD ws (FUNCTIONS + k) 0) (h k z .1);
+  inside = λ k z. function-inside sheet (getD ws (FUNCTIONS + k) 0) (h k z .1);
+  few = λ k z. function-few sheet (getD ws (FUNCTIONS + k) 0) (h k z .1);
+}
 
 -- ---- each of n identifiers
 pub identifiers-are : (n : ℕ) (sheet : List ℕ) (c : Position) (l : List Identifier) (d : Position) → times n identifier sheet c ≡ got l d

@@ -3,9 +3,9 @@ use Prim.Native.Nat.{ℕ, zero, suc, _+_, _-_, _*_, _≤_, _<_}
 use native.Mathlib.Omega.{arith}
 use mathlib.Core.Path.{_≡_, refl, sym, ap, subst, _∙_}
 use mathlib.Core.Bool.{Bool, true, false}
-use mathlib.Core.List.{List, [], _∷_}
-use lib.ListN.{length, getD, List·getD-eq-default}
-use lib.Seq.{slice}
+use mathlib.Core.List.{List, [], _∷_, _++_}
+use lib.ListN.{length, getD, length-append, List·getD-eq-default}
+use lib.Seq.{slice, ext-getD}
 use lib.Dec.{leb}
 use borrow.Author.Tests.{leb-true, leb-false}
 use Rattle.model.specs.Limits.{mostInnerDiagnostics}
@@ -19,7 +19,7 @@ use Rattle.hir.specs.declared.at.List.{List as Listed}
 use Rattle.hir.proofs.Standing.{part}
 use Rattle.hir.proofs.Widths.{wide-rises, several-wide, listed-rises}
 use Rattle.workspace.specs.Layout.{FUNCTIONS, HANDED}
-use Rattle.workspace.proofs.Tables.{tab-length}
+use Rattle.workspace.proofs.Tables.{tab-length, tab-at}
 use Rattle.writing.specs.Wrote.{Wrote}
 use Rattle.writing.proofs.Writing.{wrote-none, wrote-as}
 use Rattle.copies.specs.Copies.{Copies}
@@ -27,7 +27,7 @@ use Rattle.copies.specs.Functions.{functionAt, functionsOf, Functions}
 use Rattle.copies.proofs.Copying.{Copying, list-is}
 use Rattle.copies.proofs.Gathers.{gather-append}
 use Rattle.copies.proofs.Loops.{Leaves, leaves-all, leaves-then, leaves-none, slice-next, slice-none}
-use Rattle.copies.proofs.Sections.{diagnostics-same}
+use Rattle.copies.proofs.Sections.{diagnostics-length}
 
 -- ---- a diagnostic
 abbrev pub diagnosticFrom : List ℕ → Position → Part Diagnostic
@@ -59,9 +59,27 @@ module _ (sheet : List ℕ) (p : Position) where
   function-list h = ap (λ (x : Part (List Diagnostic)). part (record { diagnostics = x .what }) (x .next)) (list-is diagnosticFrom sheet p h)
 
 module _ (sheet ws : List ℕ) (m : ℕ) where
-  pub functions-length : length (functionsOf sheet ws m) ≡ m
+  functions-length : length (functionsOf sheet ws m) ≡ m
   unfolding functionsOf
   functions-length = tab-length m (λ (k : ℕ). functionAt sheet ws k .what)
+
+  function-at : (k : ℕ) → k < m → getD (functionsOf sheet ws m) k noFunction ≡ functionAt sheet ws k .what
+  unfolding functionsOf
+  function-at k h = tab-at m (λ (j : ℕ). functionAt sheet ws j .what) k noFunction h
+
+-- fs are those that the words name
+pub functions-are : {sheet ws : List ℕ} {fs : List InnerFunction} {m : ℕ} → Functions sheet ws fs → m ≡ length fs → functionsOf sheet ws m ≡ fs
+functions-are {sheet} {ws} {fs} {m} g e =
+    ext-getD noFunction (functionsOf sheet ws m) fs (functions-length sheet ws m ∙ e)
+    (λ k h. let z : k < m = omega (arith, h, functions-length sheet ws m) in function-at sheet ws m k z ∙ g .is k (omega (arith, z, e)))
+
+-- they stay if their words stay
+pub functions-kept : {sheet ws ws′ : List ℕ} {fs : List InnerFunction} → ((k : ℕ) → k < length fs → getD ws′ (FUNCTIONS + k) 0 ≡ getD ws (FUNCTIONS + k) 0) → Functions sheet ws fs → Functions sheet ws′ fs
+functions-kept {sheet} {fs = fs} e g = record {
+  is = λ k h. ap (λ (p : Position). functionFrom sheet p .what) (e k h) ∙ g .is k h;
+  inside = λ k h. subst (λ (p : Position). functionFrom sheet p .next ≤ length sheet) (sym (e k h)) (g .inside k h);
+  few = g .few;
+}
 
 -- no function has more diagnostics than the limit
 pub errors-few : {sheet ws : List ℕ} {fs : List InnerFunction} → Functions sheet ws fs → (k : ℕ) → length (functionErrors fs k) ≤ mostInnerDiagnostics
@@ -70,6 +88,14 @@ errors-few {fs = fs} g k = go (leb (length fs) k) refl
     go : (b : Bool) → leb (length fs) k ≡ b → length (functionErrors fs k) ≤ mostInnerDiagnostics
     go true e = omega (arith, ap (λ (f : InnerFunction). length (f .diagnostics)) (List·getD-eq-default fs noFunction {n = k} (leb-true (length fs) k e)))
     go false e = g .few k (leb-false (length fs) k e)
+
+-- nor have several
+pub handed-few : {sheet ws : List ℕ} {fs : List InnerFunction} → Functions sheet ws fs → (l : List ℕ) → length (gather diagnosticWords (gather (functionErrors fs) l)) ≤ mostInnerDiagnostics * length l
+handed-few g [] = omega arith
+handed-few {fs = fs} g (k ∷ l) =
+    let one : List Diagnostic = functionErrors fs k in
+    let rest : List Diagnostic = gather (functionErrors fs) l in
+    omega (arith, diagnostics-length (one ++ rest), length-append one rest, diagnostics-length rest, errors-few g k, handed-few g l)
 
 -- of one function that is not there
 pub errors-none : (sheet ws : List ℕ) (m k : ℕ) → m ≤ k → (a : List ℕ) (at : ℕ) → Wrote (gather diagnosticWords (functionErrors (functionsOf sheet ws m) k)) a at a at
@@ -113,7 +139,7 @@ module _ {fs : List InnerFunction} {ws : List ℕ} {hand : ℕ} {a₀ : List ℕ
     leaves =
         leaves-then (v .leaves) p
         (ap (λ (l : List ℕ). gather diagnosticWords (gather (functionErrors fs) l)) (slice-next i hand ws h k) ∙ gather-append diagnosticWords (functionErrors fs (getD ws i 0)) (gather (functionErrors fs) (slice (i + 1) hand ws)));
-    few = omega (arith, v .few, p .next, ap (λ (l : List ℕ). length l) (diagnostics-same (functionErrors fs (getD ws i 0))), errors-few g (getD ws i 0), h);
+    few = omega (arith, v .few, p .next, diagnostics-length (functionErrors fs (getD ws i 0)), errors-few g (getD ws i 0), h);
   }
 
   pub handing-end : hand ≤ i → Wrote (gather diagnosticWords (gather (functionErrors fs) (slice HANDED hand ws))) a₀ at₀ a at
