@@ -1,29 +1,25 @@
 -- Create for returns.
 use Prim.Native.Nat.{ℕ, _+_, _*_, _<_}
 use native.Mathlib.Omega.{arith}
-use mathlib.Core.Path.{_≡_, sym, ap, subst, _∙_}
+use mathlib.Core.Path.{_≡_, sym, ap, _∙_}
 use mathlib.Core.List.{List}
 use lib.ListN.{length, getD}
-use Rattle.model.specs.Sheet.{IdentifierType, Place, noPlace, Create, Sheet}
-use Rattle.model.specs.Reading.{Position}
+use Rattle.model.specs.Sheet.{Identifier, IdentifierType, Place, noPlace, Create, Effect, Sheet}
+use Rattle.model.specs.Reading.{Position, got, times}
 use Rattle.model.specs.Sections.{identifier}
-use Rattle.model.specs.Summary.{valueKind, noIdentifier, createReturns}
-use Rattle.model.specs.Answer.{effectWords}
-use Rattle.writing.specs.Wrote.{Wrote}
-use Rattle.writing.proofs.Writing.{wrote-as}
-use Rattle.copies.specs.Returns.{TypeAt, Created}
+use Rattle.model.specs.Summary.{valueKind, createReturns}
+use Rattle.hir.specs.Words.{identifierAt}
+use Rattle.copies.specs.Returns.{identifierFrom, createOf}
+use Rattle.copies.proofs.Accepted.{identifiers-are}
 
-same-effect : (s : Sheet) (p : Place) (x : ℕ) → s .returns ≡ p → x ≡ 6 * 0 + valueKind (getD (s .identifiers) (s .returns .identifier) noIdentifier .type)
-    → effectWords (record { kind = Create; first = p; second = noPlace; extra = x }) ≡ effectWords (createReturns s)
+-- by the reason x and the value y
+pub created : (p : Place) (x y v : ℕ) {t u : IdentifierType} → x ≡ 0 → y ≡ v → v ≡ valueKind t → t ≡ u → record { kind = Create; first = p; second = noPlace; extra = 6 * x + y } ≡ createOf p u
+created p x y v {t} {u} ex ey ev et =
+    let e : 6 * x + y ≡ 6 * 0 + valueKind u = omega (arith, ex, ey, ev, ap valueKind et) in
+    ap (λ (z : ℕ). record { kind = Create; first = p; second = noPlace; extra = z }) e
+
+-- of a sheet whose identifiers stand from c on
+pub returns-created : (s : Sheet) (sheet : List ℕ) (c d : Position) (n : ℕ) → times n identifier sheet c ≡ got (s .identifiers) d → s .returns .identifier < n
+    → createOf (s .returns) (identifierAt sheet (identifierFrom c (s .returns .identifier)) .type) ≡ createReturns s
 unfolding createReturns
-same-effect s p x e q = rw (← e, q)
-
--- the effect of returns p with reason x and value y, if y is the value kind of its type t
-pub created : (sheet : List ℕ) (c : Position) (p : Place) (x y v : ℕ) (t : IdentifierType) → x ≡ 0 → y ≡ v → v ≡ valueKind t → TypeAt sheet c (p .identifier) t
-    → {a : List ℕ} {at : ℕ} {a′ : List ℕ} {at′ : ℕ} → Wrote (effectWords (record { kind = Create; first = p; second = noPlace; extra = 6 * x + y })) a at a′ at′ → Created sheet c p a at a′ at′
-created sheet c p x y v t ex ey ev et {a} {at} {a′} {at′} w s d h e z =
-    let k : p .identifier < length (s .identifiers) = subst (λ (q : Place). q .identifier < length (s .identifiers)) e z in
-    let g : t ≡ getD (s .identifiers) (p .identifier) noIdentifier .type = et (length (s .identifiers)) (s .identifiers) d h k in
-    let f : valueKind t ≡ valueKind (getD (s .identifiers) (s .returns .identifier) noIdentifier .type) =
-    ap valueKind g ∙ ap (λ (q : Place). valueKind (getD (s .identifiers) (q .identifier) noIdentifier .type)) (sym e) in
-    wrote-as w (same-effect s p (6 * x + y) e (omega (arith, ex, ey, ev, f)))
+returns-created s sheet c d n h z = ap (λ (i : Identifier). createOf (s .returns) (i .type)) (sym (identifiers-are n sheet c (s .identifiers) d h (s .returns .identifier) z .0))

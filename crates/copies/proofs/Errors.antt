@@ -1,83 +1,146 @@
 -- The diagnostics of inner functions.
-use Prim.Native.Nat.{ℕ, _+_, _-_, _*_, _≤_, _<_}
+use Prim.Native.Nat.{ℕ, zero, suc, _+_, _-_, _*_, _≤_, _<_}
 use native.Mathlib.Omega.{arith}
-use mathlib.Core.Path.{_≡_, refl, sym, ap, _∙_}
-use mathlib.Core.List.{List}
-use lib.ListN.{length, getD, List·getD-eq-default}
-use lib.Seq.{slice}
+use mathlib.Core.Path.{_≡_, refl, sym, ap, subst, _∙_}
+use mathlib.Core.Bool.{Bool, true, false}
+use mathlib.Core.List.{List, [], _∷_, _++_}
+use lib.ListN.{length, getD, length-append, List·getD-eq-default}
+use lib.Seq.{slice, ext-getD}
+use lib.Dec.{leb}
+use borrow.Author.Tests.{leb-true, leb-false}
 use Rattle.model.specs.Limits.{mostInnerDiagnostics}
 use Rattle.model.specs.Lists.{gather}
 use Rattle.model.specs.Sheet.{Diagnostic, InnerFunction, noFunction}
-use Rattle.model.specs.Reading.{Position, got, refused, _>>=_, pure, count, times, counted}
-use Rattle.model.specs.Sections.{diagnostic, innerFunction}
+use Rattle.model.specs.Reading.{Position}
 use Rattle.model.specs.Answer.{functionErrors, diagnosticWords}
-use Rattle.model.proofs.Got.{got-value, got-next, bind-got}
-use Rattle.workspace.specs.Layout.{HANDED, MUTATIONS, FUNCTIONS}
+use Rattle.hir.specs.Words.{Part, Standing, diagnosticWidth, wide, diagnosticAt, several, listed, functionFrom}
+use Rattle.hir.specs.Parts.{ListAt}
+use Rattle.hir.specs.declared.at.List.{List as Listed}
+use Rattle.hir.proofs.Standing.{part}
+use Rattle.hir.proofs.Widths.{wide-rises, several-wide, listed-rises}
+use Rattle.workspace.specs.Layout.{FUNCTIONS, HANDED}
+use Rattle.workspace.proofs.Tables.{tab-length, tab-at}
+use Rattle.writing.specs.Wrote.{Wrote}
 use Rattle.writing.proofs.Writing.{wrote-none, wrote-as}
 use Rattle.copies.specs.Copies.{Copies}
-use Rattle.copies.specs.Functions.{Functions, Appended, AllAppended}
-use Rattle.copies.proofs.Copying.{counted-got, counted-refused}
+use Rattle.copies.specs.Functions.{functionAt, functionsOf, Functions}
+use Rattle.copies.proofs.Copying.{Copying, list-is}
 use Rattle.copies.proofs.Gathers.{gather-append}
 use Rattle.copies.proofs.Loops.{Leaves, leaves-all, leaves-then, leaves-none, slice-next, slice-none}
+use Rattle.copies.proofs.Sections.{diagnostics-length}
 
--- the list of an inner function
-module _ (ws : List ℕ) (c : Position) (f : InnerFunction) (d : Position) where
-  list-got : innerFunction ws c ≡ got f d → counted mostInnerDiagnostics diagnostic ws c ≡ got (f .diagnostics) d
-  unfolding innerFunction
-  list-got h =
-      let s = bind-got (counted mostInnerDiagnostics diagnostic) (λ (l : List Diagnostic). pure (record { diagnostics = l })) ws c f d h in
-      s .first ∙ ap (λ (j : Position). got (s .value) j) (got-next (s .second)) ∙ ap (λ (x : InnerFunction). got (x .diagnostics) d) (got-value (s .second))
+-- ---- a diagnostic
+abbrev pub diagnosticFrom : List ℕ → Position → Part Diagnostic
+diagnosticFrom = wide diagnosticWidth diagnosticAt
+
+pub copies-diagnostic : {sheet : List ℕ} {c : Position} {d : Diagnostic} {a : List ℕ} {at : ℕ} {a′ : List ℕ} {at′ : ℕ} → d ≡ diagnosticAt sheet c → Wrote (d ∷ []) a at a′ at′
+    → Copies diagnosticFrom diagnosticWords sheet c a at a′ at′ (c + diagnosticWidth)
+copies-diagnostic e w = record { wrote = wrote-as w (ap diagnosticWords e); after = refl; few = omega (arith, w .next) }
+
+-- as many words as diagnostics
+pub diagnostics-room : {sheet : List ℕ} {k₀ : ℕ} {c₀ : Position} {a₀ : List ℕ} {at₀ k : ℕ} {c : Position} {a : List ℕ} {at : ℕ} → Copying diagnosticFrom diagnosticWords sheet k₀ c₀ a₀ at₀ k c a at → at + k ≤ at₀ + k₀
+diagnostics-room {sheet} {k₀} {c₀} {k = k} {c} v = omega (arith, v .few, v .next, several-wide diagnosticWidth k diagnosticAt sheet c, several-wide diagnosticWidth k₀ diagnosticAt sheet c₀)
 
 -- ---- one function
-module _ (sheet ws : List ℕ) (m k : ℕ) where
-  pub appended : k < m → {n : ℕ} {j c′ : Position} {a : List ℕ} {at : ℕ} {a′ : List ℕ} {at′ : ℕ} → count mostInnerDiagnostics sheet (getD ws (FUNCTIONS + k) 0) ≡ got n j
-      → Copies (times n diagnostic sheet j) (gather diagnosticWords) 64 a at a′ at′ c′ → Appended sheet ws m k a at a′ at′
-  appended z e p = record {
-    wrote = λ fs q g.
-        let h = g .each k (omega (arith, z, q)) in
-        p .wrote (functionErrors fs k) (h .0) (counted-got mostInnerDiagnostics diagnostic sheet (getD ws (FUNCTIONS + k) 0) e (list-got sheet (getD ws (FUNCTIONS + k) 0) (getD fs k noFunction) (h .0) (h .1)));
-    few = p .few;
-  }
+module _ {A : Type 0} where
+  several-length : (k : ℕ) (f : Standing A) (sheet : List ℕ) (c : Position) → length (several k f sheet c .what) ≡ k
+  unfolding several
+  several-length zero f sheet c = refl
+  several-length (suc k) f sheet c = ap suc (several-length k f sheet (f sheet c .next))
 
-  pub appended-refused : k < m → {n : ℕ} (a : List ℕ) (at : ℕ) → count mostInnerDiagnostics sheet (getD ws (FUNCTIONS + k) 0) ≡ refused n → Appended sheet ws m k a at a at
-  appended-refused z a at e = record {
-    wrote = λ fs q g.
-        let h = g .each k (omega (arith, z, q)) in
-        absurd (counted-refused mostInnerDiagnostics diagnostic sheet (getD ws (FUNCTIONS + k) 0) e (list-got sheet (getD ws (FUNCTIONS + k) 0) (getD fs k noFunction) (h .0) (h .1)));
-    few = omega arith;
-  }
+-- its list stands at p
+module _ (sheet : List ℕ) (p : Position) where
+  function-rises : p + 1 ≤ functionFrom sheet p .next
+  unfolding functionFrom
+  function-rises = listed-rises diagnosticFrom (wide-rises diagnosticWidth diagnosticAt) sheet p
 
-  -- there is no such function
-  pub appended-none : m ≤ k → (a : List ℕ) (at : ℕ) → Appended sheet ws m k a at a at
-  appended-none z a at = record {
-    wrote = λ fs q g.
-        let e : getD fs k noFunction ≡ noFunction = List·getD-eq-default fs noFunction {n = k} (omega (arith, z, q)) in
-        wrote-as (wrote-none a at) (ap (λ (f : InnerFunction). gather diagnosticWords (f .diagnostics)) (sym e));
-    few = omega arith;
-  }
+  function-list : {l : Listed} → ListAt sheet p l → functionFrom sheet p ≡ part (record { diagnostics = several (l .count) diagnosticFrom sheet (l .first) .what }) (several (l .count) diagnosticFrom sheet (l .first) .next)
+  unfolding functionFrom
+  function-list h = ap (λ (x : Part (List Diagnostic)). part (record { diagnostics = x .what }) (x .next)) (list-is diagnosticFrom sheet p h)
 
--- ---- all functions handed over
-pub record Handing (sheet ws : List ℕ) (m hand : ℕ) (a₀ : List ℕ) (at₀ i : ℕ) (a : List ℕ) (at : ℕ) : Type 0 where
-  pub leaves : (fs : List InnerFunction) → length fs ≡ m → Functions sheet ws fs
-      → Leaves (gather diagnosticWords (gather (functionErrors fs) (slice HANDED hand ws))) (gather diagnosticWords (gather (functionErrors fs) (slice i hand ws))) a₀ at₀ a at
-  pub few : at + 64 * (hand - i) ≤ at₀ + 32768
-  pub same : length a ≡ length a₀
+module _ (sheet ws : List ℕ) (m : ℕ) where
+  functions-length : length (functionsOf sheet ws m) ≡ m
+  unfolding functionsOf
+  functions-length = tab-length m (λ (k : ℕ). functionAt sheet ws k .what)
 
-pub handing-start : (sheet ws : List ℕ) (m hand : ℕ) (a : List ℕ) (at : ℕ) → hand ≤ MUTATIONS → Handing sheet ws m hand a at HANDED a at
-handing-start sheet ws m hand a at h = record { leaves = λ fs q g. leaves-all (gather diagnosticWords (gather (functionErrors fs) (slice HANDED hand ws))) a at; few = omega (arith, h); same = refl }
+  function-at : (k : ℕ) → k < m → getD (functionsOf sheet ws m) k noFunction ≡ functionAt sheet ws k .what
+  unfolding functionsOf
+  function-at k h = tab-at m (λ (j : ℕ). functionAt sheet ws j .what) k noFunction h
 
-module _ {sheet ws : List ℕ} {m hand : ℕ} {a₀ : List ℕ} {at₀ i : ℕ} {a : List ℕ} {at : ℕ} (v : Handing sheet ws m hand a₀ at₀ i a at) where
-  pub handing-turn : i < hand → hand ≤ length ws → {a′ : List ℕ} {at′ : ℕ} → Appended sheet ws m (getD ws i 0) a at a′ at′ → length a′ ≡ length a → Handing sheet ws m hand a₀ at₀ (i + 1) a′ at′
-  handing-turn h k p e = record {
-    leaves = λ fs q g.
-        leaves-then (v .leaves fs q g) (p .wrote fs q g)
+-- fs are those that the words name
+pub functions-are : {sheet ws : List ℕ} {fs : List InnerFunction} {m : ℕ} → Functions sheet ws fs → m ≡ length fs → functionsOf sheet ws m ≡ fs
+functions-are {sheet} {ws} {fs} {m} g e =
+    ext-getD noFunction (functionsOf sheet ws m) fs (functions-length sheet ws m ∙ e)
+    (λ k h. let z : k < m = omega (arith, h, functions-length sheet ws m) in function-at sheet ws m k z ∙ g .is k (omega (arith, z, e)))
+
+-- they stay if their words stay
+pub functions-kept : {sheet ws ws′ : List ℕ} {fs : List InnerFunction} → ((k : ℕ) → k < length fs → getD ws′ (FUNCTIONS + k) 0 ≡ getD ws (FUNCTIONS + k) 0) → Functions sheet ws fs → Functions sheet ws′ fs
+functions-kept {sheet} {fs = fs} e g = record {
+  is = λ k h. ap (λ (p : Position). functionFrom sheet p .what) (e k h) ∙ g .is k h;
+  inside = λ k h. subst (λ (p : Position). functionFrom sheet p .next ≤ length sheet) (sym (e k h)) (g .inside k h);
+  few = g .few;
+}
+
+-- no function has more diagnostics than the limit
+pub errors-few : {sheet ws : List ℕ} {fs : List InnerFunction} → Functions sheet ws fs → (k : ℕ) → length (functionErrors fs k) ≤ mostInnerDiagnostics
+errors-few {fs = fs} g k = go (leb (length fs) k) refl
+  where
+    go : (b : Bool) → leb (length fs) k ≡ b → length (functionErrors fs k) ≤ mostInnerDiagnostics
+    go true e = omega (arith, ap (λ (f : InnerFunction). length (f .diagnostics)) (List·getD-eq-default fs noFunction {n = k} (leb-true (length fs) k e)))
+    go false e = g .few k (leb-false (length fs) k e)
+
+-- nor have several
+pub handed-few : {sheet ws : List ℕ} {fs : List InnerFunction} → Functions sheet ws fs → (l : List ℕ) → length (gather diagnosticWords (gather (functionErrors fs) l)) ≤ mostInnerDiagnostics * length l
+handed-few g [] = omega arith
+handed-few {fs = fs} g (k ∷ l) =
+    let one : List Diagnostic = functionErrors fs k in
+    let rest : List Diagnostic = gather (functionErrors fs) l in
+    omega (arith, diagnostics-length (one ++ rest), length-append one rest, diagnostics-length rest, errors-few g k, handed-few g l)
+
+-- of one function that is not there
+pub errors-none : (sheet ws : List ℕ) (m k : ℕ) → m ≤ k → (a : List ℕ) (at : ℕ) → Wrote (gather diagnosticWords (functionErrors (functionsOf sheet ws m) k)) a at a at
+errors-none sheet ws m k z a at =
+    let e : getD (functionsOf sheet ws m) k noFunction ≡ noFunction = List·getD-eq-default (functionsOf sheet ws m) noFunction {n = k} (omega (arith, z, functions-length sheet ws m)) in
+    wrote-as (wrote-none a at) (ap (λ (f : InnerFunction). gather diagnosticWords (f .diagnostics)) (sym e))
+
+module _ {sheet ws : List ℕ} {m k : ℕ} (g : Functions sheet ws (functionsOf sheet ws m)) (z : k < m) where
+  there : k < length (functionsOf sheet ws m)
+  there = omega (arith, z, functions-length sheet ws m)
+
+  -- its count stands in the sheet
+  pub errors-begin : getD ws (FUNCTIONS + k) 0 + 1 ≤ length sheet
+  errors-begin = omega (arith, function-rises sheet (getD ws (FUNCTIONS + k) 0), g .inside k there)
+
+  module _ {l : Listed} (h : ListAt sheet (getD ws (FUNCTIONS + k) 0) l) where
+    list-errors : several (l .count) diagnosticFrom sheet (l .first) .what ≡ functionErrors (functionsOf sheet ws m) k
+    list-errors = ap (λ (x : Part InnerFunction). x .what .diagnostics) (sym (function-list sheet (getD ws (FUNCTIONS + k) 0) h)) ∙ ap (λ (f : InnerFunction). f .diagnostics) (g .is k there)
+
+    pub errors-inside : several (l .count) diagnosticFrom sheet (l .first) .next ≤ length sheet
+    errors-inside = omega (arith, g .inside k there, ap (λ (x : Part InnerFunction). x .next) (function-list sheet (getD ws (FUNCTIONS + k) 0) h))
+
+    pub errors-room : l .count ≤ mostInnerDiagnostics
+    errors-room = omega (arith, g .few k there, ap (λ (x : List Diagnostic). length x) list-errors, several-length (l .count) diagnosticFrom sheet (l .first))
+
+    pub errors-wrote : {a : List ℕ} {at : ℕ} {a′ : List ℕ} {at′ : ℕ} → Wrote (gather diagnosticWords (several (l .count) diagnosticFrom sheet (l .first) .what)) a at a′ at′
+        → Wrote (gather diagnosticWords (functionErrors (functionsOf sheet ws m) k)) a at a′ at′
+    errors-wrote w = wrote-as w (ap (gather diagnosticWords) list-errors)
+
+-- ---- all functions handed over, from word i on
+pub record Handing (fs : List InnerFunction) (ws : List ℕ) (hand : ℕ) (a₀ : List ℕ) (at₀ i : ℕ) (a : List ℕ) (at : ℕ) : Type 0 where
+  pub leaves : Leaves (gather diagnosticWords (gather (functionErrors fs) (slice HANDED hand ws))) (gather diagnosticWords (gather (functionErrors fs) (slice i hand ws))) a₀ at₀ a at
+  pub few : at + mostInnerDiagnostics * (hand - i) ≤ at₀ + mostInnerDiagnostics * (hand - HANDED)
+
+pub handing-start : (fs : List InnerFunction) (ws : List ℕ) (hand : ℕ) (a : List ℕ) (at : ℕ) → Handing fs ws hand a at HANDED a at
+handing-start fs ws hand a at = record { leaves = leaves-all (gather diagnosticWords (gather (functionErrors fs) (slice HANDED hand ws))) a at; few = omega arith }
+
+module _ {fs : List InnerFunction} {ws : List ℕ} {hand : ℕ} {a₀ : List ℕ} {at₀ i : ℕ} {a : List ℕ} {at : ℕ} (v : Handing fs ws hand a₀ at₀ i a at) where
+  pub handing-turn : {sheet : List ℕ} → Functions sheet ws fs → i < hand → hand ≤ length ws → {a′ : List ℕ} {at′ : ℕ} → Wrote (gather diagnosticWords (functionErrors fs (getD ws i 0))) a at a′ at′ → Handing fs ws hand a₀ at₀ (i + 1) a′ at′
+  handing-turn g h k p = record {
+    leaves =
+        leaves-then (v .leaves) p
         (ap (λ (l : List ℕ). gather diagnosticWords (gather (functionErrors fs) l)) (slice-next i hand ws h k) ∙ gather-append diagnosticWords (functionErrors fs (getD ws i 0)) (gather (functionErrors fs) (slice (i + 1) hand ws)));
-    few = omega (arith, v .few, p .few, h);
-    same = e ∙ v .same;
+    few = omega (arith, v .few, p .next, diagnostics-length (functionErrors fs (getD ws i 0)), errors-few g (getD ws i 0), h);
   }
 
-  pub handing-end : hand ≤ i → AllAppended sheet ws m hand a₀ at₀ a at
-  handing-end h = record {
-    wrote = λ fs q g. leaves-none (v .leaves fs q g) (ap (λ (l : List ℕ). gather diagnosticWords (gather (functionErrors fs) l)) (slice-none i hand ws h));
-    few = omega (arith, v .few);
-  }
+  pub handing-end : hand ≤ i → Wrote (gather diagnosticWords (gather (functionErrors fs) (slice HANDED hand ws))) a₀ at₀ a at
+  handing-end h = leaves-none (v .leaves) (ap (λ (l : List ℕ). gather diagnosticWords (gather (functionErrors fs) l)) (slice-none i hand ws h))

@@ -1,13 +1,10 @@
 pub mod Gathers
 pub mod Lengths
 pub mod Loops
-pub mod Positions
-pub mod Standing
+pub mod Accepted
 pub mod Copying
 pub mod Passing
-pub mod Identifiers
 pub mod Blocks
 pub mod Sections
-pub mod KindWords
 pub mod Errors
 pub mod Creates

@@ -5,7 +5,7 @@ use native.Mathlib.Numerals.{add-one}
 use mathlib.Core.Path.{_≡_, refl, sym, ap, _∙_}
 use mathlib.Core.List.{List, [], _∷_, _++_}
 use lib.ListN.{length, getD, take, drop, length-append, length-take, drop-of-length-le}
-use lib.Seq.{sets, slice, slice-cons}
+use lib.Seq.{sets, slice, slice-cons, length-sets}
 use Rattle.model.specs.Lists.{gather}
 use Rattle.workspace.specs.Graph.{tab}
 use Rattle.workspace.proofs.Parts.{sets-append}
@@ -40,6 +40,10 @@ leaves-none {whole} {rest} {a₀} {a} {at₀} {at} h e = record {
   next = omega (arith, h .next, ap (λ (l : List ℕ). length l) e);
 }
 
+-- the buffer keeps its length
+pub leaves-same : {whole rest a₀ a : List ℕ} {at₀ at : ℕ} → Leaves whole rest a₀ at₀ a at → length a ≡ length a₀
+leaves-same {whole} {rest} {a₀} {a} {at₀} {at} h = sym (length-sets a at rest) ∙ ap (λ (l : List ℕ). length l) (h .words) ∙ length-sets a₀ at₀ whole
+
 -- the elements of a table, one after another
 module _ {A : Type 0} (w : A → List ℕ) (n : ℕ) (f : ℕ → A) where
   pub table-turn : {whole a₀ a a′ : List ℕ} {at₀ at at′ : ℕ} (i : ℕ) → Leaves whole (gather w (drop i (tab n f))) a₀ at₀ a at → i < n
@@ -55,31 +59,3 @@ slice-next i t ws h k = slice-cons i t ws 0 h k ∙ ap (λ (j : ℕ). getD ws i 
 
 pub slice-none : (i t : ℕ) (ws : List ℕ) → t ≤ i → slice i t ws ≡ []
 slice-none i t ws h = let n : length (take t ws) ≤ i = omega (arith, h, length-take t ws) in drop-of-length-le (take t ws) {i = i} n
-
--- k words from c on, copied as they stand, with i of them done
-pub record Verbatim (ws : List ℕ) (c k : ℕ) (a₀ : List ℕ) (at₀ i : ℕ) (a : List ℕ) (at : ℕ) : Type 0 where
-  pub leaves : Leaves (slice c (c + k) ws) (slice (c + i) (c + k) ws) a₀ at₀ a at
-  pub next : at ≡ at₀ + i
-  pub same : length a ≡ length a₀
-
-pub verbatim-start : (ws : List ℕ) (c k : ℕ) (a : List ℕ) (at : ℕ) → Verbatim ws c k a at 0 a at
-verbatim-start ws c k a at =
-    let q : c ≡ c + 0 = omega arith in
-    record {
-      leaves = leaves-as (leaves-all (slice c (c + k) ws) a at) (ap (λ (j : ℕ). slice j (c + k) ws) q);
-      next = omega arith;
-      same = refl;
-    }
-
-module _ {ws : List ℕ} {c k : ℕ} {a₀ : List ℕ} {at₀ i : ℕ} {a : List ℕ} {at : ℕ} (v : Verbatim ws c k a₀ at₀ i a at) where
-  pub verbatim-turn : i < k → c + k ≤ length ws → {a′ : List ℕ} {at′ : ℕ} → Wrote (getD ws (c + i) 0 ∷ []) a at a′ at′ → length a′ ≡ length a → Verbatim ws c k a₀ at₀ (i + 1) a′ at′
-  verbatim-turn h b p e =
-      let q : c + i + 1 ≡ c + (i + 1) = omega arith in
-      record {
-        leaves = leaves-then (v .leaves) p (slice-next (c + i) (c + k) ws (omega (arith, h)) b ∙ ap (λ (j : ℕ). getD ws (c + i) 0 ∷ slice j (c + k) ws) q);
-        next = omega (arith, p .next, v .next);
-        same = e ∙ v .same;
-      }
-
-  pub verbatim-end : k ≤ i → Wrote (slice c (c + k) ws) a₀ at₀ a at
-  verbatim-end h = leaves-none (v .leaves) (slice-none (c + i) (c + k) ws (omega (arith, h)))

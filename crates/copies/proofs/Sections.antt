@@ -55,9 +55,8 @@ recorded-none s e = rw e
 pub effects-length : (l : List Effect) → length (gather effectWords l) ≡ 8 * length l
 effects-length l = gather-length effectWords 8 (λ e. refl) l
 
-pub diagnostics-same : (l : List Diagnostic) → gather diagnosticWords l ≡ l
-diagnostics-same [] = refl
-diagnostics-same (d ∷ l) = ap (λ (r : List Diagnostic). d ∷ r) (diagnostics-same l)
+pub diagnostics-length : (l : List Diagnostic) → length (gather diagnosticWords l) ≡ length l
+diagnostics-length l = omega (arith, gather-length diagnosticWords 1 (λ d. refl) l)
 
 -- ---- a section whose count is known only at its end
 pub section-patched : {A : Type 0} (w : A → List ℕ) (l : List A) {x : ℕ} {a b : List ℕ} {at r : ℕ} → Wrote (x ∷ gather w l) a at b r → Wrote (section w l) a at (set b at (length l)) r
@@ -72,4 +71,4 @@ effects-count l h = omega (arith, h .next, effects-length l)
 
 -- of diagnostics
 pub diagnostics-count : (l : List Diagnostic) {x : ℕ} {a b : List ℕ} {at r : ℕ} → Wrote (x ∷ gather diagnosticWords l) a at b r → r - (at + 1) ≡ length l
-diagnostics-count l h = let e : length (gather diagnosticWords l) ≡ 1 * length l = gather-length diagnosticWords 1 (λ d. refl) l in omega (arith, h .next, e)
+diagnostics-count l h = omega (arith, h .next, diagnostics-length l)

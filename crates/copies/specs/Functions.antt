@@ -1,28 +1,24 @@
--- The diagnostics of inner functions, where the workspace says in which place of the sheet each function's list stands.
+-- The inner functions of the sheet, where the workspace says at which position each one's list stands.
 use Prim.Native.Nat.{ℕ, _+_, _≤_, _<_}
 use mathlib.Core.Path.{_≡_}
 use mathlib.Core.List.{List}
 use lib.ListN.{length, getD}
-use lib.Seq.{slice}
-use Rattle.model.specs.Lists.{gather}
+use Rattle.model.specs.Limits.{mostInnerDiagnostics}
 use Rattle.model.specs.Sheet.{InnerFunction, noFunction}
-use Rattle.model.specs.Reading.{Position, got}
-use Rattle.model.specs.Sections.{innerFunction}
-use Rattle.model.specs.Answer.{functionErrors, diagnosticWords}
-use Rattle.workspace.specs.Layout.{FUNCTIONS, HANDED}
-use Rattle.writing.specs.Wrote.{Wrote}
+use Rattle.hir.specs.Words.{Part, functionFrom}
+use Rattle.workspace.specs.Layout.{FUNCTIONS}
+use Rattle.workspace.specs.Graph.{tab}
 
--- each inner function is read at the position in its word
+-- inner function k, at the position in its word
+abbrev pub functionAt : List ℕ → List ℕ → ℕ → Part InnerFunction
+functionAt sheet ws k = functionFrom sheet (getD ws (FUNCTIONS + k) 0)
+
+-- the first m of them
+unfoldable pub functionsOf : List ℕ → List ℕ → ℕ → List InnerFunction
+functionsOf sheet ws m = tab m (λ (k : ℕ). functionAt sheet ws k .what)
+
+-- fs are inner functions that stand in the sheet, none with more diagnostics than its limit
 pub record Functions (sheet ws : List ℕ) (fs : List InnerFunction) : Type 0 where
-  pub each : (k : ℕ) → k < length fs → (d : Position) × (innerFunction sheet (getD ws (FUNCTIONS + k) 0) ≡ got (getD fs k noFunction) d)
-
--- the diagnostics of inner function k of m
-pub record Appended (sheet ws : List ℕ) (m k : ℕ) (answer : List ℕ) (at : ℕ) (answer′ : List ℕ) (r : ℕ) : Type 0 where
-  pub wrote : (fs : List InnerFunction) → length fs ≡ m → Functions sheet ws fs → Wrote (gather diagnosticWords (functionErrors fs k)) answer at answer′ r
-  pub few : r ≤ at + 64
-
--- those of all functions handed over, up to the word `hand`
-pub record AllAppended (sheet ws : List ℕ) (m hand : ℕ) (answer : List ℕ) (at : ℕ) (answer′ : List ℕ) (r : ℕ) : Type 0 where
-  pub wrote : (fs : List InnerFunction) → length fs ≡ m → Functions sheet ws fs
-      → Wrote (gather diagnosticWords (gather (functionErrors fs) (slice HANDED hand ws))) answer at answer′ r
-  pub few : r ≤ at + 32768
+  pub is : (k : ℕ) → k < length fs → functionAt sheet ws k .what ≡ getD fs k noFunction
+  pub inside : (k : ℕ) → k < length fs → functionAt sheet ws k .next ≤ length sheet
+  pub few : (k : ℕ) → k < length fs → length (getD fs k noFunction .diagnostics) ≤ mostInnerDiagnostics

@@ -1,46 +1,42 @@
 // The diagnostics of inner functions (the original's `append_function_errors`).
-ghost use Prim.Native.Nat.{_+_, _-_, _≤_, _<_};
+ghost use Prim.Native.Nat.{_+_, _-_, _*_, _≤_};
 ghost use lib.ListN.{length};
+ghost use lib.Seq.{slice};
+ghost use Rattle.model.specs.Limits.{mostFunctions, mostInnerDiagnostics};
 ghost use Rattle.model.specs.Lists.{gather};
-ghost use Rattle.model.specs.Reading.{times};
-ghost use Rattle.model.specs.Sections.{diagnostic};
-ghost use Rattle.model.specs.Answer.{diagnosticWords};
-ghost use Rattle.workspace.specs.Layout.{LEAST, MUTATIONS};
-ghost use Rattle.writing.specs.Wrote.{farthest};
-ghost use Rattle.copies.specs.Copies.{Copies};
-ghost use Rattle.copies.specs.Functions.{Appended, AllAppended};
-use crate::Copied;
-use hir::Cursor;
+ghost use Rattle.model.specs.Answer.{functionErrors, diagnosticWords};
+ghost use Rattle.hir.specs.Words.{diagnosticWidth, wide, diagnosticAt, several};
+ghost use Rattle.workspace.specs.Layout.{LEAST, HANDED, MUTATIONS};
+ghost use Rattle.writing.specs.Wrote.{Wrote, farthest};
+ghost use Rattle.copies.specs.Functions.{functionsOf, Functions};
 use hir::FunctionId;
-use hir::WordStep;
+use hir::at::DIAGNOSTIC_WIDTH;
+use hir::at::List;
+use hir::at::diagnostic_at;
+use hir::at::list_at;
 use workspace::FUNCTIONS;
 use workspace::HANDED;
 use writing::put;
 
-// `count` diagnostics.
-fn copy_diagnostics(sheet: &[u32], c: Cursor, count: u32, answer: &mut [u32], at: usize) -> Copied
-    requires { ⌜ (count ≤ 64) × (at + 64 ≤ farthest) ⌝ }
-    ensures { λ r. ⌜ Copies (times count diagnostic (now (sheet .entry)) (c .at)) (gather diagnosticWords) 64 (now (answer .entry)) at (now (answer .exit)) (r .at) (r .next .at) ⌝ }
+// A list of diagnostics.
+fn copy_diagnostics(sheet: &[u32], list: List, answer: &mut [u32], at: usize) -> usize
+    requires { ⌜ several (list .count) (wide diagnosticWidth diagnosticAt) (now sheet) (list .first) .next ≤ length (now sheet) ⌝ }
+    requires { ⌜ at + list .count ≤ farthest ⌝ }
+    ensures { λ r. ⌜ Wrote (gather diagnosticWords (several (list .count) (wide diagnosticWidth diagnosticAt) (now (sheet .entry)) (list .first) .what)) (now (answer .entry)) at (now (answer .exit)) r ⌝ }
 {
-    let mut left = count;
-    let mut next = c;
+    let mut left = list.count;
+    let mut next = list.first;
     let mut to = at;
     while 0 < left {
-        match next.at_most(sheet, 65535) {
-            WordStep::Got(w, d) => {
-                to = put(answer, to, w);
-                next = d;
-            }
-            WordStep::Refused(_) => {
-                return Copied { at: to, next };
-            }
-        }
+        let d = diagnostic_at(sheet, next);
+        to = put(answer, to, d.0);
+        next += DIAGNOSTIC_WIDTH;
         left -= 1;
     }
-    Copied { at: to, next }
+    to
 }
 
-// The diagnostics of an inner function, whose list stands where the workspace says. A function of the sheet is below `count`; the test spares a claim about all functions in the graph.
+// The diagnostics of one of `count` inner functions, whose list stands where the workspace says. A function that is not there has none.
 fn append_function_errors(
     sheet: &[u32],
     ws: &[u32],
@@ -49,23 +45,17 @@ fn append_function_errors(
     answer: &mut [u32],
     at: usize,
 ) -> usize
-    requires { ⌜ (count ≤ 64) × (LEAST ≤ length (now ws)) ⌝ }
-    requires { ⌜ at + 64 ≤ farthest ⌝ }
-    ensures { λ r. ⌜ Appended (now (sheet .entry)) (now (ws .entry)) count (function .0) (now (answer .entry)) at (now (answer .exit)) r ⌝ }
+    requires { ⌜ (count ≤ mostFunctions) × (LEAST ≤ length (now ws)) ⌝ }
+    requires { ⌜ Functions (now sheet) (now ws) (functionsOf (now sheet) (now ws) count) ⌝ }
+    requires { ⌜ at + mostInnerDiagnostics ≤ farthest ⌝ }
+    ensures { λ r. ⌜ Wrote (gather diagnosticWords (functionErrors (functionsOf (now (sheet .entry)) (now (ws .entry)) count) (function .0))) (now (answer .entry)) at (now (answer .exit)) r ⌝ }
 {
     if count <= function.0 {
         return at;
     }
     let k = function.0 as usize;
     let start = ws[FUNCTIONS + k] as usize;
-    let c = Cursor { at: start };
-    match c.count(sheet, 64) {
-        WordStep::Got(diagnostics, d) => {
-            let r = copy_diagnostics(sheet, d, diagnostics, answer, at);
-            r.at
-        }
-        WordStep::Refused(_) => at,
-    }
+    copy_diagnostics(sheet, list_at(sheet, start), answer, at)
 }
 
 // The diagnostics of the inner functions that mutations handed over, up to `hand`.
@@ -77,9 +67,10 @@ pub fn put_handed(
     answer: &mut [u32],
     at: usize,
 ) -> usize
-    requires { ⌜ (count ≤ 64) × ((hand ≤ MUTATIONS) × (LEAST ≤ length (now ws))) ⌝ }
-    requires { ⌜ at + 32768 ≤ farthest ⌝ }
-    ensures { λ r. ⌜ AllAppended (now (sheet .entry)) (now (ws .entry)) count hand (now (answer .entry)) at (now (answer .exit)) r ⌝ }
+    requires { ⌜ (count ≤ mostFunctions) × ((hand ≤ MUTATIONS) × (LEAST ≤ length (now ws))) ⌝ }
+    requires { ⌜ Functions (now sheet) (now ws) (functionsOf (now sheet) (now ws) count) ⌝ }
+    requires { ⌜ at + mostInnerDiagnostics * (hand - HANDED) ≤ farthest ⌝ }
+    ensures { λ r. ⌜ Wrote (gather diagnosticWords (gather (functionErrors (functionsOf (now (sheet .entry)) (now (ws .entry)) count)) (slice HANDED hand (now (ws .entry))))) (now (answer .entry)) at (now (answer .exit)) r ⌝ }
 {
     let mut to = at;
     let mut i = HANDED;

@@ -4,7 +4,6 @@ ghost use Rattle.model.specs.Answer.{placeWords, effectWords};
 ghost use Rattle.hir.specs.Says.{placeIs, effectIs};
 ghost use Rattle.writing.specs.Wrote.{Wrote, farthest};
 use hir::AliasingEffect;
-use hir::Cursor;
 use hir::Effect;
 use hir::IdentifierId;
 use hir::Place;
@@ -27,7 +26,7 @@ pub const NO_PLACE: Place = Place {
 // Where the answer and the reading stand after a part of the sheet was copied.
 pub struct Copied {
     pub at: usize,
-    pub next: Cursor,
+    pub next: usize,
 }
 
 // A place in words.

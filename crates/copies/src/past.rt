@@ -1,65 +1,31 @@
-// Parts of the sheet that are passed over: their lengths follow from their counts.
+// Where a part ends that is passed over.
 ghost use mathlib.Core.Path.{_≡_};
-ghost use Prim.Native.Nat.{ℕ, _+_, _≤_};
+ghost use Prim.Native.Nat.{_≤_};
 ghost use lib.ListN.{length};
-ghost use Rattle.model.specs.Limits.{mostCount};
-ghost use Rattle.model.specs.Reading.{counted};
-ghost use Rattle.model.specs.Sections.{effects, phi, terminal};
-ghost use Rattle.copies.specs.Copies.{Past};
-use hir::Cursor;
-use hir::KindStep;
-use hir::TerminalKind;
-use hir::WordStep;
+ghost use Rattle.hir.specs.Words.{phiFrom, phisFrom, terminalFrom};
+use hir::at::EFFECT_WIDTH;
+use hir::at::OPERAND_WIDTH;
+use hir::at::PLACE_WIDTH;
+use hir::at::Terminal;
+use hir::at::list_at;
+use hir::at::terminal_at;
 
-// k words further, where the sheet has them.
-pub fn past(sheet: &[u32], c: Cursor, k: usize) -> Cursor
-    ensures { λ r. ⌜ (c .at + k ≤ length (now (sheet .entry)) → r .at ≡ c .at + k) ⌝ }
+fn past_phi(sheet: &[u32], from: usize) -> usize
+    requires { ⌜ phiFrom (now sheet) from .next ≤ length (now sheet) ⌝ }
+    ensures { λ r. ⌜ r ≡ phiFrom (now (sheet .entry)) from .next ⌝ }
 {
-    let at = c.at;
-    if at <= sheet.len() {
-        if k <= sheet.len() - at {
-            return Cursor { at: at + k };
-        }
-    }
-    c
+    let operands = list_at(sheet, from + PLACE_WIDTH);
+    operands.first + (operands.count as usize) * OPERAND_WIDTH
 }
 
-// Past an effect count and the effects, eight words each.
-pub fn past_effects(sheet: &[u32], c: Cursor) -> Cursor
-    ensures { λ r. ⌜ ((n m : ℕ) → Past (effects n m (now (sheet .entry)) (c .at)) (r .at)) ⌝ }
+// A phi count and the phis.
+pub fn past_phis(sheet: &[u32], from: usize) -> usize
+    requires { ⌜ phisFrom (now sheet) from .next ≤ length (now sheet) ⌝ }
+    ensures { λ r. ⌜ r ≡ phisFrom (now (sheet .entry)) from .next ⌝ }
 {
-    match c.count(sheet, 1024) {
-        WordStep::Got(k, d) => past(sheet, d, (8 * k) as usize),
-        WordStep::Refused(_) => c,
-    }
-}
-
-// Past a phi: a place, an operand count, and the operands, four words each.
-pub fn past_phi(sheet: &[u32], c: Cursor) -> Cursor
-    ensures { λ r. ⌜ ((n : ℕ) → Past (phi n (now (sheet .entry)) (c .at)) (r .at)) ⌝ }
-{
-    let inside = past(sheet, c, 3);
-    match inside.count(sheet, 1024) {
-        WordStep::Got(k, d) => past(sheet, d, (4 * k) as usize),
-        WordStep::Refused(_) => c,
-    }
-}
-
-// Past a phi count and the phis.
-pub fn past_phis(sheet: &[u32], c: Cursor) -> Cursor
-    ensures { λ r. ⌜ ((n : ℕ) → Past (counted mostCount (phi n) (now (sheet .entry)) (c .at)) (r .at)) ⌝ }
-{
-    let mut left: u32;
-    let mut next: Cursor;
-    match c.count(sheet, 1024) {
-        WordStep::Got(k, d) => {
-            left = k;
-            next = d;
-        }
-        WordStep::Refused(_) => {
-            return c;
-        }
-    }
+    let list = list_at(sheet, from);
+    let mut left = list.count;
+    let mut next = list.first;
     while 0 < left {
         next = past_phi(sheet, next);
         left -= 1;
@@ -67,19 +33,13 @@ pub fn past_phis(sheet: &[u32], c: Cursor) -> Cursor
     next
 }
 
-// Past a terminal.
-pub fn past_terminal(sheet: &[u32], c: Cursor) -> Cursor
-    ensures { λ r. ⌜ ((n m : ℕ) → Past (terminal n m (now (sheet .entry)) (c .at)) (r .at)) ⌝ }
+pub fn past_terminal(sheet: &[u32], from: usize) -> usize
+    requires { ⌜ terminalFrom (now sheet) from .next ≤ length (now sheet) ⌝ }
+    ensures { λ r. ⌜ r ≡ terminalFrom (now (sheet .entry)) from .next ⌝ }
 {
-    match c.terminal_kind(sheet) {
-        KindStep::Got(kind, d) => {
-            let inside = past(sheet, d, 1);
-            match kind {
-                TerminalKind::Other => inside,
-                TerminalKind::Return => past_effects(sheet, past(sheet, inside, 3)),
-                TerminalKind::MaybeThrow => past_effects(sheet, inside),
-            }
-        }
-        KindStep::Refused(_) => c,
+    match terminal_at(sheet, from) {
+        Terminal::Other(next) => next,
+        Terminal::Return(_, effects) => effects.first + (effects.count as usize) * EFFECT_WIDTH,
+        Terminal::MaybeThrow(effects) => effects.first + (effects.count as usize) * EFFECT_WIDTH,
     }
 }

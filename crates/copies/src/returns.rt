@@ -1,37 +1,33 @@
 // Create for returns.
 ghost use mathlib.Core.Path.{_≡_};
-ghost use Prim.Native.Nat.{_+_, _≤_, _<_};
-ghost use Rattle.hir.specs.Numbers.{typeSays, valueNumber};
+ghost use Prim.Native.Nat.{_+_, _≤_};
+ghost use lib.ListN.{length};
 ghost use Rattle.model.specs.Summary.{valueKind};
+ghost use Rattle.model.specs.Answer.{effectWords};
+ghost use Rattle.hir.specs.Numbers.{typeSays, valueNumber};
 ghost use Rattle.hir.specs.Says.{placeIs};
-ghost use Rattle.writing.specs.Wrote.{farthest};
-ghost use Rattle.copies.specs.Returns.{TypeAt, Created};
+ghost use Rattle.hir.specs.Words.{effectWidth, identifierWidth, identifierAt};
+ghost use Rattle.writing.specs.Wrote.{Wrote, farthest};
+ghost use Rattle.copies.specs.Returns.{identifierFrom, createOf};
 use crate::NO_PLACE;
 use crate::put_effect;
 use hir::AliasingEffect;
-use hir::Cursor;
 use hir::EffectKind;
 use hir::IdentifierId;
 use hir::IdentifierType;
 use hir::Place;
 use hir::ValueKind;
 use hir::ValueReason;
-use hir::parts::type_of;
+use hir::at::IDENTIFIER_WIDTH;
+use hir::at::identifier_at;
 
-// The type of an identifier, `c` being where the first one stands: the last of its three words.
-fn type_at(sheet: &[u32], c: Cursor, identifier: IdentifierId) -> IdentifierType
-    ensures { λ r. ⌜ TypeAt (now (sheet .entry)) (c .at) (identifier .0) (typeSays r) ⌝ }
+// The type of an identifier, the first of which stands at `first`.
+fn type_at(sheet: &[u32], first: usize, identifier: IdentifierId) -> IdentifierType
+    requires { ⌜ identifierFrom first (identifier .0) + identifierWidth ≤ length (now sheet) ⌝ }
+    ensures { λ r. ⌜ typeSays r ≡ identifierAt (now (sheet .entry)) (identifierFrom first (identifier .0)) .type ⌝ }
 {
-    let at = c.at;
-    let word = 3 * (identifier.0 as usize) + 2;
-    let words = sheet.len();
-    if words <= at {
-        return IdentifierType::Other;
-    }
-    if words - at <= word {
-        return IdentifierType::Other;
-    }
-    type_of(sheet[at + word])
+    let i = identifier_at(sheet, first + IDENTIFIER_WIDTH * (identifier.0 as usize));
+    i.kind
 }
 
 // The kind of value that a type is returned as.
@@ -48,15 +44,16 @@ fn value_kind(t: IdentifierType) -> ValueKind
 // Create for returns, by its identifier's type.
 pub fn put_create_returns(
     sheet: &[u32],
-    c: Cursor,
+    first: usize,
     returns: Place,
     answer: &mut [u32],
     at: usize,
 ) -> usize
-    requires { ⌜ at + 8 ≤ farthest ⌝ }
-    ensures { λ r. ⌜ Created (now (sheet .entry)) (c .at) (placeIs returns) (now (answer .entry)) at (now (answer .exit)) r ⌝ }
+    requires { ⌜ identifierFrom first (returns .identifier .0) + identifierWidth ≤ length (now sheet) ⌝ }
+    requires { ⌜ at + effectWidth ≤ farthest ⌝ }
+    ensures { λ r. ⌜ Wrote (effectWords (createOf (placeIs returns) (identifierAt (now (sheet .entry)) (identifierFrom first (returns .identifier .0)) .type))) (now (answer .entry)) at (now (answer .exit)) r ⌝ }
 {
-    let value = value_kind(type_at(sheet, c, returns.identifier));
+    let value = value_kind(type_at(sheet, first, returns.identifier));
     let reason = ValueReason::KnownReturnSignature;
     let e = AliasingEffect {
         kind: EffectKind::Create,

@@ -1,23 +1,20 @@
 -- What stands in the workspace is in the words from FUNCTIONS on.
 use Prim.Native.Nat.{ℕ, _+_}
 use native.Mathlib.Omega.{arith}
-use mathlib.Core.Path.{_≡_, sym, subst, _∙_}
+use mathlib.Core.Path.{_≡_, _∙_}
 use mathlib.Core.List.{List}
-use lib.ListN.{length, getD, drop}
-use Rattle.model.specs.Sheet.{noFunction, Sheet}
-use Rattle.model.specs.Reading.{Position, got}
-use Rattle.model.specs.Sections.{innerFunction}
+use lib.ListN.{length, drop}
+use Rattle.model.specs.Sheet.{Sheet}
 use Rattle.workspace.specs.Layout.{FUNCTIONS, TRACKED}
 use Rattle.workspace.proofs.Parts.{drop-more, drop-word}
 use Rattle.workspace.proofs.Places.{tracked-kept}
+use Rattle.copies.proofs.Errors.{functions-kept}
 use Rattle.function.specs.Function.{Stands}
 
 -- so it stays if those words stay
 pub stands-kept : (s : Sheet) (sheet : List ℕ) {ws ws′ : List ℕ} → drop FUNCTIONS ws′ ≡ drop FUNCTIONS ws → length ws′ ≡ length ws → Stands s sheet ws → Stands s sheet ws′
 stands-kept s sheet {ws} {ws′} e n h = record {
   size = omega (arith, n, h .size);
-  functions = record {
-    each = λ k l. subst (λ (w : ℕ). (d : Position) × (innerFunction sheet w ≡ got (getD (s .functions) k noFunction) d)) (sym (drop-word FUNCTIONS (FUNCTIONS + k) ws ws′ (omega arith) e)) (h .functions .each k l);
-  };
+  functions = functions-kept (λ k l. drop-word FUNCTIONS (FUNCTIONS + k) ws ws′ (omega arith) e) (h .functions);
   tracked = tracked-kept ws ws′ (length (s .params) + length (s .context) + 1) (drop-more FUNCTIONS TRACKED ws′ ws (omega arith) e) ∙ h .tracked;
 }

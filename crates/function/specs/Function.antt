@@ -4,6 +4,7 @@ use mathlib.Core.Path.{_≡_}
 use mathlib.Core.Bool.{false}
 use mathlib.Core.List.{List, [], _∷_, _++_}
 use lib.ListN.{length}
+use Rattle.model.specs.Limits.{mostSheet}
 use Rattle.model.specs.Sheet.{Sheet}
 use Rattle.model.specs.Reading.{Position, got, times, numbered}
 use Rattle.model.specs.Sections.{identifier, block}
@@ -34,6 +35,8 @@ pub record Describes (s : Sheet) (sheet : List ℕ) (f : HirFunction) : Type 0 w
   pub returns : placeIs (f .returns) ≡ s .returns
   pub identifiers : (e : Position) × (times (f .n) identifier sheet (f .identifiers .at) ≡ got (s .identifiers) e)
   pub blocks : (e : Position) × (numbered (f .count) [] (block (f .n) (f .m)) sheet (f .blocks .at) ≡ got (s .blocks) e)
+  pub inside : blocks .0 ≤ length sheet
+  pub short : length sheet ≤ mostSheet
 
 -- what stands in the workspace from here to the call's end: where each inner function's list stands in the sheet, and the tracked places
 pub record Stands (s : Sheet) (sheet ws : List ℕ) : Type 0 where

@@ -12,6 +12,7 @@ use Rattle.model.specs.Reading.{Position, got, times}
 use Rattle.model.specs.Sections.{identifier}
 use Rattle.model.specs.Answer.{Range, rangesOf, rangeWords, section}
 use Rattle.model.proofs.Got.{times-step, times-done}
+use Rattle.hir.proofs.Standing.{value-is, next-is, identifier-stands}
 use Rattle.workspace.specs.Layout.{LEAST, END}
 use Rattle.workspace.specs.Graph.{tab}
 use Rattle.workspace.proofs.Tables.{tab-length, tab-at, tab-drop, tab-end}
@@ -19,7 +20,7 @@ use Rattle.aliasing.specs.State.{nodesOf, endAt, endsOf}
 use Rattle.writing.specs.Wrote.{Wrote}
 use Rattle.writing.proofs.Writing.{wrote-then, wrote-as}
 use Rattle.copies.proofs.Loops.{Leaves, leaves-all, table-turn, table-end}
-use Rattle.copies.proofs.Identifiers.{identifier-is, identifiers-are}
+use Rattle.copies.proofs.Accepted.{identifiers-are}
 use Rattle.summary.specs.Ranges.{Ranges}
 use Rattle.summary.proofs.Held.{node-word}
 
@@ -66,12 +67,12 @@ module _ (sheet : List ℕ) (c : Position) (n : ℕ) (ws : List ℕ) where
     ranges-from (suc k) i e p q l d g =
         let ends : List ℕ = endsOf (nodesOf ws) in
         let s = times-step k identifier sheet p l d g in
-        let x = identifier-is sheet p (s .head) (s .next) (s .first) in
-        let start : s .head .start ≡ getD sheet (c + 3 * i) 0 = ap (λ (a : Identifier). a .start) (x .is) ∙ ap (λ (j : ℕ). getD sheet j 0) q in
+        let x = identifier-stands sheet p (s .head) (s .next) (s .first) in
+        let start : s .head .start ≡ getD sheet (c + 3 * i) 0 = ap (λ (a : Identifier). a .start) (sym (value-is x)) ∙ ap (λ (j : ℕ). getD sheet j 0) q in
         let one : i + 1 ≡ suc i = omega arith in
         let rest : rangesOf (s .tail) (drop (suc i) ends) ≡ drop (i + 1) rangesAt =
         ap (λ (j : ℕ). rangesOf (s .tail) (drop j ends)) (sym one)
-        ∙ ranges-from k (i + 1) (omega (arith, e)) (s .next) (omega (arith, x .next, q)) (s .tail) d (s .rest) in
+        ∙ ranges-from k (i + 1) (omega (arith, e)) (s .next) (omega (arith, next-is x, q)) (s .tail) d (s .rest) in
         ap (λ (r : List Identifier). rangesOf r (drop i ends)) (s .whole)
         ∙ ap (λ (r : List ℕ). rangesOf (s .head ∷ s .tail) r) (drop-cons ends i 0 (omega (arith, e, b, ends-length ws)))
         ∙ (λ j. record { start = start j; end = end-word ws i (omega (arith, e, b)) j } ∷ rest j)

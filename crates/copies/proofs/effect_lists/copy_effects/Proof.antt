@@ -1,44 +1,23 @@
-use Rattle.copies.proofs.Copying.{NumberLoop, numbers-start, numbers-turn, numbers-refused, numbers-end}
-use Rattle.copies.specs.Words.{blockWords}
-use Rattle.hir.proofs.Answers.{says}
-use Rattle.hir.specs.Says.{blockSays}
-use Rattle.model.specs.Sections.{block}
 use native.Mathlib.Omega.{arith}
-use Prim.Native.Nat.{_+_, _*_, _≤_}
+use Rattle.hir.specs.Words.{blockFrom}
+use Rattle.copies.specs.Words.{blockWords}
+use Rattle.copies.proofs.Blocks.{block-follows}
+use Rattle.copies.proofs.Copying.{Copying, copying-start, copying-turn, copying-inside, copying-end}
+use Rattle.copies.proofs.Loops.{leaves-same}
 use Rattle.copies.proofs.effect_lists.copy_effects.Statement.{statement}
 use Rattle.copies.proofs.effect_lists.copy_effects.Tie as tie
 
 abbrev Inv-loop : tie.InvT-loop
-Inv-loop sheet count n m section answer₀ at left₀ next₀ to₀ answer left next to = NumberLoop (block n m) (blockWords section) sheet left₀ (next₀ .at) answer₀ at left (next .at) answer to × (to + 8388608 * left ≤ at + 2147483648)
+Inv-loop sheet from count section answer₀ at left₀ next₀ to₀ answer left next to = Copying blockFrom (blockWords section) sheet count from answer₀ at left next answer to
 
 abbrev μ-loop : tie.MeasureT-loop
-μ-loop sheet count n m section answer₀ at left₀ next₀ to₀ answer left next to = left
+μ-loop sheet from count section answer₀ at left₀ next₀ to₀ answer left next to = left
 
 loop-holds : tie.Need-loop-holds Inv-loop μ-loop
-loop-holds c = (numbers-start _ _ _ _ _ _, omega arith)
-
-block-number-requires : tie.Need-block-number-requires Inv-loop μ-loop
-block-number-requires c κs = omega arith
-
-enum-known-d : tie.Need-enum-known-d Inv-loop μ-loop
-enum-known-d c = omega arith
+loop-holds c = copying-start _ _ _ _ _ _ _
 
 copy-block-requires : tie.Need-copy-block-requires Inv-loop μ-loop
-copy-block-requires c κs = omega arith
-
-enum-told : tie.Need-enum-told Inv-loop μ-loop
-enum-told c = omega arith
-
-same-length : tie.Need-same-length Inv-loop μ-loop
-same-length c =
-    let b4 = c .before .before .before .before in
-    b4 .loop .inv .0 .same
-
-returns : tie.Need-returns Inv-loop μ-loop
-returns c =
-    let b3 = c .before .before .before in
-    let b4 = b3 .before in
-    numbers-refused _ _ (b4 .loop .inv .0) _ 2147483648 (b3 .loop-test .taken) (says blockSays (c .enum-told .given .1) (c .before .before .block-number .ensures)) (omega arith)
+copy-block-requires c κs = (copying-inside _ _ _ (c .before .before .loop .inv) block-follows (c .before .loop-test .taken) (c .before .before .before .before .before .pre .0), omega (arith, c .before .before .loop .inv .few, c .before .before .before .before .before .pre .1))
 
 sub-left : tie.Need-sub-left Inv-loop μ-loop
 sub-left c = omega arith
@@ -47,19 +26,13 @@ loop-less : tie.Need-loop-less Inv-loop μ-loop
 loop-less c = omega arith
 
 loop-again : tie.Need-loop-again Inv-loop μ-loop
-loop-again c =
-    let b3 = c .before .before .before in
-    let b6 = b3 .before .before .before in
-    let b8 = b6 .before .before in
-    let b9 = b8 .before in
-    let b10 = b9 .before in
-    (numbers-turn _ _ (b10 .loop .inv .0) (b9 .loop-test .taken) (says blockSays (b6 .d .given .1) (b8 .block-number .ensures)) (b3 .copy-block .ensures) (b3 .copy-block .kept .1 .1 .1 .1 .1 .0), omega (arith, b3 .copy-block .ensures 0 .few))
+loop-again c = copying-turn _ _ _ (c .before .before .before .before .before .loop .inv) (c .before .before .before .before .loop-test .taken) (c .before .before .copy-block .ensures)
 
-same-length-2 : tie.Need-same-length-2 Inv-loop μ-loop
-same-length-2 c = c .before .loop .inv .0 .same
+same-length : tie.Need-same-length Inv-loop μ-loop
+same-length c = leaves-same (c .before .loop .inv .leaves)
 
-returns-2 : tie.Need-returns-2 Inv-loop μ-loop
-returns-2 c = numbers-end _ _ (c .before .loop .inv .0) 2147483648 (c .loop-test .left) (omega arith)
+returns : tie.Need-returns Inv-loop μ-loop
+returns c = copying-end _ _ _ (c .before .loop .inv) (c .loop-test .left)
 
 pub copy-effects-spec : {M : Type 1} → statement M
 copy-effects-spec =
@@ -68,14 +41,9 @@ copy-effects-spec =
     Inv-loop
     μ-loop
     loop-holds
-    block-number-requires
-    enum-known-d
     copy-block-requires
-    enum-told
-    same-length
-    returns
     sub-left
     loop-less
     loop-again
-    same-length-2
-    returns-2)
+    same-length
+    returns)

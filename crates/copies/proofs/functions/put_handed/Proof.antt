@@ -1,26 +1,28 @@
-use Rattle.copies.proofs.Errors.{Handing, handing-start, handing-turn, handing-end}
-use Prim.Native.Nat.{_-_}
 use native.Mathlib.Omega.{arith}
+use Prim.Native.Nat.{_-_}
+use Rattle.copies.specs.Functions.{functionsOf}
+use Rattle.copies.proofs.Errors.{Handing, handing-start, handing-turn, handing-end}
+use Rattle.copies.proofs.Loops.{leaves-same}
 use Rattle.copies.proofs.functions.put_handed.Statement.{statement}
 use Rattle.copies.proofs.functions.put_handed.Tie as tie
 
 abbrev Inv-loop : tie.InvT-loop
-Inv-loop sheet ws count hand answer₀ at to₀ i₀ answer to i = Handing sheet ws count hand answer₀ at i answer to
+Inv-loop sheet ws count hand answer₀ at to₀ i₀ answer to i = Handing (functionsOf sheet ws count) ws hand answer₀ at i answer to
 
 abbrev μ-loop : tie.MeasureT-loop
 μ-loop sheet ws count hand answer₀ at to₀ i₀ answer to i = hand - i
 
 loop-holds : tie.Need-loop-holds Inv-loop μ-loop
-loop-holds c = handing-start _ _ _ _ _ _ (omega arith)
+loop-holds c = handing-start _ _ _ _ _
 
 mul-t11 : tie.Need-mul-t11 Inv-loop μ-loop
 mul-t11 c = omega arith
 
 shared-slice-read-t13 : tie.Need-shared-slice-read-t13 Inv-loop μ-loop
-shared-slice-read-t13 c = omega arith
+shared-slice-read-t13 c = omega (arith, c .before .before .before .before .before .before .pre .0)
 
 append-function-errors-requires : tie.Need-append-function-errors-requires Inv-loop μ-loop
-append-function-errors-requires c κs = (omega arith, omega arith)
+append-function-errors-requires c κs = ((c .before .before .before .before .before .before .before .pre .0 .0, c .before .before .before .before .before .before .before .pre .0 .1 .1), (c .before .before .before .before .before .before .before .pre .1 .0, omega (arith, c .before .before .before .loop .inv .few, c .before .before .loop-test .taken, c .before .before .before .before .before .before .before .pre .1 .1)))
 
 add-i : tie.Need-add-i Inv-loop μ-loop
 add-i c = omega arith
@@ -29,13 +31,10 @@ loop-less : tie.Need-loop-less Inv-loop μ-loop
 loop-less c = omega arith
 
 loop-again : tie.Need-loop-again Inv-loop μ-loop
-loop-again c =
-    let b5 = c .before .before .before .before .before in
-    let b6 = b5 .before in
-    handing-turn (b6 .loop .inv) (b5 .loop-test .taken) (omega arith) (c .before .before .append-function-errors .ensures) (c .before .before .append-function-errors .kept .1 .1 .1 .1 .0)
+loop-again c = handing-turn (c .before .before .before .before .before .before .loop .inv) (c .before .before .before .before .before .before .before .before .before .before .pre .1 .0) (c .before .before .before .before .before .loop-test .taken) (omega (arith, c .before .before .before .before .before .before .before .before .before .before .pre .0)) (c .before .before .append-function-errors .ensures)
 
 same-length : tie.Need-same-length Inv-loop μ-loop
-same-length c = c .before .loop .inv .same
+same-length c = leaves-same (c .before .loop .inv .leaves)
 
 returns : tie.Need-returns Inv-loop μ-loop
 returns c = handing-end (c .before .loop .inv) (c .loop-test .left)
