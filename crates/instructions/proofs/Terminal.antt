@@ -15,6 +15,7 @@ use Rattle.model.specs.Built.{between}
 use Rattle.model.specs.Building.{terminalEffect, terminal as terminalStep}
 use Rattle.hir.specs.declared.Place.{Place as CodePlace}
 use Rattle.hir.specs.declared.at.List.{List as Listed}
+use Rattle.hir.specs.declared.at.Terminal.{Terminal as CodeTerminal}
 use Rattle.hir.specs.declared.at.Terminal.the-variants.{Other as IsOther, Return as IsReturn, MaybeThrow as IsMaybeThrow}
 use Rattle.hir.specs.Says.{placeIs}
 use Rattle.hir.specs.Words.{Part, wordAt, placeWidth, placeAt, several, effectsFrom, terminalOf, terminalFrom}
@@ -72,36 +73,44 @@ module _ (s : List ℕ) (c : Position) where
       go (suc zero) h = absurd (omega (arith, h))
       go (suc (suc k)) h = refl
 
--- ---- built
-module _ (s : List ℕ) (c : Position) (r : Place) {ws : List ℕ} {b : Building} (w : Ready (terminalFrom s c) TerminalInRange terminalCost s ws b) where
-  pub other-builds : (d : Position) → TerminalAt s c (IsOther d) → Builds (terminalFrom s c) (terminalStep r) terminalCost ws b ws (record { building = b; next = d })
+-- ---- built, by what a match found
+module _ (s : List ℕ) (c : Position) {ws : List ℕ} {b : Building} (w : Ready (terminalFrom s c) TerminalInRange terminalCost s ws b) where
+  pub other-builds : (r : Place) {t : CodeTerminal} {d : Position} → t ≡ IsOther d → TerminalAt s c t → Builds (terminalFrom s c) (terminalStep r) terminalCost ws b ws (record { building = b; next = d })
   unfolding terminalStep terminalCost
-  other-builds d h = builds-as (other-is s c (h .0)) (record { spends = spends-none (w .sound); next = h .1 })
+  other-builds r {t} {d} q h =
+      let k : TerminalAt s c (IsOther d) = subst (TerminalAt s c) q h in
+      builds-as (other-is s c (k .0)) (record { spends = spends-none (w .sound); next = k .1 })
 
-  module _ {l : Listed} (h : TerminalAt s c (IsMaybeThrow l)) where
+  module _ {t : CodeTerminal} {l : Listed} (q : t ≡ IsMaybeThrow l) (h : TerminalAt s c t) where
+    throw : TerminalAt s c (IsMaybeThrow l)
+    throw = subst (TerminalAt s c) q h
+
     pub throw-ready : Ready (several (l .count) oneEffect s (l .first)) (Every InRange) (costs terminalEffectCost) s ws b
     throw-ready =
-        let v = ready-as (throw-is s c (h .0)) w in
-        list-ready oneEffect s (c + 2) (h .1) (record {
+        let v = ready-as (throw-is s c (throw .0)) w in
+        list-ready oneEffect s (c + 2) (throw .1) (record {
           sound = v .sound;
           inside = v .inside;
           range = v .range;
           fits = subst (λ (k : Cost). Fits k b) (throws-cost (wordAt s (c + 1)) (effectsFrom s (c + 2) .what)) (v .fits);
         })
 
-    pub throw-builds : {ws′ : List ℕ} {t : BuiltPart} → Builds (several (l .count) oneEffect s (l .first)) (each terminalEffect) (costs terminalEffectCost) ws b ws′ t → Builds (terminalFrom s c) (terminalStep r) terminalCost ws b ws′ t
+    pub throw-builds : (r : Place) {ws′ : List ℕ} {t : BuiltPart} → Builds (several (l .count) oneEffect s (l .first)) (each terminalEffect) (costs terminalEffectCost) ws b ws′ t → Builds (terminalFrom s c) (terminalStep r) terminalCost ws b ws′ t
     unfolding terminalStep
-    throw-builds {ws′} {t} g =
-        let o = list-builds oneEffect s (c + 2) (h .1) g in
+    throw-builds r {ws′} {t} g =
+        let o = list-builds oneEffect s (c + 2) (throw .1) g in
         let e : EffectList = effectsFrom s (c + 2) .what in
-        builds-as (throw-is s c (h .0)) (record { spends = subst (λ (k : Cost). Spends (each terminalEffect e) k ws b ws′ (t .building)) (sym (throws-cost (wordAt s (c + 1)) e)) (o .spends); next = o .next })
+        builds-as (throw-is s c (throw .0)) (record { spends = subst (λ (k : Cost). Spends (each terminalEffect e) k ws b ws′ (t .building)) (sym (throws-cost (wordAt s (c + 1)) e)) (o .spends); next = o .next })
 
-  module _ (v : CodePlace) {l : Listed} (h : TerminalAt s c (IsReturn v l)) where
+  module _ {t : CodeTerminal} {v : CodePlace} {l : Listed} (q : t ≡ IsReturn v l) (h : TerminalAt s c t) where
+    return : TerminalAt s c (IsReturn v l)
+    return = subst (TerminalAt s c) q h
+
     abbrev behind : EffectList
     behind = effectsFrom s (c + 2 + placeWidth) .what
 
     returned : Ready (returnFrom s c) TerminalInRange terminalCost s ws b
-    returned = ready-as (return-is s c (h .0)) w
+    returned = ready-as (return-is s c (return .0)) w
 
     room : Fits (sum (relationsOnly 1) (costs terminalEffectCost behind)) b
     room = subst (λ (k : Cost). Fits k b) (returns-cost (wordAt s (c + 1)) (placeAt s (c + 2)) behind) (returned .fits)
@@ -110,11 +119,11 @@ module _ (s : List ℕ) (c : Position) (r : Place) {ws : List ℕ} {b : Building
     value-fits = omega (arith, room .relations)
 
     pub value-known : PlaceBelow mostIdentifiers (placeIs v)
-    value-known = subst (PlaceBelow mostIdentifiers) (sym (h .1 .0)) (returned .range .0)
+    value-known = subst (PlaceBelow mostIdentifiers) (sym (return .1 .0)) (returned .range .0)
 
-    module _ {ws₁ : List ℕ} {b₁ : Building} (x : Spends (between (relate intoAliases) (placeIs v) r) (relationsOnly 1) ws b ws₁ b₁) where
+    module _ (r : Place) {ws₁ : List ℕ} {b₁ : Building} (x : Spends (between (relate intoAliases) (placeIs v) r) (relationsOnly 1) ws b ws₁ b₁) where
       pub return-ready : Ready (several (l .count) oneEffect s (l .first)) (Every InRange) (costs terminalEffectCost) s ws₁ b₁
-      return-ready = list-ready oneEffect s (c + 2 + placeWidth) (h .1 .1) (record {
+      return-ready = list-ready oneEffect s (c + 2 + placeWidth) (return .1 .1) (record {
         sound = x .sound;
         inside = returned .inside;
         range = returned .range .1;
@@ -124,10 +133,10 @@ module _ (s : List ℕ) (c : Position) (r : Place) {ws : List ℕ} {b : Building
       pub return-builds : {ws′ : List ℕ} {t : BuiltPart} → Builds (several (l .count) oneEffect s (l .first)) (each terminalEffect) (costs terminalEffectCost) ws₁ b₁ ws′ t → Builds (terminalFrom s c) (terminalStep r) terminalCost ws b ws′ t
       unfolding terminalStep
       return-builds {ws′} {t} g =
-          let o = list-builds oneEffect s (c + 2 + placeWidth) (h .1 .1) g in
-          let y = subst (λ (p : Place). Spends (between (relate intoAliases) p r) (relationsOnly 1) ws b ws₁ b₁) (h .1 .0) x in
+          let o = list-builds oneEffect s (c + 2 + placeWidth) (return .1 .1) g in
+          let y = subst (λ (p : Place). Spends (between (relate intoAliases) p r) (relationsOnly 1) ws b ws₁ b₁) (return .1 .0) x in
           let z = spends-then (relationsOnly 1) (costs terminalEffectCost behind) y (o .spends) in
-          builds-as (return-is s c (h .0)) (record {
+          builds-as (return-is s c (return .0)) (record {
             spends = subst (λ (k : Cost). Spends (terminalStep r (returnFrom s c .what)) k ws b ws′ (t .building)) (sym (returns-cost (wordAt s (c + 1)) (placeAt s (c + 2)) behind)) z;
             next = o .next;
           })
