@@ -1,10 +1,10 @@
 -- A phi: its node, then its operands.
-use Prim.Native.Nat.{ℕ, _+_, _≤_, _<_}
+use Prim.Native.Nat.{ℕ, _+_, _≤_}
 use native.Mathlib.Omega.{arith}
 use mathlib.Core.Path.{_≡_, sym, subst}
 use mathlib.Core.List.{List}
 use lib.ListN.{length}
-use Rattle.model.specs.Limits.{mostIdentifiers, mostRelations}
+use Rattle.model.specs.Limits.{mostIdentifiers}
 use Rattle.model.specs.Lists.{each, Every}
 use Rattle.model.specs.Sheet.{Place, Operand}
 use Rattle.model.specs.Ranges.{PlaceBelow}
@@ -16,11 +16,10 @@ use Rattle.model.specs.Building.{operand as operandStep, phiNode}
 use Rattle.model.proofs.Counted.{tally-one}
 use Rattle.hir.specs.declared.at.Phi.{Phi}
 use Rattle.hir.specs.Says.{placeIs}
-use Rattle.hir.specs.Words.{Standing, placeWidth, operandWidth, wide, placeAt, operandAt, several, listed, phiFrom}
+use Rattle.hir.specs.Words.{Standing, placeWidth, operandWidth, wide, operandAt, several, listed, phiFrom}
 use Rattle.hir.specs.Parts.{PhiAt}
 use Rattle.hir.proofs.Widths.{Rises, phi-rises}
 use Rattle.building.specs.declared.Building.{Building}
-use Rattle.building.specs.Built.{Sound}
 use Rattle.instructions.specs.declared.Built.{Built as BuiltPart}
 use Rattle.instructions.specs.Cost.{Cost, relationsOnly, sum, costs, Fits}
 use Rattle.instructions.specs.Builds.{Spends, Ready, Builds}
@@ -76,8 +75,3 @@ module _ (s : List ℕ) (c : Position) {ws : List ℕ} {b : Building} (w : Ready
             (subst (λ (k : Cost). Spends (phiNode (record { place = placeIs (p .place); operands = operands })) k ws b ws′ (r .building)) (sym (phi-cost operands)) y);
             next = o .next;
           }
-
--- ---- an operand that was read
-pub operand-can : {o p : Operand} (phi : Place) {ws : List ℕ} {b : Building} → Sound ws b × (OperandInRange o × Fits (operandCost o) b) → PlaceBelow mostIdentifiers phi
-    → Sound ws b × ((b .relations < mostRelations) × (PlaceBelow mostIdentifiers (o .place) × PlaceBelow mostIdentifiers phi))
-operand-can phi w h = (w .0, (omega (arith, w .1 .1 .relations), (w .1 .0, h)))
