@@ -1,3 +1,4 @@
+pub mod Ranges
 pub mod Phi
 pub mod Block
 pub mod Sheet

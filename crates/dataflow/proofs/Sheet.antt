@@ -1,12 +1,12 @@
 -- The blocks of an accepted sheet: they can be built, and what is built of them is the definition's building of the sheet.
 use Prim.Native.Nat.{ℕ, zero, suc, _≤_}
 use native.Mathlib.Omega.{arith}
-use mathlib.Core.Path.{_≡_, refl, subst, ap, _∙_}
+use mathlib.Core.Path.{_≡_, refl, sym, subst, ap, _∙_}
 use mathlib.Core.Bool.{false}
 use mathlib.Core.List.{List, [], _∷_}
 use lib.ListN.{length}
 use Rattle.model.specs.Limits.{mostIdentifiers, mostFunctions, mostParams, mostContext, returnsCount, mostBlocks}
-use Rattle.model.specs.Lists.{each}
+use Rattle.model.specs.Lists.{each, Every}
 use Rattle.model.specs.Sheet.{BlockId, Place, Block, Sheet}
 use Rattle.model.specs.Totals.{totals, over}
 use Rattle.model.specs.Reading.{Position, got, Read, count, fixed, newNumber, numbered, counted}
@@ -16,18 +16,21 @@ use Rattle.model.specs.Built.{Built, changed}
 use Rattle.model.specs.Building.{firstPlaces, firstNodes, build}
 use Rattle.model.specs.Building.{block as blockStep}
 use Rattle.model.proofs.Got.{got-value, got-next}
-use Rattle.model.proofs.ReadLaws.{Reads, pure-reads, any-reads, bind-reads, count-reads}
+use Rattle.model.proofs.ReadLaws.{Reads, pure-reads, any-reads, bind-reads, count-reads, numbered-reads}
 use Rattle.model.proofs.WhenRead.{not-over}
 use Rattle.model.proofs.Counted.{tally-one}
+use Rattle.hir.specs.Words.{several, blockFrom}
+use Rattle.hir.proofs.Standing.{Stands, in-two, blocks-stands}
 use Rattle.building.specs.declared.Building.{Building}
 use Rattle.building.specs.Built.{nothing}
-use Rattle.instructions.specs.declared.BuildStep.{BuildStep}
-use Rattle.instructions.specs.declared.BuildStep.the-variants.{Got, Refused}
+use Rattle.instructions.specs.declared.Built.{Built as BuiltPart}
 use Rattle.instructions.specs.Cost.{costs}
 use Rattle.instructions.specs.Builds.{Ready, Builds}
-use Rattle.instructions.proofs.Gots.{both-got}
+use Rattle.instructions.proofs.Building.{ready-as, builds-as}
 use Rattle.dataflow.specs.Cost.{blockCost}
-use Rattle.dataflow.specs.Whole.{createdFor, firstBuilt, First, WholeAt}
+use Rattle.dataflow.specs.Ranges.{BlockInRange}
+use Rattle.dataflow.specs.Whole.{createdFor, firstBuilt, First, Whole}
+use Rattle.dataflow.proofs.Ranges.{block-known}
 
 -- as many parts as the count says
 numbered-length : {A : Type 0} (k : ℕ) (used : List BlockId) (f : BlockId → Read A) → Reads (numbered k used f) (λ (l : List A). length l ≡ k)
@@ -57,43 +60,41 @@ unfolding blockCost
 blocks-spent l = tally-one l
 
 module _ (t : Sheet) (s : List ℕ) (n m k : ℕ) (c d : Position) (q : numbered k [] (block n m) s c ≡ got (t .blocks) d) {ws : List ℕ} {b : Building} (first : First t ws b) where
-  -- there is room for all blocks of a sheet that was not refused
-  pub blocks-ready : k ≤ mostBlocks → over (totals t) ≡ false → Ready (numbered k [] (block n m) s c) (costs blockCost) ws b
-  blocks-ready few h =
+  stand : Stands (several k blockFrom) s c (t .blocks) d
+  stand = blocks-stands n m k [] s c (t .blocks) d q
+
+  -- the blocks of a sheet that was not refused can be built
+  pub blocks-ready : n ≤ mostIdentifiers → m ≤ mostFunctions → k ≤ mostBlocks → c ≤ length s → over (totals t) ≡ false → Ready (several k blockFrom s c) (Every BlockInRange) (costs blockCost) s ws b
+  blocks-ready hn hm few i h =
       let limits = not-over (totals t) h in
-      record {
+      ready-as (sym (stand .is)) (record {
         sound = first .sound;
-        what = t .blocks;
-        next = d;
-        reads = q;
+        inside = stand .inside i;
+        range = numbered-reads BlockInRange k [] (block n m) (block-known n hn m hm) s c (t .blocks) d q;
         fits = record {
           relations = omega (arith, limits .0, first .relations, relations-spent t);
           mutations = omega (arith, limits .1, first .mutations, mutations-spent t);
           renders = omega (arith, limits .2, first .renders, renders-spent t);
           blocks = omega (arith, few, first .come, blocks-spent (t .blocks), numbered-length k [] (block n m) s c (t .blocks) d q);
         };
-      }
+      })
 
   -- and the building of all blocks is that of the sheet
-  pub blocks-whole : (ws′ : List ℕ) (r : BuildStep) → Builds (numbered k [] (block n m) s c) (each (blockStep (t .returns))) (costs blockCost) ws b ws′ r → WholeAt t d ws ws′ r
+  pub blocks-whole : {ws′ : List ℕ} {r : BuiltPart} → Builds (several k blockFrom s c) (each (blockStep (t .returns))) (costs blockCost) ws b ws′ r → Whole t ws ws′ (r .building)
   unfolding firstBuilt build
-  blocks-whole ws′ (Got r j) h =
-      let g = h .reaches (t .blocks) d q in
-      let x = g .0 in (
-        record {
-          built = x .built ∙ ap (each (blockStep (t .returns)) (t .blocks)) (first .built);
-          sound = x .sound;
-          relations = omega (arith, x .relations, first .relations, relations-spent t);
-          mutations = omega (arith, x .mutations, first .mutations, mutations-spent t);
-          renders = omega (arith, x .renders, first .renders, renders-spent t);
-          come = omega (arith, x .come, first .come, blocks-spent (t .blocks));
-          low = x .low;
-          high = x .high;
-          same = x .same;
-        },
-        g .1,
-      )
-  blocks-whole ws′ (Refused j) h = h .reaches (t .blocks) d q
+  blocks-whole h =
+      let x = builds-as (sym (stand .is)) h .spends in
+      record {
+        built = x .built ∙ ap (each (blockStep (t .returns)) (t .blocks)) (first .built);
+        sound = x .sound;
+        relations = omega (arith, x .relations, first .relations, relations-spent t);
+        mutations = omega (arith, x .mutations, first .mutations, mutations-spent t);
+        renders = omega (arith, x .renders, first .renders, renders-spent t);
+        come = omega (arith, x .come, first .come, blocks-spent (t .blocks));
+        low = x .low;
+        high = x .high;
+        same = x .same;
+      }
 
 -- where each section of a sheet that was read stands
 pub record Sections (s : List ℕ) (t : Sheet) (d : Position) : Type 0 where
@@ -121,16 +122,16 @@ pub record Sections (s : List ℕ) (t : Sheet) (d : Position) : Type 0 where
 pub sheet-sections : (s : List ℕ) (t : Sheet) (d : Position) → sheet s 0 ≡ got t d → Sections s t d
 unfolding sheet
 sheet-sections s t d e =
-    let p₁ = both-got (flags s 0) _ e in
-    let p₂ = both-got (counted mostIdentifiers identifier s (p₁ .next)) _ (p₁ .second) in
-    let n = length (p₂ .what) in
-    let p₃ = both-got (counted mostFunctions innerFunction s (p₂ .next)) _ (p₂ .second) in
-    let p₄ = both-got (counted mostParams (place n) s (p₃ .next)) _ (p₃ .second) in
-    let p₅ = both-got (counted mostContext (place n) s (p₄ .next)) _ (p₄ .second) in
-    let p₆ = both-got (fixed returnsCount s (p₅ .next)) _ (p₅ .second) in
-    let p₇ = both-got (place n s (p₆ .next)) _ (p₆ .second) in
-    let p₈ = both-got (count mostBlocks s (p₇ .next)) _ (p₇ .second) in
-    let p₉ = both-got (numbered (p₈ .what) [] (block n (length (p₃ .what))) s (p₈ .next)) _ (p₈ .second) in
+    let p₁ = in-two (flags s 0) _ e in
+    let p₂ = in-two (counted mostIdentifiers identifier s (p₁ .next)) _ (p₁ .second) in
+    let n = length (p₂ .value) in
+    let p₃ = in-two (counted mostFunctions innerFunction s (p₂ .next)) _ (p₂ .second) in
+    let p₄ = in-two (counted mostParams (place n) s (p₃ .next)) _ (p₃ .second) in
+    let p₅ = in-two (counted mostContext (place n) s (p₄ .next)) _ (p₄ .second) in
+    let p₆ = in-two (fixed returnsCount s (p₅ .next)) _ (p₅ .second) in
+    let p₇ = in-two (place n s (p₆ .next)) _ (p₆ .second) in
+    let p₈ = in-two (count mostBlocks s (p₇ .next)) _ (p₇ .second) in
+    let p₉ = in-two (numbered (p₈ .value) [] (block n (length (p₃ .value))) s (p₈ .next)) _ (p₈ .second) in
     subst (λ (j : Position). Sections s t j) (got-next (p₉ .second))
     (subst (λ (z : Sheet). Sections s z (p₉ .next)) (got-value (p₉ .second)) (record {
       afterFlags = p₁ .next;
@@ -141,8 +142,8 @@ sheet-sections s t d e =
       afterOne = p₆ .next;
       afterReturns = p₇ .next;
       afterCount = p₈ .next;
-      oneCount = p₆ .what;
-      blockCount = p₈ .what;
+      oneCount = p₆ .value;
+      blockCount = p₈ .value;
       flags = p₁ .first;
       identifiers = p₂ .first;
       functions = p₃ .first;
@@ -152,13 +153,8 @@ sheet-sections s t d e =
       returns = p₇ .first;
       count = p₈ .first;
       blocks = p₉ .first;
-      few = count-reads mostBlocks s (p₇ .next) (p₈ .what) (p₈ .next) (p₈ .first);
+      few = count-reads mostBlocks s (p₇ .next) (p₈ .value) (p₈ .next) (p₈ .first);
     }))
-
--- so a sheet that was accepted has room for its blocks
-pub sheet-ready : (s : List ℕ) (t : Sheet) (d : Position) (p : Sections s t d) {ws : List ℕ} {b : Building} → First t ws b → over (totals t) ≡ false
-    → Ready (numbered (p .blockCount) [] (block (length (t .identifiers)) (length (t .functions))) s (p .afterCount)) (costs blockCost) ws b
-sheet-ready s t d p first h = blocks-ready t s (length (t .identifiers)) (length (t .functions)) (p .blockCount) (p .afterCount) d (p .blocks) first (p .few) h
 
 -- the first nodes, created one after another, are the building before the first block
 created : (l : List Place) (b : Built) → each createdFor l b ≡ changed (each (λ (p : Place). create (p .identifier) object) l) b

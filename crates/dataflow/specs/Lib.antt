@@ -1,2 +1,3 @@
 pub mod Cost
+pub mod Ranges
 pub mod Whole

@@ -6,14 +6,11 @@ use lib.ListN.{length, take, drop}
 use Rattle.model.specs.Sheet.{Place, Sheet}
 use Rattle.model.specs.Graph.{object, create}
 use Rattle.model.specs.Totals.{totals}
-use Rattle.model.specs.Reading.{Position}
 use Rattle.model.specs.Built.{Built, changed}
 use Rattle.model.specs.Building.{firstNodes, build}
 use Rattle.workspace.specs.Layout.{SEEN, FUNCTIONS}
 use Rattle.building.specs.declared.Building.{Building}
 use Rattle.building.specs.Built.{builtOf, Sound}
-use Rattle.instructions.specs.declared.BuildStep.{BuildStep}
-use Rattle.instructions.specs.declared.BuildStep.the-variants.{Got, Refused}
 
 -- a node for the place
 abbrev pub createdFor : Place → Built → Built
@@ -43,8 +40,3 @@ pub record Whole (t : Sheet) (ws ws′ : List ℕ) (r : Building) : Type 0 where
   pub low : take SEEN ws′ ≡ take SEEN ws
   pub high : drop FUNCTIONS ws′ ≡ drop FUNCTIONS ws
   pub same : length ws′ ≡ length ws
-
--- and the reading stands at d; a refusal is no answer
-abbrev pub WholeAt : Sheet → Position → List ℕ → List ℕ → BuildStep → Type 0
-WholeAt t d ws ws′ (Got r c) = Whole t ws ws′ r × (c .at ≡ d)
-WholeAt t d ws ws′ (Refused k) = ⊥

@@ -13,7 +13,6 @@ use building::Building;
 use dataflow::build_blocks;
 use diagnostics::put_diagnostics;
 use function::HirFunction;
-use instructions::BuildStep;
 use parameters::FunctionStep;
 use parameters::read_function;
 use reading::Verdict;
@@ -52,18 +51,8 @@ fn build(sheet: &[u32], ws: &mut [u32], copies: bool) -> FunctionStep
         return FunctionStep::Refused;
     };
     f.copies = copies;
-    let BuildStep::Got(b, _) = build_blocks(
-        f.blocks,
-        sheet,
-        f.n,
-        f.m,
-        ws,
-        first,
-        f.count,
-        f.returns,
-    ) else {
-        return FunctionStep::Refused;
-    };
+    let built = build_blocks(f.blocks.at, f.count, sheet, ws, first, f.returns);
+    let b = built.building;
     b.lay_out(ws);
     keep(ws, f.n as usize);
     FunctionStep::Got(f, b)

@@ -1,93 +1,121 @@
--- What is read is built: where a part is read and then built, and where the part is the last of a whole.
-use Prim.Native.Nat.{ℕ}
-use mathlib.Core.Path.{_≡_, sym, subst, _∙_}
-use mathlib.Core.List.{List}
-use Rattle.model.specs.Reading.{Position, Result, got, andThen}
+-- A part that stands in the sheet is built: parts that are the same, lists, and the loop over several parts.
+use Prim.Native.Nat.{ℕ, zero, suc, _+_, _-_, _≤_, _<_}
+use native.Mathlib.Omega.{arith}
+use mathlib.Core.Path.{_≡_, refl, sym, subst, ap, _∙_}
+use mathlib.Core.List.{List, [], _∷_}
+use lib.ListN.{length}
+use Rattle.model.specs.Lists.{each, Every}
+use Rattle.model.specs.Reading.{Position}
 use Rattle.model.specs.Built.{Built}
-use Rattle.model.proofs.Got.{got-value, got-next}
-use Rattle.hir.specs.declared.Cursor.{Cursor}
+use Rattle.hir.specs.declared.at.List.{List as Listed}
+use Rattle.hir.specs.Words.{Part, Standing, several, listed}
+use Rattle.hir.specs.Parts.{ListAt}
+use Rattle.hir.proofs.Widths.{Rises, several-rises, listed-rises}
 use Rattle.building.specs.declared.Building.{Building}
 use Rattle.building.specs.Built.{Sound}
-use Rattle.instructions.specs.declared.BuildStep.{BuildStep}
-use Rattle.instructions.specs.declared.BuildStep.the-variants.{Got, Refused}
-use Rattle.instructions.specs.Cost.{Cost, sum, Fits}
-use Rattle.instructions.specs.Builds.{Spends, Reaches, Ready, Builds}
-use Rattle.instructions.proofs.Gots.{both-got}
-use Rattle.instructions.proofs.Spending.{spends-then, fits-second}
+use Rattle.instructions.specs.declared.Built.{Built as BuiltPart}
+use Rattle.instructions.specs.Cost.{Cost, costs, Fits}
+use Rattle.instructions.specs.Builds.{Spends, Ready, Builds}
+use Rattle.instructions.proofs.Spending.{spends-none, spends-then, fits-first, fits-second}
 
-module _ {A : Type 0} {read : Result A} {step : A → Built → Built} {cost : A → Cost} {ws : List ℕ} {b : Building} where
-  -- what was read, built
-  pub step-builds : (a : A) (c : Cursor) {ws′ : List ℕ} {r : Building} → read ≡ got a (c .at) → Spends (step a) (cost a) ws b ws′ r → Builds read step cost ws b ws′ (Got r c)
-  step-builds a c {ws′} {r} q h = record {
-    reaches = λ x d e.
-        (subst (λ (z : A). Spends (step z) (cost z) ws b ws′ r) (got-value (sym q ∙ e)) h, got-next (sym q ∙ e));
-  }
+-- ---- a part that is another
+module _ {A : Type 0} {p q : Part A} (e : p ≡ q) where
+  pub ready-as : {inRange : A → Type 0} {cost : A → Cost} {s ws : List ℕ} {b : Building} → Ready p inRange cost s ws b → Ready q inRange cost s ws b
+  ready-as {inRange} {cost} {s} {ws} {b} w = subst (λ (z : Part A). Ready z inRange cost s ws b) e w
 
-  -- the answer is no refusal where something can be read
-  pub not-built : {k : ℕ} {ws′ : List ℕ} → Ready read cost ws b → Builds read step cost ws b ws′ (Refused k) → ⊥
-  not-built w h = h .reaches (w .what) (w .next) (w .reads)
+  pub builds-as : {step : A → Built → Built} {cost : A → Cost} {ws ws′ : List ℕ} {b : Building} {r : BuiltPart} → Builds q step cost ws b ws′ r → Builds p step cost ws b ws′ r
+  builds-as {step} {cost} {ws} {ws′} {b} {r} h = subst (λ (z : Part A). Builds z step cost ws b ws′ r) (sym e) h
 
-  -- what was built is sound
-  pub built-sound : {c : Cursor} {ws′ : List ℕ} {r : Building} → Ready read cost ws b → Builds read step cost ws b ws′ (Got r c) → Sound ws′ r
-  built-sound w h = h .reaches (w .what) (w .next) (w .reads) .0 .sound
+-- ---- a value that the part holds
+module _ {A : Type 0} {part : Part A} {x : A} (e : x ≡ part .what) where
+  pub value-ready : {inRange : A → Type 0} {cost : A → Cost} {s ws : List ℕ} {b : Building} → Ready part inRange cost s ws b → Sound ws b × (inRange x × Fits (cost x) b)
+  value-ready {inRange} {cost} {b = b} w = (w .sound, (subst inRange (sym e) (w .range), subst (λ (z : A). Fits (cost z) b) (sym e) (w .fits)))
 
--- what can be built is what is read
-module _ {A : Type 0} {read : Result A} {cost : A → Cost} {ws : List ℕ} {b : Building} (w : Ready read cost ws b) where
-  pub ready-fits : {a : A} {d : Position} → read ≡ got a d → Fits (cost a) b
-  ready-fits q = subst (λ (z : A). Fits (cost z) b) (got-value (sym (w .reads) ∙ q)) (w .fits)
+  pub value-builds : {step : A → Built → Built} {cost : A → Cost} {ws ws′ : List ℕ} {b r : Building} → Spends (step x) (cost x) ws b ws′ r → Builds part step cost ws b ws′ (record { building = r; next = part .next })
+  value-builds {step} {cost} {ws} {ws′} {b} {r} h = record { spends = subst (λ (z : A). Spends (step z) (cost z) ws b ws′ r) e h; next = refl }
 
--- the same answer of the reading
-pub ready-as : {A : Type 0} {read read′ : Result A} {cost : A → Cost} {ws : List ℕ} {b : Building} → read ≡ read′ → Ready read cost ws b → Ready read′ cost ws b
-ready-as e w = record { sound = w .sound; what = w .what; next = w .next; reads = sym e ∙ w .reads; fits = w .fits }
+-- ---- a list, by its count and its first part
+module _ {A : Type 0} (f : Standing A) where
+  pub list-inside : Rises f → (s : List ℕ) (c : Position) {inRange : List A → Type 0} {cost : List A → Cost} {ws : List ℕ} {b : Building} → Ready (listed f s c) inRange cost s ws b → c + 1 ≤ length s
+  list-inside rises s c w = omega (arith, w .inside, listed-rises f rises s c)
 
-pub builds-as : {A : Type 0} {read read′ : Result A} {step : A → Built → Built} {cost : A → Cost} {ws ws′ : List ℕ} {b : Building} {r : BuildStep}
-    → read ≡ read′ → Builds read′ step cost ws b ws′ r → Builds read step cost ws b ws′ r
-builds-as q h = record { reaches = λ x d e. h .reaches x d (sym q ∙ e) }
+  module _ (s : List ℕ) (c : Position) {l : Listed} (h : ListAt s c l) where
+    is : listed f s c ≡ several (l .count) f s (l .first)
+    unfolding listed
+    is = ap (λ (k : ℕ). several k f s (c + 1)) (sym (h .count)) ∙ ap (several (l .count) f s) (sym (h .first))
 
--- the answer that a match found
-pub found-builds : {A : Type 0} {read : Result A} {step : A → Built → Built} {cost : A → Cost} {ws ws′ : List ℕ} {b : Building} {r t : BuildStep}
-    → r ≡ t → Builds read step cost ws b ws′ r → Builds read step cost ws b ws′ t
-found-builds {read = read} {step} {cost} {ws} {ws′} {b} q h = subst (λ (t : BuildStep). Builds read step cost ws b ws′ t) q h
+    pub list-ready : {inRange : List A → Type 0} {cost : List A → Cost} {ws : List ℕ} {b : Building} → Ready (listed f s c) inRange cost s ws b → Ready (several (l .count) f s (l .first)) inRange cost s ws b
+    list-ready = ready-as is
 
--- the same costs
-module _ {A : Type 0} {read : Result A} {cost whole : A → Cost} (same : (a : A) → cost a ≡ whole a) {ws : List ℕ} {b : Building} where
-  pub cost-ready : Ready read whole ws b → Ready read cost ws b
-  cost-ready w = record { sound = w .sound; what = w .what; next = w .next; reads = w .reads; fits = subst (λ (k : Cost). Fits k b) (sym (same (w .what))) (w .fits) }
+    pub list-builds : {step : List A → Built → Built} {cost : List A → Cost} {ws ws′ : List ℕ} {b : Building} {r : BuiltPart} → Builds (several (l .count) f s (l .first)) step cost ws b ws′ r → Builds (listed f s c) step cost ws b ws′ r
+    list-builds = builds-as is
 
-  pub cost-builds : {step : A → Built → Built} {ws′ : List ℕ} {r : BuildStep} → Builds read step cost ws b ws′ r → Builds read step whole ws b ws′ r
-  cost-builds {step} {ws′} {r} h = record { reaches = λ a d e. subst (λ (k : Cost). Reaches d (step a) k ws b ws′ r) (same a) (h .reaches a d e) }
+-- ---- several parts, one after another
+module _ {A : Type 0} (f : Standing A) (s : List ℕ) where
+  -- the first, and the others
+  abbrev before : A → Part (List A) → Part (List A)
+  before a p = record { what = a ∷ p .what; next = p .next }
 
-module _ {A B : Type 0} (read : Result A) (g : A → B) (cost : B → Cost) {ws : List ℕ} {b : Building} where
-  -- a whole of which nothing more is read
-  pub last-ready : Ready (andThen read (λ (a : A) (d : Position). got (g a) d)) cost ws b → Ready read (λ (a : A). cost (g a)) ws b
-  last-ready w =
-      let p = both-got read (λ (a : A) (d : Position). got (g a) d) (w .reads) in
-      record { sound = w .sound; what = p .what; next = p .next; reads = p .first; fits = subst (λ (y : B). Fits (cost y) b) (sym (got-value (p .second))) (w .fits) }
+  several-first : (k : ℕ) (c : Position) → 0 < k → several k f s c ≡ before (f s c .what) (several (k - 1) f s (f s c .next))
+  unfolding several
+  several-first zero c h = absurd (omega (arith, h))
+  several-first (suc k) c h =
+      let e : k ≡ suc k - 1 = omega arith in
+      ap (λ (j : ℕ). before (f s c .what) (several j f s (f s c .next))) e
 
-  pub last-builds : (step : B → Built → Built) {ws′ : List ℕ} {r : BuildStep}
-      → Builds read (λ (a : A). step (g a)) (λ (a : A). cost (g a)) ws b ws′ r → Builds (andThen read (λ (a : A) (d : Position). got (g a) d)) step cost ws b ws′ r
-  last-builds step {ws′} {r} h = record {
-    reaches = λ y d e.
-        let p = both-got read (λ (a : A) (d : Position). got (g a) d) e in
-        subst (λ (z : B). Reaches d (step z) (cost z) ws b ws′ r) (got-value (p .second)) (subst (λ (j : Position). Reaches j (step (g (p .what))) (cost (g (p .what))) ws b ws′ r) (got-next (p .second)) (h .reaches (p .what) (p .next) (p .first)));
-  }
+  several-none : (k : ℕ) (c : Position) → k ≤ 0 → several k f s c ≡ record { what = []; next = c }
+  unfolding several
+  several-none zero c h = refl
+  several-none (suc k) c h = absurd (omega (arith, h))
 
--- after a step of its own, for which the whole has paid
-module _ {A : Type 0} {read : Result A} {f : Built → Built} (j : Cost) (cost whole : A → Cost) (paid : (a : A) → sum j (cost a) ≡ whole a) {ws ws₁ : List ℕ} {b b₁ : Building} (x : Spends f j ws b ws₁ b₁) where
-  pub after-ready : Ready read whole ws b → Ready read cost ws₁ b₁
-  after-ready w = record {
-    sound = x .sound;
-    what = w .what;
-    next = w .next;
-    reads = w .reads;
-    fits = fits-second j (cost (w .what)) (subst (λ (k : Cost). Fits k b) (sym (paid (w .what))) (w .fits)) x;
-  }
+-- what a loop over parts has still to build, `left` of them at c: whatever builds them has built the whole
+module _ {A : Type 0} (f : Standing A) (inRange : A → Type 0) (step : A → Built → Built) (cost : A → Cost) (s : List ℕ) (whole : Part (List A)) (ws₀ : List ℕ) (b₀ : Building) where
+  pub record Looping (left : ℕ) (c : Position) (ws : List ℕ) (b : Building) : Type 0 where
+    pub same : length ws ≡ length ws₀
+    pub ready : Ready (several left f s c) (Every inRange) (costs cost) s ws b
+    pub rest : (ws′ : List ℕ) (r : BuiltPart) → Builds (several left f s c) (each step) (costs cost) ws b ws′ r → Builds whole (each step) (costs cost) ws₀ b₀ ws′ r
 
-  pub after-builds : (step : A → Built → Built) {ws′ : List ℕ} {r : BuildStep} → Builds read step cost ws₁ b₁ ws′ r → Builds read (λ (a : A) (t : Built). step a (f t)) whole ws b ws′ r
-  after-builds step {ws′} {r} h = record {
-    reaches = λ a d e. subst (λ (k : Cost). Reaches d (λ (t : Built). step a (f t)) k ws b ws′ r) (paid a) (go a d r (h .reaches a d e));
-  }
-    where
-      go : (a : A) (d : Position) (r : BuildStep) → Reaches d (step a) (cost a) ws₁ b₁ ws′ r → Reaches d (λ (t : Built). step a (f t)) (sum j (cost a)) ws b ws′ r
-      go a d (Got r c) y = (spends-then j (cost a) x (y .0), y .1)
-      go a d (Refused k) y = y
+module _ {A : Type 0} {f : Standing A} {inRange : A → Type 0} {step : A → Built → Built} {cost : A → Cost} {s : List ℕ} where
+  pub loop-start : {left : ℕ} {c : Position} {ws : List ℕ} {b : Building} → Ready (several left f s c) (Every inRange) (costs cost) s ws b → Looping f inRange step cost s (several left f s c) ws b left c ws b
+  loop-start w = record { same = refl; ready = w; rest = λ ws′ r h. h }
+
+  module _ {whole : Part (List A)} {ws₀ : List ℕ} {b₀ : Building} {left : ℕ} {c : Position} {ws : List ℕ} {b : Building} (i : Looping f inRange step cost s whole ws₀ b₀ left c ws b) where
+    -- nothing is left
+    pub loop-done : left ≤ 0 → Builds whole (each step) (costs cost) ws₀ b₀ ws (record { building = b; next = c })
+    loop-done t = i .rest ws _ (builds-as (several-none f s left c t) (record { spends = spends-none (i .ready .sound); next = refl }))
+
+    module _ (t : 0 < left) where
+      abbrev others : Part (List A)
+      others = several (left - 1) f s (f s c .next)
+
+      now-ready : Ready (before f s (f s c .what) others) (Every inRange) (costs cost) s ws b
+      now-ready = ready-as (several-first f s left c t) (i .ready)
+
+      -- the next one can be built
+      pub loop-ready : Rises f → Ready (f s c) inRange cost s ws b
+      loop-ready rises =
+          let w = now-ready in
+          record {
+            sound = w .sound;
+            inside = omega (arith, w .inside, several-rises (left - 1) f rises s (f s c .next));
+            range = w .range .0;
+            fits = fits-first (cost (f s c .what)) (costs cost (others .what)) (w .fits);
+          }
+
+      -- it was built: one less is left
+      pub loop-turn : {ws₁ : List ℕ} {r : BuiltPart} → Builds (f s c) step cost ws b ws₁ r → Looping f inRange step cost s whole ws₀ b₀ (left - 1) (r .next) ws₁ (r .building)
+      loop-turn {ws₁} {r} h =
+          let w = now-ready in
+          let after : several (left - 1) f s (f s c .next) ≡ several (left - 1) f s (r .next) = ap (several (left - 1) f s) (sym (h .next)) in
+          record {
+            same = h .spends .same ∙ i .same;
+            ready = ready-as after (record {
+              sound = h .spends .sound;
+              inside = w .inside;
+              range = w .range .1;
+              fits = fits-second (cost (f s c .what)) (costs cost (others .what)) (w .fits) (h .spends);
+            });
+            rest = λ ws′ r′ g.
+                let o = builds-as after g in
+                i .rest ws′ r′ (builds-as (several-first f s left c t) (record { spends = spends-then (cost (f s c .what)) (costs cost (others .what)) (h .spends) (o .spends); next = o .next }));
+          }

@@ -1,105 +1,141 @@
--- An effect of an instruction, of which the kind is known, or its number.
+-- An effect whose kind is known: what it asks of the building, and its step.
 use Prim.Native.Nat.{ℕ, _<_}
 use native.Mathlib.Omega.{arith}
 use mathlib.Core.Path.{_≡_, refl, sym, subst, ap}
-use mathlib.Core.Bool.{Bool, true, false, true≢false}
+use mathlib.Core.Bool.{Bool, true, false, _||_, false≢true}
 use mathlib.Core.List.{List, [], _∷_}
-use lib.Dec.{leb, eqb, eqb→eq}
-use lib.ListN.{List·getD-eq-default}
-use borrow.Author.Tests.{ne-eqb, leb-true, leb-false}
-use Rattle.model.specs.Lists.{oneIf, among}
-use Rattle.model.specs.Sheet.{EvaluationOrder, EffectKind, Freeze, Mutate, MutateConditionally, MutateTransitive, MutateTransitiveConditionally, Capture, Alias, MaybeAlias, Assign, Create, CreateFrom, ImmutableCapture, Apply, CreateFunction, MutateFrozen, MutateGlobal, Impure, Render, Effect}
-use Rattle.model.specs.Effects.{kinds, kindOf, rowOf, isCreateFunction, isRelation, isMutation, isRender}
-use Rattle.model.specs.Building.{instructionEffect}
+use mathlib.Core.Logic.{inl, inr}
+use lib.Dec.{eqb}
+use borrow.Author.Tests.{eq-eqb}
+use types.Run.{OneOf}
+use denote.Enum.Declared.{tagOf}
+use Rattle.model.specs.Limits.{mostIdentifiers, mostFunctions, mostRelations, mostMutations, mostRenders}
+use Rattle.model.specs.Lists.{pick, oneIf, among}
+use Rattle.model.specs.Sheet.{EvaluationOrder, Effect}
+use Rattle.model.specs.Effects.{rowOf, isAlias, isCreateFunction, isRelation, isMutation, isRender}
+use Rattle.model.specs.Ranges.{PlaceBelow}
+use Rattle.model.specs.Graph.{intoAliases, relate}
+use Rattle.model.specs.Built.{Built, between}
+use Rattle.model.specs.Building.{instructionEffect, terminalEffect}
+use Rattle.hir.specs.Numbers.{kindSays}
+use Rattle.hir.specs.Says.{placeIs, effectIs}
+use Rattle.hir.specs.declared.AliasingEffect.{AliasingEffect}
+use Rattle.hir.proofs.EffectKind.{the-type}
+use Rattle.hir.specs.declared.EffectKind.{EffectKind as Kind}
+use Rattle.hir.specs.declared.EffectKind.the-variants.{Freeze as KindFreeze, Mutate as KindMutate, MutateConditionally as KindMutateConditionally, MutateTransitive as KindMutateTransitive, MutateTransitiveConditionally as KindMutateTransitiveConditionally, Capture as KindCapture, Alias as KindAlias, MaybeAlias as KindMaybeAlias, Assign as KindAssign, Create as KindCreate, CreateFrom as KindCreateFrom, ImmutableCapture as KindImmutableCapture, Apply as KindApply, CreateFunction as KindCreateFunction, MutateFrozen as KindMutateFrozen, MutateGlobal as KindMutateGlobal, Impure as KindImpure, Render as KindRender}
 use Rattle.building.specs.declared.Building.{Building}
 use Rattle.building.specs.Built.{Sound}
-use Rattle.hir.proofs.Table.{at}
-use Rattle.instructions.specs.Cost.{kindCost, effectCost, Fits}
-use Rattle.instructions.specs.Builds.{effectStep, InRange, Spends}
+use Rattle.instructions.specs.Cost.{relationsOnly, kindCost, effectCost, terminalEffectCost, Fits}
+use Rattle.instructions.specs.Ranges.{InRange}
+use Rattle.instructions.specs.Builds.{effectStep, Spends}
 use Rattle.instructions.proofs.Spending.{spends-none}
 
-module _ (e : Effect) (k : EffectKind) (q : e .kind ≡ k) where
+-- ---- an effect of an instruction
+-- what is asked of the building
+abbrev Asked : AliasingEffect → List ℕ → Building → Type 0
+Asked e ws b = Sound ws b × (InRange (effectIs e) × Fits (effectCost (effectIs e)) b)
+
+module _ (e : AliasingEffect) {k : Kind} (q : e .kind ≡ k) {ws : List ℕ} {b : Building} where
   -- its step
-  pub effect-of : (o : EvaluationOrder) {ws ws′ : List ℕ} {b r : Building} → Spends (instructionEffect k o e) (kindCost k) ws b ws′ r → Spends (effectStep o e) (effectCost e) ws b ws′ r
-  effect-of o {ws} {ws′} {b} {r} h = subst (λ (k : EffectKind). Spends (instructionEffect k o e) (kindCost k) ws b ws′ r) (sym q) h
+  pub effect-of : (o : EvaluationOrder) {ws′ : List ℕ} {r : Building} → Spends (instructionEffect (kindSays k) o (effectIs e)) (kindCost (kindSays k)) ws b ws′ r → Spends (effectStep o (effectIs e)) (effectCost (effectIs e)) ws b ws′ r
+  effect-of o {ws′} {r} h = subst (λ (k : Kind). Spends (instructionEffect (kindSays k) o (effectIs e)) (kindCost (kindSays k)) ws b ws′ r) (sym q) h
 
-  -- there is room for it
-  module _ {b : Building} (f : Fits (effectCost e) b) where
-    room : Fits (kindCost k) b
-    room = subst (λ (k : EffectKind). Fits (kindCost k) b) q f
+  room : Asked e ws b → Fits (kindCost (kindSays k)) b
+  room p = subst (λ (k : Kind). Fits (kindCost (kindSays k)) b) q (p .1 .1)
 
-    pub relation-fits : isRelation (rowOf k .role) ≡ true → b .relations < 1024
-    unfolding kindCost
-    relation-fits t = omega (arith, room .relations, ap oneIf t)
+  pub relation-can : isRelation (rowOf (kindSays k) .role) ≡ true → Asked e ws b → Sound ws b × ((b .relations < mostRelations) × (PlaceBelow mostIdentifiers (placeIs (e .first)) × PlaceBelow mostIdentifiers (placeIs (e .second))))
+  unfolding kindCost
+  relation-can t p = (p .0, (omega (arith, room p .relations, ap oneIf t), (p .1 .0 .first, p .1 .0 .second)))
 
-    pub mutation-fits : isMutation (rowOf k .role) ≡ true → b .mutations < 512
-    unfolding kindCost
-    mutation-fits t = omega (arith, room .mutations, ap oneIf t)
+  pub mutation-can : isMutation (rowOf (kindSays k) .role) ≡ true → Asked e ws b → Sound ws b × ((b .mutations < mostMutations) × PlaceBelow mostIdentifiers (placeIs (e .first)))
+  unfolding kindCost
+  mutation-can t p = (p .0, (omega (arith, room p .mutations, ap oneIf t), p .1 .0 .first))
 
-    pub render-fits : isRender (rowOf k .role) ≡ true → b .renders < 256
-    unfolding kindCost
-    render-fits t = omega (arith, room .renders, ap oneIf t)
+  pub render-can : isRender (rowOf (kindSays k) .role) ≡ true → Asked e ws b → Sound ws b × ((b .renders < mostRenders) × PlaceBelow mostIdentifiers (placeIs (e .first)))
+  unfolding kindCost
+  render-can t p = (p .0, (omega (arith, room p .renders, ap oneIf t), p .1 .0 .first))
 
 -- the extra word is a reason or none
-pub reason-below : (e : Effect) → e .kind ≡ Mutate → InRange e → e .extra < 2
+pub reason-below : (e : AliasingEffect) → e .kind ≡ KindMutate → InRange (effectIs e) → e .extra < 2
 unfolding rowOf
-reason-below e q h =
-    let t : isCreateFunction (e .kind) ≡ false = ap isCreateFunction q in
-    let x : rowOf (e .kind) .extra ≡ 1 = ap (λ (k : EffectKind). rowOf k .extra) q in
-    omega (arith, h .extra t, x)
+reason-below e q h = omega (arith, h .extra (ap (λ (k : Kind). isCreateFunction (kindSays k)) q), ap (λ (k : Kind). rowOf (kindSays k) .extra) q)
 
 -- it is an inner function
-pub function-below : (e : Effect) → e .kind ≡ CreateFunction → InRange e → e .extra < 64
+pub function-below : (e : AliasingEffect) → e .kind ≡ KindCreateFunction → InRange (effectIs e) → e .extra < mostFunctions
 unfolding rowOf
-function-below e q h =
-    let t : isCreateFunction (e .kind) ≡ true = ap isCreateFunction q in
-    h .function t
+function-below e q h = h .function (ap (λ (k : Kind). isCreateFunction (kindSays k)) q)
 
--- ---- the kind by its number
--- a number has its own row, and one above 17 the first
-pub number-row : (P : ℕ → Type 0) (k : ℕ) → P k → P 0 → P (rowOf (kindOf k) .number)
-unfolding kindOf rowOf
-number-row P k p z = go (leb k 17) refl
-  where
-    go : (t : Bool) → leb k 17 ≡ t → P (rowOf (kindOf k) .number)
-    go true h = subst P (sym (eqb→eq _ _ (at Freeze (λ (i : ℕ) (x : EffectKind). eqb (rowOf x .number) i) kinds tt k (omega (arith, leb-true k 17 h))))) p
-    go false h = subst P (ap (λ (x : EffectKind). rowOf x .number) (sym (List·getD-eq-default kinds Freeze {n = k} (omega (arith, leb-false k 17 h))))) z
+-- ---- the last arm of a match: the kind's number is one of these
+or-true : (b : Bool) → b || true ≡ true
+or-true true = refl
+or-true false = refl
 
--- the numbers of the kinds that build something
-abbrev building : List ℕ
-building = 17 ∷ 13 ∷ 10 ∷ 9 ∷ 8 ∷ 7 ∷ 6 ∷ 5 ∷ 4 ∷ 3 ∷ 2 ∷ 1 ∷ []
+pub one-of : (l : List ℕ) (x : ℕ) → OneOf l x → among x l ≡ true
+one-of [] x h = absurd h
+one-of (k ∷ []) x h = rw (eq-eqb x k h)
+one-of (k ∷ j ∷ l) x h = elim h [ inl a ↦ rw (eq-eqb x k a) | inr b ↦ rw (one-of (j ∷ l) x b) (or-true (eqb x k)) ]
 
--- none of these
-abbrev None : ℕ → List ℕ → Type 0
-None k [] = Unit {0}
-None k (j ∷ l) = None k l × (k ≡ j → ⊥)
+-- the kinds that do nothing
+abbrev pub idleKinds : List ℕ
+idleKinds = 0 ∷ 11 ∷ 12 ∷ 14 ∷ 15 ∷ 16 ∷ []
 
-none-among : (k : ℕ) (l : List ℕ) → None k l → among k l ≡ false
-none-among k [] h = refl
-none-among k (j ∷ l) h = rw (ne-eqb k j (h .1)) (none-among k l (h .0))
+pub idle : (k : Kind) → among (tagOf the-type k) idleKinds ≡ true → (o : EvaluationOrder) (e : Effect) {ws : List ℕ} {b : Building} → Sound ws b → Spends (instructionEffect (kindSays k) o e) (kindCost (kindSays k)) ws b ws b
+unfolding instructionEffect kindCost rowOf
+idle KindFreeze t o e h = spends-none h
+idle KindMutate t o e h = absurd (false≢true t)
+idle KindMutateConditionally t o e h = absurd (false≢true t)
+idle KindMutateTransitive t o e h = absurd (false≢true t)
+idle KindMutateTransitiveConditionally t o e h = absurd (false≢true t)
+idle KindCapture t o e h = absurd (false≢true t)
+idle KindAlias t o e h = absurd (false≢true t)
+idle KindMaybeAlias t o e h = absurd (false≢true t)
+idle KindAssign t o e h = absurd (false≢true t)
+idle KindCreate t o e h = absurd (false≢true t)
+idle KindCreateFrom t o e h = absurd (false≢true t)
+idle KindImmutableCapture t o e h = spends-none h
+idle KindApply t o e h = spends-none h
+idle KindCreateFunction t o e h = absurd (false≢true t)
+idle KindMutateFrozen t o e h = spends-none h
+idle KindMutateGlobal t o e h = spends-none h
+idle KindImpure t o e h = spends-none h
+idle KindRender t o e h = absurd (false≢true t)
 
-module _ (o : EvaluationOrder) (e : Effect) {ws : List ℕ} {b : Building} (h : Sound ws b) where
-  idle : (k : EffectKind) → among (rowOf k .number) building ≡ false → Spends (instructionEffect k o e) (kindCost k) ws b ws b
-  unfolding instructionEffect kindCost rowOf
-  idle Freeze q = spends-none h
-  idle Mutate q = absurd (true≢false q)
-  idle MutateConditionally q = absurd (true≢false q)
-  idle MutateTransitive q = absurd (true≢false q)
-  idle MutateTransitiveConditionally q = absurd (true≢false q)
-  idle Capture q = absurd (true≢false q)
-  idle Alias q = absurd (true≢false q)
-  idle MaybeAlias q = absurd (true≢false q)
-  idle Assign q = absurd (true≢false q)
-  idle Create q = absurd (true≢false q)
-  idle CreateFrom q = absurd (true≢false q)
-  idle ImmutableCapture q = spends-none h
-  idle Apply q = spends-none h
-  idle CreateFunction q = absurd (true≢false q)
-  idle MutateFrozen q = spends-none h
-  idle MutateGlobal q = spends-none h
-  idle Impure q = spends-none h
-  idle Render q = absurd (true≢false q)
+-- ---- an effect of a terminal: an Alias, or one that does nothing
+module _ (e : AliasingEffect) {t : Bool} (q : isAlias (kindSays (e .kind)) ≡ t) {ws : List ℕ} {b : Building} where
+  pub terminal-effect-of : {ws′ : List ℕ} {r : Building} → Spends (λ (z : Built). pick t (between (relate intoAliases) (placeIs (e .first)) (placeIs (e .second)) z) z) (relationsOnly (oneIf t)) ws b ws′ r
+      → Spends (terminalEffect (effectIs e)) (terminalEffectCost (effectIs e)) ws b ws′ r
+  unfolding terminalEffect terminalEffectCost
+  terminal-effect-of {ws′} {r} h = subst (λ (t : Bool). Spends (λ (z : Built). pick t (between (relate intoAliases) (placeIs (e .first)) (placeIs (e .second)) z) z) (relationsOnly (oneIf t)) ws b ws′ r) (sym q) h
 
-  -- the kinds of the other numbers do nothing
-  pub idle-number : (k : ℕ) → None k building → Spends (instructionEffect (kindOf k) o e) (kindCost (kindOf k)) ws b ws b
-  idle-number k q = idle (kindOf k) (number-row (λ (x : ℕ). among x building ≡ false) k (none-among k building q) refl)
+pub is-alias : {k : Kind} → k ≡ KindAlias → isAlias (kindSays k) ≡ true
+unfolding rowOf
+is-alias q = ap (λ (k : Kind). isAlias (kindSays k)) q
+
+pub alias-fits : (e : AliasingEffect) {b : Building} → isAlias (kindSays (e .kind)) ≡ true → Fits (terminalEffectCost (effectIs e)) b → b .relations < mostRelations
+unfolding terminalEffectCost
+alias-fits e t f = omega (arith, f .relations, ap oneIf t)
+
+-- the kinds that are no Alias
+abbrev pub otherKinds : List ℕ
+otherKinds = 0 ∷ 1 ∷ 2 ∷ 3 ∷ 4 ∷ 5 ∷ 7 ∷ 8 ∷ 9 ∷ 10 ∷ 11 ∷ 12 ∷ 13 ∷ 14 ∷ 15 ∷ 16 ∷ 17 ∷ []
+
+pub not-alias : (k : Kind) → among (tagOf the-type k) otherKinds ≡ true → isAlias (kindSays k) ≡ false
+unfolding rowOf
+not-alias KindFreeze t = refl
+not-alias KindMutate t = refl
+not-alias KindMutateConditionally t = refl
+not-alias KindMutateTransitive t = refl
+not-alias KindMutateTransitiveConditionally t = refl
+not-alias KindCapture t = refl
+not-alias KindAlias t = absurd (false≢true t)
+not-alias KindMaybeAlias t = refl
+not-alias KindAssign t = refl
+not-alias KindCreate t = refl
+not-alias KindCreateFrom t = refl
+not-alias KindImmutableCapture t = refl
+not-alias KindApply t = refl
+not-alias KindCreateFunction t = refl
+not-alias KindMutateFrozen t = refl
+not-alias KindMutateGlobal t = refl
+not-alias KindImpure t = refl
+not-alias KindRender t = refl

@@ -1,10 +1,6 @@
-pub mod Gots
 pub mod Spending
 pub mod Building
-pub mod Looping
-pub mod Numbering
 pub mod Ranges
 pub mod Effect
 pub mod Instruction
 pub mod Terminal
-pub mod InPlace

@@ -1,55 +1,78 @@
--- The words of an effect that was read are in their ranges.
-use Prim.Native.Nat.{ℕ, _≤_, _<_}
+-- The words of a part that was read are in their ranges.
+use Prim.Native.Nat.{ℕ, zero, suc, _≤_, _<_}
 use native.Mathlib.Omega.{arith}
 use mathlib.Core.Path.{_≡_, sym, _∙_}
 use mathlib.Core.Bool.{Bool, true, false, true≢false}
 use lib.Dec.{leb}
-use Rattle.model.specs.Limits.{mostTraits, mostKind}
-use Rattle.model.specs.Lists.{pick}
-use Rattle.model.specs.Sheet.{Place, noPlace, EffectKind}
+use Rattle.model.specs.Limits.{mostIdentifiers, mostFunctions, mostCount, mostOrder, mostTerminal, mostTraits, mostKind}
+use Rattle.model.specs.Lists.{pick, Every}
+use Rattle.model.specs.Sheet.{noPlace, EffectKind, Other, Return, MaybeThrow}
 use Rattle.model.specs.Effects.{kindOf, rowOf, isCreateFunction}
+use Rattle.model.specs.Ranges.{PlaceBelow}
 use Rattle.model.specs.Reading.{Read, _>>=_, word, atMost, below}
-use Rattle.model.specs.Sections.{place, unused, extra, effect}
-use Rattle.model.proofs.ReadLaws.{Reads, pure-reads, pick-reads, any-reads, bind-reads, below-reads}
+use Rattle.model.specs.Sections.{place, unused, extra, effect, effects, instruction, terminalOf, terminal}
+use Rattle.model.proofs.ReadLaws.{Reads, pure-reads, pick-reads, any-reads, bind-reads, below-reads, counted-reads}
 use Rattle.hir.proofs.Ranges.{at-most-reads}
-use Rattle.instructions.specs.Builds.{InRange}
+use Rattle.instructions.specs.Ranges.{InRange, InstructionInRange, TerminalInRange}
 
 -- a part of which nothing is asked
-then-reads : {A B : Type 0} (m : Read A) (f : A → Read B) (Q : B → Type 0) → ((a : A) → Reads (f a) Q) → Reads (m >>= f) Q
+pub then-reads : {A B : Type 0} (m : Read A) (f : A → Read B) (Q : B → Type 0) → ((a : A) → Reads (f a) Q) → Reads (m >>= f) Q
 then-reads {A} m f Q k = bind-reads m f (λ (a : A). Unit {0}) Q (any-reads m) (λ a u. k a)
 
-abbrev Known : Place → Type 0
-Known p = p .identifier < 512
-
-pub place-known : (n : ℕ) → n ≤ 512 → Reads (place n) Known
+pub place-known : (n : ℕ) → n ≤ mostIdentifiers → Reads (place n) (PlaceBelow mostIdentifiers)
 unfolding place
 place-known n h =
-    bind-reads (below n) _ (λ (i : ℕ). i < n) Known (below-reads n)
-    (λ i k. then-reads (atMost mostTraits) _ Known (λ t. then-reads word _ Known (λ s. pure-reads _ Known (omega (arith, h, k)))))
+    bind-reads (below n) _ (λ (i : ℕ). i < n) (PlaceBelow mostIdentifiers) (below-reads n)
+    (λ i k. then-reads (atMost mostTraits) _ (PlaceBelow mostIdentifiers) (λ t. then-reads word _ (PlaceBelow mostIdentifiers) (λ s. pure-reads _ (PlaceBelow mostIdentifiers) (omega (arith, h, k)))))
 
-unused-known : Reads unused Known
+unused-known : Reads unused (PlaceBelow mostIdentifiers)
 unfolding unused
 unused-known =
-    then-reads (atMost 0) _ Known (λ i. then-reads (atMost 0) _ Known (λ t. then-reads (atMost 0) _ Known (λ s. pure-reads noPlace Known (omega arith))))
+    then-reads (atMost 0) _ (PlaceBelow mostIdentifiers) (λ i. then-reads (atMost 0) _ (PlaceBelow mostIdentifiers) (λ t. then-reads (atMost 0) _ (PlaceBelow mostIdentifiers) (λ s. pure-reads noPlace (PlaceBelow mostIdentifiers) (omega arith))))
 
-known : (n : ℕ) → n ≤ 512 → (b : Bool) → Reads (pick b (place n) unused) Known
-known n h b = pick-reads b (place n) unused Known (λ e. place-known n h) (λ e. unused-known)
+known : (n : ℕ) → n ≤ mostIdentifiers → (b : Bool) → Reads (pick b (place n) unused) (PlaceBelow mostIdentifiers)
+known n h b = pick-reads b (place n) unused (PlaceBelow mostIdentifiers) (λ e. place-known n h) (λ e. unused-known)
 
 abbrev ExtraKnown : EffectKind → ℕ → Type 0
-ExtraKnown k x = (isCreateFunction k ≡ true → x < 64) × (isCreateFunction k ≡ false → x ≤ rowOf k .extra)
+ExtraKnown k x = (isCreateFunction k ≡ true → x < mostFunctions) × (isCreateFunction k ≡ false → x ≤ rowOf k .extra)
 
-extra-known : (m : ℕ) → m ≤ 64 → (k : EffectKind) → Reads (extra m k) (ExtraKnown k)
+extra-known : (m : ℕ) → m ≤ mostFunctions → (k : EffectKind) → Reads (extra m k) (ExtraKnown k)
 unfolding extra
 extra-known m h k =
     pick-reads (isCreateFunction k) (below m) (atMost (rowOf k .extra)) (ExtraKnown k)
     (λ t ws c a d e. (λ u. omega (arith, h, below-reads m ws c a d e), λ u. absurd (true≢false (sym t ∙ u))))
     (λ t ws c a d e. (λ u. absurd (true≢false (sym u ∙ t)), λ u. at-most-reads (rowOf k .extra) ws c a d e))
 
-pub effect-known : (n m : ℕ) → n ≤ 512 → m ≤ 64 → Reads (effect n m) InRange
-unfolding effect
-effect-known n m hn hm =
-    then-reads (atMost mostKind) _ InRange
-    (λ w. bind-reads (pick (leb 1 (rowOf (kindOf w) .places)) (place n) unused) _ Known InRange (known n hn (leb 1 (rowOf (kindOf w) .places)))
-    (λ p hp. bind-reads (pick (leb 2 (rowOf (kindOf w) .places)) (place n) unused) _ Known InRange (known n hn (leb 2 (rowOf (kindOf w) .places)))
-    (λ q hq. bind-reads (extra m (kindOf w)) _ (ExtraKnown (kindOf w)) InRange (extra-known m hm (kindOf w))
-    (λ x hx. pure-reads _ InRange (record { first = hp; second = hq; function = hx .0; extra = hx .1 })))))
+module _ (n m : ℕ) (hn : n ≤ mostIdentifiers) (hm : m ≤ mostFunctions) where
+  effect-known : Reads (effect n m) InRange
+  unfolding effect
+  effect-known =
+      then-reads (atMost mostKind) _ InRange
+      (λ w. bind-reads (pick (leb 1 (rowOf (kindOf w) .places)) (place n) unused) _ (PlaceBelow mostIdentifiers) InRange (known n hn (leb 1 (rowOf (kindOf w) .places)))
+      (λ p hp. bind-reads (pick (leb 2 (rowOf (kindOf w) .places)) (place n) unused) _ (PlaceBelow mostIdentifiers) InRange (known n hn (leb 2 (rowOf (kindOf w) .places)))
+      (λ q hq. bind-reads (extra m (kindOf w)) _ (ExtraKnown (kindOf w)) InRange (extra-known m hm (kindOf w))
+      (λ x hx. pure-reads _ InRange (record { first = hp; second = hq; function = hx .0; extra = hx .1 })))))
+
+  effects-known : Reads (effects n m) (Every InRange)
+  unfolding effects
+  effects-known = counted-reads InRange mostCount (effect n m) effect-known
+
+  pub instruction-known : Reads (instruction n m) InstructionInRange
+  unfolding instruction
+  instruction-known =
+      then-reads (atMost mostOrder) _ InstructionInRange
+      (λ o. bind-reads (effects n m) _ (Every InRange) InstructionInRange effects-known (λ l q. pure-reads _ InstructionInRange q))
+
+  terminalOf-known : (k o : ℕ) → Reads (terminalOf n m k o) TerminalInRange
+  unfolding terminalOf
+  terminalOf-known zero o = pure-reads (Other o) TerminalInRange tt
+  terminalOf-known (suc zero) o =
+      bind-reads (place n) _ (PlaceBelow mostIdentifiers) TerminalInRange (place-known n hn)
+      (λ p hp. bind-reads (effects n m) _ (Every InRange) TerminalInRange effects-known (λ l q. pure-reads (Return o p l) TerminalInRange (hp, q)))
+  terminalOf-known (suc (suc k)) o =
+      bind-reads (effects n m) _ (Every InRange) TerminalInRange effects-known (λ l q. pure-reads (MaybeThrow o l) TerminalInRange q)
+
+  pub terminal-known : Reads (terminal n m) TerminalInRange
+  unfolding terminal
+  terminal-known =
+      then-reads (atMost mostTerminal) _ TerminalInRange (λ k. then-reads (atMost mostOrder) _ TerminalInRange (λ o. terminalOf-known k o))

@@ -1,3 +1,3 @@
 pub mod Cost
+pub mod Ranges
 pub mod Builds
-pub mod InPlace

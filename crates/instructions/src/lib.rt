@@ -1,134 +1,110 @@
 // What a block's instructions and its terminal do to the building: the second reading of the sheet, after it was accepted.
 use building::Building;
 use building::NodeValue;
-use hir::Cursor;
+use hir::AliasingEffect;
+use hir::EffectKind;
 use hir::EvaluationOrder;
 use hir::FunctionId;
-use hir::IdentifierId;
-use hir::runs::without_effects;
-ghost use Prim.Native.Nat.{_+_, _≤_};
-ghost use lib.ListN.{length};
-ghost use Rattle.model.specs.Limits.{mostCount};
-ghost use Rattle.model.specs.Lists.{each};
-ghost use Rattle.model.specs.Reading.{counted};
-ghost use Rattle.model.specs.Sections.{effects, instruction};
+use hir::at::EFFECT_WIDTH;
+use hir::at::List;
+use hir::at::effect_at;
+use hir::at::instruction_at;
+use hir::at::list_at;
+ghost use Rattle.model.specs.Lists.{each, Every};
 ghost use Rattle.model.specs.Building.{instruction as instructionStep};
+ghost use Rattle.hir.specs.Says.{effectIs};
+ghost use Rattle.hir.specs.Words.{effectWidth, wide, effectAt, several, instructionFrom, instructionsFrom};
 ghost use Rattle.building.specs.Built.{Sound};
 ghost use Rattle.instructions.specs.Cost.{costs, effectCost, instructionCost, Fits};
-ghost use Rattle.instructions.specs.InPlace.{effectFrom};
-ghost use Rattle.instructions.specs.Builds.{effectStep, InRange, Spends, Ready, Builds};
+ghost use Rattle.instructions.specs.Ranges.{InRange, InstructionInRange};
+ghost use Rattle.instructions.specs.Builds.{effectStep, Spends, Ready, Builds};
 
 pub mod terminals;
 
-// The building and the position after a part of the sheet, or a refusal.
-pub enum BuildStep {
-    Got(Building, Cursor),
-    Refused(u32),
+// The building after a part of the sheet, and the position after it.
+pub struct Built {
+    pub building: Building,
+    pub next: usize,
 }
 
-// The effect of an instruction with this order that stands at `at`. MutateFrozen, MutateGlobal and Impure matter to the answer alone; Freeze, ImmutableCapture and Apply are no-ops.
+// An effect of an instruction with this order. MutateFrozen, MutateGlobal and Impure matter to the answer alone; Freeze, ImmutableCapture and Apply are no-ops.
 fn build_effect(
-    s: &[u32],
-    at: usize,
+    e: AliasingEffect,
+    order: EvaluationOrder,
     ws: &mut [u32],
     b: Building,
-    order: EvaluationOrder,
 ) -> Building
-    requires { ⌜ at + 8 ≤ length (now s) ⌝ }
     requires { ⌜ Sound (now ws) b ⌝ }
-    requires { ⌜ InRange (effectFrom (now s) at) × Fits (effectCost (effectFrom (now s) at)) b ⌝ }
-    ensures { λ r. ⌜ Spends (effectStep (order .0) (effectFrom (now (s .entry)) at)) (effectCost (effectFrom (now (s .entry)) at)) (now (ws .entry)) b (now (ws .exit)) r ⌝ }
+    requires { ⌜ InRange (effectIs e) × Fits (effectCost (effectIs e)) b ⌝ }
+    ensures { λ r. ⌜ Spends (effectStep (order .0) (effectIs e)) (effectCost (effectIs e)) (now (ws .entry)) b (now (ws .exit)) r ⌝ }
 {
-    let number = s[at];
-    let from = IdentifierId(s[at + 1]);
-    let span = s[at + 3];
-    let into = IdentifierId(s[at + 4]);
-    let extra = s[at + 7];
-    match number {
-        1 => b.push_mutation(ws, from, span, order, 0, 1, extra), // Mutate
-        2 => b.push_mutation(ws, from, span, order, 0, 0, 0), // MutateConditionally
-        3 => b.push_mutation(ws, from, span, order, 1, 1, 0), // MutateTransitive
-        4 => b.push_mutation(ws, from, span, order, 1, 0, 0), // MutateTransitiveConditionally
-        5 => b.capture(ws, from, into), // Capture
-        6 => b.assign(ws, from, into), // Alias
-        7 => b.maybe_alias(ws, from, into), // MaybeAlias
-        8 => b.assign_effect(ws, from, into), // Assign
-        9 => b.create(ws, from, NodeValue::Object), // Create
-        10 => b.create_from(ws, from, into), // CreateFrom
-        13 => b.create(ws, from, NodeValue::Function(FunctionId(extra))), // CreateFunction
-        17 => b.push_render(ws, from), // Render
+    let kind = e.kind;
+    let from = e.first.identifier;
+    let into = e.second.identifier;
+    let span = e.first.span;
+    match kind {
+        EffectKind::Mutate => b.push_mutation(ws, from, span, order, 0, 1, e.extra),
+        EffectKind::MutateConditionally => b.push_mutation(ws, from, span, order, 0, 0, 0),
+        EffectKind::MutateTransitive => b.push_mutation(ws, from, span, order, 1, 1, 0),
+        EffectKind::MutateTransitiveConditionally => b.push_mutation(ws, from, span, order, 1, 0, 0),
+        EffectKind::Capture => b.capture(ws, from, into),
+        EffectKind::Alias => b.assign(ws, from, into),
+        EffectKind::MaybeAlias => b.maybe_alias(ws, from, into),
+        EffectKind::Assign => b.assign_effect(ws, from, into),
+        EffectKind::Create => b.create(ws, from, NodeValue::Object),
+        EffectKind::CreateFrom => b.create_from(ws, from, into),
+        EffectKind::CreateFunction => b.create(ws, from, NodeValue::Function(FunctionId(e.extra))),
+        EffectKind::Render => b.push_render(ws, from),
         _ => b,
     }
 }
 
-// An effect count and the effects of an instruction with this order.
+// The effects of an instruction with this order.
 fn build_effects(
-    start: Cursor,
+    list: List,
     s: &[u32],
-    n: u32,
-    m: u32,
+    order: EvaluationOrder,
     ws: &mut [u32],
     b: Building,
-    order: EvaluationOrder,
-) -> BuildStep
-    requires { ⌜ (n ≤ 512) × (m ≤ 64) ⌝ }
-    requires { ⌜ Ready (effects n m (now s) (start .at)) (costs effectCost) (now ws) b ⌝ }
-    ensures { λ r. ⌜ Builds (effects n m (now (s .entry)) (start .at)) (each (effectStep (order .0))) (costs effectCost) (now (ws .entry)) b (now (ws .exit)) r ⌝ }
+) -> Built
+    requires { ⌜ Ready (several (list .count) (wide effectWidth effectAt) (now s) (list .first)) (Every InRange) (costs effectCost) (now s) (now ws) b ⌝ }
+    ensures { λ r. ⌜ Builds (several (list .count) (wide effectWidth effectAt) (now (s .entry)) (list .first)) (each (effectStep (order .0))) (costs effectCost) (now (ws .entry)) b (now (ws .exit)) r ⌝ }
 {
-    let at = start.at;
-    let mut left = s[at];
-    let mut c = at + 1;
-    let mut built = b;
+    let mut left = list.count;
+    let mut next = list.first;
+    let mut building = b;
     while 0 < left {
-        built = build_effect(s, c, ws, built, order);
-        c += 8;
+        let e = effect_at(s, next);
+        building = build_effect(e, order, ws, building);
+        next += EFFECT_WIDTH;
         left -= 1;
     }
-    BuildStep::Got(built, Cursor { at: c })
+    Built { building, next }
 }
 
-// An order, an effect count and the effects.
-fn build_instruction(c: Cursor, s: &[u32], n: u32, m: u32, ws: &mut [u32], b: Building) -> BuildStep
-    requires { ⌜ (n ≤ 512) × (m ≤ 64) ⌝ }
-    requires { ⌜ Ready (instruction n m (now s) (c .at)) instructionCost (now ws) b ⌝ }
-    ensures { λ r. ⌜ Builds (instruction n m (now (s .entry)) (c .at)) instructionStep instructionCost (now (ws .entry)) b (now (ws .exit)) r ⌝ }
+// An instruction: its effects.
+fn build_instruction(at: usize, s: &[u32], ws: &mut [u32], b: Building) -> Built
+    requires { ⌜ Ready (instructionFrom (now s) at) InstructionInRange instructionCost (now s) (now ws) b ⌝ }
+    ensures { λ r. ⌜ Builds (instructionFrom (now (s .entry)) at) instructionStep instructionCost (now (ws .entry)) b (now (ws .exit)) r ⌝ }
 {
-    let at = c.at;
-    let order = EvaluationOrder(s[at]);
-    build_effects(Cursor { at: at + 1 }, s, n, m, ws, b, order)
+    let i = instruction_at(s, at);
+    build_effects(i.effects, s, i.order, ws, b)
 }
 
-// An instruction count and the instructions.
-pub fn build_instructions(
-    start: Cursor,
-    s: &[u32],
-    n: u32,
-    m: u32,
-    ws: &mut [u32],
-    b: Building,
-) -> BuildStep
-    requires { ⌜ (n ≤ 512) × (m ≤ 64) ⌝ }
-    requires { ⌜ Ready (counted mostCount (instruction n m) (now s) (start .at)) (costs instructionCost) (now ws) b ⌝ }
-    ensures { λ r. ⌜ Builds (counted mostCount (instruction n m) (now (s .entry)) (start .at)) (each instructionStep) (costs instructionCost) (now (ws .entry)) b (now (ws .exit)) r ⌝ }
+// A block's instructions.
+pub fn build_instructions(at: usize, s: &[u32], ws: &mut [u32], b: Building) -> Built
+    requires { ⌜ Ready (instructionsFrom (now s) at) (Every InstructionInRange) (costs instructionCost) (now s) (now ws) b ⌝ }
+    ensures { λ r. ⌜ Builds (instructionsFrom (now (s .entry)) at) (each instructionStep) (costs instructionCost) (now (ws .entry)) b (now (ws .exit)) r ⌝ }
 {
-    let at = start.at;
-    let mut left = s[at];
-    let mut c = Cursor { at: at + 1 };
-    let mut built = b;
+    let list = list_at(s, at);
+    let mut left = list.count;
+    let mut next = list.first;
+    let mut building = b;
     while 0 < left {
-        match build_instruction(c, s, n, m, ws, built) {
-            BuildStep::Got(t, d2) => {
-                built = t;
-                let run = without_effects(s, c.at, d2.at, left - 1);
-                left = left - 1 - run;
-                c = Cursor {
-                    at: d2.at + 2 * (run as usize),
-                };
-            }
-            BuildStep::Refused(k) => {
-                return BuildStep::Refused(k);
-            }
-        }
+        let built = build_instruction(next, s, ws, building);
+        building = built.building;
+        next = built.next;
+        left -= 1;
     }
-    BuildStep::Got(built, c)
+    Built { building, next }
 }

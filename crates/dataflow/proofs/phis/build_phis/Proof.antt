@@ -1,73 +1,27 @@
 use native.Mathlib.Omega.{arith}
-use mathlib.Core.Path.{refl, _∙_}
-use borrow.Author.Needs.{needs}
-use Rattle.model.specs.Limits.{mostCount}
-use Rattle.model.specs.Reading.{times}
-use Rattle.model.specs.Sections.{phi}
 use Rattle.model.specs.Building.{phiNode}
-use Rattle.instructions.proofs.InPlace.{counted-inside, counted-here}
-use Rattle.instructions.proofs.Building.{not-built, found-builds, ready-as, builds-as}
-use Rattle.instructions.proofs.Looping.{Looping, loop-start, times-ready, times-turn, times-done}
+use Rattle.hir.specs.Words.{several, phiFrom}
 use Rattle.dataflow.specs.Cost.{phiCost}
+use Rattle.dataflow.specs.Ranges.{PhiInRange}
+use Rattle.instructions.proofs.Building.{list-inside, list-ready, list-builds, Looping, loop-start, loop-done, loop-ready, loop-turn}
+use Rattle.dataflow.proofs.Phi.{rises}
 use Rattle.dataflow.proofs.phis.build_phis.Statement.{statement}
 use Rattle.dataflow.proofs.phis.build_phis.Tie as tie
 
 abbrev Inv-loop : tie.InvT-loop
-Inv-loop s n ws₀ at left₀ c₀ built₀ ws left c built = Looping phiNode phiCost (times left₀ (phi n) s (c₀ .at)) ws₀ built₀ (times left (phi n) s (c .at)) ws built
+Inv-loop at s ws₀ left₀ next₀ building₀ ws left next building = Looping phiFrom PhiInRange phiNode phiCost s (several left₀ phiFrom s next₀) ws₀ building₀ left next ws building
 
 abbrev μ-loop : tie.MeasureT-loop
-μ-loop s n ws₀ at left₀ c₀ built₀ ws left c built = left
+μ-loop at s ws₀ left₀ next₀ building₀ ws left next building = left
 
-mul-left : tie.Need-mul-left Inv-loop μ-loop
-mul-left c =
-    let b = c .before .before in
-    let a = b .args in
-    let i = counted-inside mostCount (phi (a .n)) (a .s .now) (a .start .at) (b .pre .1 .reads) in
-    omega (arith, i)
-
-shared-slice-read-left : tie.Need-shared-slice-read-left Inv-loop μ-loop
-shared-slice-read-left c =
-    let b = c .before .before .before in
-    let a = b .args in
-    let i = counted-inside mostCount (phi (a .n)) (a .s .now) (a .start .at) (b .pre .1 .reads) in
-    omega (arith, i)
-
-add-t13 : tie.Need-add-t13 Inv-loop μ-loop
-add-t13 c =
-    let b = c .before .before .before in
-    let a = b .args in
-    let i = counted-inside mostCount (phi (a .n)) (a .s .now) (a .start .at) (b .pre .1 .reads) in
-    omega (arith, i)
+list-at-requires : tie.Need-list-at-requires Inv-loop μ-loop
+list-at-requires c κs = list-inside phiFrom rises _ _ (c .before .before .pre)
 
 loop-holds : tie.Need-loop-holds Inv-loop μ-loop
-loop-holds c =
-    let b = c .before .before .before in
-    let a = b .args in
-    loop-start phiNode phiCost _ _ refl (ready-as (counted-here mostCount (phi (a .n)) (a .s .now) (a .start .at) (b .pre .1 .reads)) (b .pre .1))
+loop-holds c = loop-start (list-ready phiFrom _ _ (c .list-at .ensures) (c .before .before .before .pre))
 
 build-phi-requires : tie.Need-build-phi-requires Inv-loop μ-loop
-build-phi-requires c κs =
-    let l = c .before .before .loop in
-    let b = c .before .before .before .before .before .before in
-    let a = b .args in
-    (b .pre .0, times-ready phiNode phiCost (phi (a .n)) (a .s .now) (l .left) (l .c) (l .inv) (c .before .loop-test .taken))
-
-enum-known-t : tie.Need-enum-known-t Inv-loop μ-loop
-enum-known-t c = search needs
-
-enum-known-k : tie.Need-enum-known-k Inv-loop μ-loop
-enum-known-k c = search needs
-
-same-length : tie.Need-same-length Inv-loop μ-loop
-same-length c =
-    c .before .before .before .before .before .build-phi .kept .1 .1 .1 .0 ∙ c .before .before .before .before .before .before .before .before .loop .inv .same
-
-returns : tie.Need-returns Inv-loop μ-loop
-returns c =
-    let l = c .before .before .before .before .before .before .before .before .loop in
-    let b = c .before .before .before .before .before .before .before .before .before .before .before .before in
-    let a = b .args in
-    absurd (not-built (times-ready phiNode phiCost (phi (a .n)) (a .s .now) (l .left) (l .c) (l .inv) (c .before .before .before .before .before .before .before .loop-test .taken)) (found-builds (c .before .k .given .1) (c .before .before .before .before .before .build-phi .ensures)))
+build-phi-requires c κs = loop-ready (c .before .before .loop .inv) (c .before .loop-test .taken) rises
 
 sub-left : tie.Need-sub-left Inv-loop μ-loop
 sub-left c = omega arith
@@ -77,20 +31,14 @@ loop-less c = omega arith
 
 loop-again : tie.Need-loop-again Inv-loop μ-loop
 loop-again c =
-    let l = c .before .before .before .before .before .before .before .before .loop in
-    let b = c .before .before .before .before .before .before .before .before .before .before .before .before in
-    let a = b .args in
-    times-turn phiNode phiCost (phi (a .n)) (a .s .now) (l .left) (l .c) (l .inv) _ (c .before .before .before .before .before .before .before .loop-test .taken) (found-builds (c .before .t .given .1) (c .before .before .before .before .before .build-phi .ensures))
+    let b3 = c .before .before .before in
+    loop-turn (b3 .before .before .before .loop .inv) (b3 .before .before .loop-test .taken) (b3 .build-phi .ensures)
 
-same-length-2 : tie.Need-same-length-2 Inv-loop μ-loop
-same-length-2 c = c .before .loop .inv .same
+same-length : tie.Need-same-length Inv-loop μ-loop
+same-length c = c .before .loop .inv .same
 
-returns-2 : tie.Need-returns-2 Inv-loop μ-loop
-returns-2 c =
-    let l = c .before .loop in
-    let b = c .before .before .before .before .before in
-    let a = b .args in
-    builds-as (counted-here mostCount (phi (a .n)) (a .s .now) (a .start .at) (b .pre .1 .reads)) (times-done phiNode phiCost (phi (a .n)) (a .s .now) (l .left) (l .c) (l .inv) (c .loop-test .left))
+returns : tie.Need-returns Inv-loop μ-loop
+returns c = list-builds phiFrom _ _ (c .before .before .list-at .ensures) (loop-done (c .before .loop .inv) (c .loop-test .left))
 
 pub build-phis-spec : {M : Type 1} → statement M
 build-phis-spec =
@@ -98,17 +46,11 @@ build-phis-spec =
     (tie.spec
     Inv-loop
     μ-loop
-    mul-left
-    shared-slice-read-left
-    add-t13
+    list-at-requires
     loop-holds
     build-phi-requires
-    enum-known-t
-    enum-known-k
-    same-length
-    returns
     sub-left
     loop-less
     loop-again
-    same-length-2
-    returns-2)
+    same-length
+    returns)

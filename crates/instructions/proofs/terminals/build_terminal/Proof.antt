@@ -1,133 +1,82 @@
-use Prim.Native.Nat.{_+_}
-use native.Mathlib.Omega.{arith}
 use mathlib.Core.Path.{_∙_}
-use Rattle.model.specs.Sections.{place}
+use borrow.Author.Needs.{needs}
 use Rattle.hir.specs.Says.{placeIs}
-use Rattle.instructions.specs.InPlace.{wordAt, placeFrom}
-use Rattle.instructions.proofs.Building.{ready-as, builds-as}
-use Rattle.instructions.proofs.InPlace.{place-stands, here-inside}
-use Rattle.instructions.proofs.Ranges.{place-known}
-use Rattle.instructions.proofs.Terminal.{terminal-inside, terminal-here, throw-here, value-here, other-builds, throw-ready, throw-builds, value-fits, return-ready, return-builds}
+use Rattle.instructions.proofs.Terminal.{other-builds, throw-ready, throw-builds, value-fits, value-known, return-ready, return-builds}
 use Rattle.instructions.proofs.terminals.build_terminal.Statement.{statement}
 use Rattle.instructions.proofs.terminals.build_terminal.Tie as tie
 
-mul-kind : tie.Need-mul-kind
-mul-kind c =
-    let b = c .before .before in
-    let a = b .args in
-    let i = terminal-inside (a .n) (a .m) (a .s .now) (a .c .at) (b .pre .1 .reads) in
-    omega (arith, i)
+terminal-at-requires : tie.Need-terminal-at-requires
+terminal-at-requires c κs = c .before .before .pre .1 .inside
 
-shared-slice-read-kind : tie.Need-shared-slice-read-kind
-shared-slice-read-kind c =
-    let b = c .before .before .before in
-    let a = b .args in
-    let i = terminal-inside (a .n) (a .m) (a .s .now) (a .c .at) (b .pre .1 .reads) in
-    omega (arith, i)
+enum-known-next : tie.Need-enum-known-next
+enum-known-next c = search needs
 
-add-inside : tie.Need-add-inside
-add-inside c =
-    let b = c .before .before .before in
-    let a = b .args in
-    let i = terminal-inside (a .n) (a .m) (a .s .now) (a .c .at) (b .pre .1 .reads) in
-    omega (arith, i)
-
-mul-t19 : tie.Need-mul-t19
-mul-t19 c =
-    let b = c .before .before .before .before in
-    let a = b .args in
-    let e = terminal-here (a .n) (a .m) (a .s .now) (a .c .at) (b .pre .1 .reads) (c .match .keys2) in
-    let w = ready-as e (b .pre .1) in
-    let q = value-here (a .n) (a .m) (a .s .now) (wordAt (a .s .now) (a .c .at + 1)) (a .c .at + 2) (w .reads) in
-    let i = here-inside (place (a .n)) placeFrom 3 (place-stands (a .n)) (a .s .now) (a .c .at + 2) q in
-    omega (arith, i)
-
-shared-slice-read-t21 : tie.Need-shared-slice-read-t21
-shared-slice-read-t21 c =
-    let b = c .before .before .before .before .before in
-    let a = b .args in
-    let e = terminal-here (a .n) (a .m) (a .s .now) (a .c .at) (b .pre .1 .reads) (c .before .match .keys2) in
-    let w = ready-as e (b .pre .1) in
-    let q = value-here (a .n) (a .m) (a .s .now) (wordAt (a .s .now) (a .c .at + 1)) (a .c .at + 2) (w .reads) in
-    let i = here-inside (place (a .n)) placeFrom 3 (place-stands (a .n)) (a .s .now) (a .c .at + 2) q in
-    omega (arith, i)
+enum-known-value : tie.Need-enum-known-value
+enum-known-value c = search needs
 
 assign-requires : tie.Need-assign-requires
 assign-requires c κs =
-    let b = c .before .before .before .before .before .before .before in
-    let a = b .args in
-    let e = terminal-here (a .n) (a .m) (a .s .now) (a .c .at) (b .pre .1 .reads) (c .before .before .before .match .keys2) in
-    let w = ready-as e (b .pre .1) in
-    let q = value-here (a .n) (a .m) (a .s .now) (wordAt (a .s .now) (a .c .at + 1)) (a .c .at + 2) (w .reads) in
-    (w .sound, (value-fits (a .n) (a .m) (a .s .now) (placeIs (a .returns)) (wordAt (a .s .now) (a .c .at + 1)) (a .c .at + 2) q w, (place-known (a .n) (b .pre .0 .0) (a .s .now) (a .c .at + 2) _ _ q, b .pre .0 .1 .1)))
-
-add-t19 : tie.Need-add-t19
-add-t19 c =
-    let b = c .before .before .before .before .before .before .before .before .before .before in
-    let a = b .args in
-    let e = terminal-here (a .n) (a .m) (a .s .now) (a .c .at) (b .pre .1 .reads) (c .before .before .before .before .before .before .match .keys2) in
-    let w = ready-as e (b .pre .1) in
-    let q = value-here (a .n) (a .m) (a .s .now) (wordAt (a .s .now) (a .c .at + 1)) (a .c .at + 2) (w .reads) in
-    let i = here-inside (place (a .n)) placeFrom 3 (place-stands (a .n)) (a .s .now) (a .c .at + 2) q in
-    omega (arith, i)
+    let b4 = c .before .before .before .before in
+    let b7 = b4 .before .before .before in
+    let q = c .before .before .value .given .1 in
+    let h = b4 .terminal-at .ensures in
+    let w = b7 .pre .1 in
+    (w .sound, (value-fits _ _ w q h, (value-known _ _ w q h, b7 .pre .0)))
 
 build-terminal-effects-requires : tie.Need-build-terminal-effects-requires
 build-terminal-effects-requires c κs =
-    let b = c .before .before .before .before .before .before .before .before .before .before .before in
-    let a = b .args in
-    let e = terminal-here (a .n) (a .m) (a .s .now) (a .c .at) (b .pre .1 .reads) (c .before .before .before .before .before .before .before .match .keys2) in
-    let w = ready-as e (b .pre .1) in
-    let q = value-here (a .n) (a .m) (a .s .now) (wordAt (a .s .now) (a .c .at + 1)) (a .c .at + 2) (w .reads) in
-    ((b .pre .0 .0, b .pre .0 .1 .0), return-ready (a .n) (a .m) (a .s .now) (placeIs (a .returns)) (wordAt (a .s .now) (a .c .at + 1)) (a .c .at + 2) q (c .before .before .before .assign .ensures) w)
+    let b3 = c .before .before .before in
+    let b6 = b3 .before .before .before in
+    let b8 = b6 .before .before in
+    let b11 = b8 .before .before .before in
+    return-ready _ _ (b11 .pre .1) (b6 .value .given .1) (b8 .terminal-at .ensures) (placeIs (b11 .args .returns)) (b3 .assign .ensures)
+
+enum-known-effects : tie.Need-enum-known-effects
+enum-known-effects c = search needs
 
 build-terminal-effects-requires-2 : tie.Need-build-terminal-effects-requires-2
 build-terminal-effects-requires-2 c κs =
-    let b = c .before .before .before .before .before in
-    let a = b .args in
-    let e = throw-here (a .n) (a .m) (a .s .now) (a .c .at) (b .pre .1 .reads) (c .before .match .rest .0 .1) (c .before .match .rest .1) in
-    ((b .pre .0 .0, b .pre .0 .1 .0), throw-ready (a .n) (a .m) (a .s .now) (placeIs (a .returns)) (wordAt (a .s .now) (a .c .at + 1)) (a .c .at + 2) (ready-as e (b .pre .1)))
+    let b4 = c .before .before .before .before in
+    let b7 = b4 .before .before .before in
+    throw-ready _ _ (b7 .pre .1) (c .before .before .effects .given .1) (b4 .terminal-at .ensures)
 
 returns : tie.Need-returns
 returns c =
-    let b = c .before .before .before .before in
-    let a = b .args in
-    let e = terminal-here (a .n) (a .m) (a .s .now) (a .c .at) (b .pre .1 .reads) (c .match .keys1) in
-    builds-as e (other-builds (a .n) (a .m) (a .s .now) (placeIs (a .returns)) (wordAt (a .s .now) (a .c .at + 1)) (record { at = a .c .at + 2 }) (ready-as e (b .pre .1)))
+    let b3 = c .before .before .before in
+    let b6 = b3 .before .before .before in
+    other-builds _ _ (b6 .pre .1) (placeIs (b6 .args .returns)) (c .before .next .given .1) (b3 .terminal-at .ensures)
 
 same-length : tie.Need-same-length
-same-length c = c .before .before .build-terminal-effects .kept .1 .1 .1 .1 .0 ∙ c .before .before .before .before .before .before .assign .ensures .same
+same-length c = c .before .before .build-terminal-effects .ensures .spends .same ∙ c .before .before .before .before .before .before .assign .ensures .same
 
 returns-2 : tie.Need-returns-2
 returns-2 c =
-    let b = c .before .before .before .before .before .before .before .before .before .before .before .before .before .before in
-    let a = b .args in
-    let e = terminal-here (a .n) (a .m) (a .s .now) (a .c .at) (b .pre .1 .reads) (c .before .before .before .before .before .before .before .before .before .before .match .keys2) in
-    let w = ready-as e (b .pre .1) in
-    let q = value-here (a .n) (a .m) (a .s .now) (wordAt (a .s .now) (a .c .at + 1)) (a .c .at + 2) (w .reads) in
-    builds-as e (return-builds (a .n) (a .m) (a .s .now) (placeIs (a .returns)) (wordAt (a .s .now) (a .c .at + 1)) (a .c .at + 2) q (c .before .before .before .before .before .before .assign .ensures) (c .before .before .build-terminal-effects .ensures))
+    let b6 = c .before .before .before .before .before .before in
+    let b9 = b6 .before .before .before in
+    let b11 = b9 .before .before in
+    let b14 = b11 .before .before .before in
+    return-builds _ _ (b14 .pre .1) (b9 .value .given .1) (b11 .terminal-at .ensures) (placeIs (b14 .args .returns)) (b6 .assign .ensures) (c .before .before .build-terminal-effects .ensures)
 
 same-length-2 : tie.Need-same-length-2
-same-length-2 c = c .before .before .build-terminal-effects2 .kept .1 .1 .1 .1 .0
+same-length-2 c = c .before .before .build-terminal-effects2 .ensures .spends .same
 
 returns-3 : tie.Need-returns-3
 returns-3 c =
-    let b = c .before .before .before .before .before .before .before .before in
-    let a = b .args in
-    let e = throw-here (a .n) (a .m) (a .s .now) (a .c .at) (b .pre .1 .reads) (c .before .before .before .before .match .rest .0 .1) (c .before .before .before .before .match .rest .1) in
-    builds-as e (throw-builds (a .n) (a .m) (a .s .now) (placeIs (a .returns)) (wordAt (a .s .now) (a .c .at + 1)) (a .c .at + 2) (c .before .before .build-terminal-effects2 .ensures))
+    let b5 = c .before .before .before .before .before in
+    let b7 = b5 .before .before in
+    let b10 = b7 .before .before .before in
+    throw-builds _ _ (b10 .pre .1) (b5 .effects .given .1) (b7 .terminal-at .ensures) (placeIs (b10 .args .returns)) (c .before .before .build-terminal-effects2 .ensures)
 
 pub build-terminal-spec : {M : Type 1} → statement M
 build-terminal-spec =
     tie.close
     (tie.spec
-    mul-kind
-    shared-slice-read-kind
-    add-inside
-    mul-t19
-    shared-slice-read-t21
+    terminal-at-requires
+    enum-known-next
+    enum-known-value
     assign-requires
-    add-t19
     build-terminal-effects-requires
+    enum-known-effects
     build-terminal-effects-requires-2
     returns
     same-length
