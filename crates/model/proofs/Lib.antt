@@ -34,6 +34,7 @@ pub mod InRange
 pub mod Distinct
 pub mod WhenRead
 pub mod Refusing
+pub mod Asked
 pub mod Numbers
 -- the theorems about whole sheets
 pub mod Bound
