@@ -34,6 +34,7 @@ pub mod InRange
 pub mod Distinct
 pub mod WhenRead
 pub mod Refusing
+pub mod Asked
 pub mod Numbers
 pub mod BackLaws
 pub mod Encoder

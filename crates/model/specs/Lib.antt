@@ -7,6 +7,7 @@ pub mod Traits
 pub mod Effects
 pub mod Reading
 pub mod Sections
+pub mod Asking
 pub mod Totals
 pub mod Files
 -- "Building"

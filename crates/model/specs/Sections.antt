@@ -1,7 +1,7 @@
 -- Document 01, "The sheet": how each part stands in words, in the document's order.
 use Prim.Native.Nat.{ℕ, zero, suc}
 use mathlib.Core.Bool.{Bool}
-use mathlib.Core.List.{[], _∷_}
+use mathlib.Core.List.{List, [], _∷_}
 use lib.ListN.{length, getD}
 use lib.Dec.{leb, eqb}
 use Rattle.model.specs.Limits.{flagCount, mostFlag, mostIdentifiers, mostRange, mostType, mostFunctions, mostInnerDiagnostics, mostDiagnostic, mostParams, mostContext, returnsCount, mostBlocks, mostCount, mostOrder, mostTerminal, mostTraits, mostKind}
@@ -47,13 +47,24 @@ innerFunction = do
   l ← counted mostInnerDiagnostics diagnostic
   pure (record { diagnostics = l })
 
+-- ---- Parts with words that refusal 8 counts: the kind of an effect, the first word of a phi operand and of a Return value. After such a word's own
+-- checks a question can stand. Document 01 has none: a part by its plain name asks nothing. Asking has the same parts with questions.
+-- no question
+abbrev pub noQuestion : Read (Unit {0})
+noQuestion = pure tt
+
 -- "identifier (below N); traits; span"
-unfoldable pub place : ℕ → Read Place
-place n = do
+abbrev pub placeAsking : Read (Unit {0}) → ℕ → Read Place
+placeAsking ask n = do
   i ← below n
+  u ← ask
   t ← atMost mostTraits
   s ← word
   pure (record { identifier = i; effect = effectOf t; reactive = reactiveOf t; span = s })
+
+-- the place, with no question
+unfoldable pub place : ℕ → Read Place
+place n = placeAsking noQuestion n
 
 -- "unused places are 0"
 unfoldable pub unused : Read Place
@@ -68,75 +79,109 @@ unfoldable pub extra : ℕ → EffectKind → Read ℕ
 extra m k = pick (isCreateFunction k) (below m) (atMost (rowOf k .extra))
 
 -- "An effect is eight words: kind, first place, second place, extra"
-unfoldable pub effect : ℕ → ℕ → Read Effect
-effect n m = do
+abbrev pub effectAsking : (EffectKind → Read (Unit {0})) → ℕ → ℕ → Read Effect
+effectAsking ask n m = do
   w ← atMost mostKind
+  u ← ask (kindOf w)
   p ← pick (leb 1 (rowOf (kindOf w) .places)) (place n) unused
   q ← pick (leb 2 (rowOf (kindOf w) .places)) (place n) unused
   x ← extra m (kindOf w)
   pure (record { kind = kindOf w; first = p; second = q; extra = x })
+
+-- the effect, over n identifiers and m inner functions
+unfoldable pub effect : ℕ → ℕ → Read Effect
+effect n m = effectAsking (λ k. noQuestion) n m
 
 -- "an effect count and the effects"
 unfoldable pub effects : ℕ → ℕ → Read EffectList
 effects n m = counted mostCount (effect n m)
 
 -- "for each operand a predecessor's number and a place"
-unfoldable pub operand : ℕ → BlockId → Read Operand
-operand n b = do
+abbrev pub operandAsking : Read (Unit {0}) → ℕ → BlockId → Read Operand
+operandAsking ask n b = do
+  u ← ask
   p ← place n
   pure (record { predecessor = b; place = p })
 
--- "each phi a place, an operand count, and the operands", no predecessor named twice
-unfoldable pub phi : ℕ → Read Phi
-phi n = do
+-- the operand
+unfoldable pub operand : ℕ → BlockId → Read Operand
+operand n b = operandAsking noQuestion n b
+
+-- "each phi a place, an operand count, and the operands"
+abbrev pub phiOf : (ℕ → Read (List Operand)) → ℕ → Read Phi
+phiOf operands n = do
   p ← place n
   k ← count mostCount
-  l ← numbered k [] (operand n)
+  l ← operands k
   pure (record { place = p; operands = l })
 
+-- the phi: no predecessor is named twice
+unfoldable pub phi : ℕ → Read Phi
+phi n = phiOf (λ k. numbered k [] (operand n)) n
+
 -- "each an order, an effect count and the effects"
-unfoldable pub instruction : ℕ → ℕ → Read Instruction
-instruction n m = do
+abbrev pub instructionOf : Read EffectList → Read Instruction
+instructionOf effects = do
   o ← atMost mostOrder
-  l ← effects n m
+  l ← effects
   pure (record { order = o; effects = l })
 
+-- the instruction
+unfoldable pub instruction : ℕ → ℕ → Read Instruction
+instruction n m = instructionOf (effects n m)
+
 -- "for 1 a place; for 1 and 2 an effect count and effects"
-unfoldable pub terminalOf : ℕ → ℕ → ℕ → ℕ → Read Terminal
-terminalOf n m zero o = pure (Other o)
-terminalOf n m (suc zero) o = do
-  p ← place n
-  l ← effects n m
+abbrev pub terminalBy : Read Place → Read EffectList → Read EffectList → ℕ → ℕ → Read Terminal
+terminalBy value returned thrown zero o = pure (Other o)
+terminalBy value returned thrown (suc zero) o = do
+  p ← value
+  l ← returned
   pure (Return o p l)
-terminalOf n m (suc (suc k)) o = do
-  l ← effects n m
+terminalBy value returned thrown (suc (suc k)) o = do
+  l ← thrown
   pure (MaybeThrow o l)
 
+-- the terminal of this kind and order
+unfoldable pub terminalOf : ℕ → ℕ → ℕ → ℕ → Read Terminal
+terminalOf n m k o = terminalBy (place n) (effects n m) (effects n m) k o
+
 -- "terminal kind (0 other, 1 Return, 2 MaybeThrow) and order"
-unfoldable pub terminal : ℕ → ℕ → Read Terminal
-terminal n m = do
+abbrev pub terminalAfter : (ℕ → ℕ → Read Terminal) → Read Terminal
+terminalAfter rest = do
   k ← atMost mostTerminal
   o ← atMost mostOrder
-  terminalOf n m k o
+  rest k o
+
+-- the terminal
+unfoldable pub terminal : ℕ → ℕ → Read Terminal
+terminal n m = terminalAfter (terminalOf n m)
 
 -- a block after its number: "phi count, phis; instruction count, instructions; terminal"
-unfoldable pub block : ℕ → ℕ → BlockId → Read Block
-block n m b = do
-  ps ← counted mostCount (phi n)
-  is ← counted mostCount (instruction n m)
-  t ← terminal n m
+abbrev pub blockOf : Read (List Phi) → (List Phi → Read (List Instruction)) → (List Phi → List Instruction → Read Terminal) → BlockId → Read Block
+blockOf phis instructions terminal b = do
+  ps ← phis
+  is ← instructions ps
+  t ← terminal ps is
   pure (record { number = b; phis = ps; instructions = is; terminal = t })
 
--- "Sections in a fixed order, each after its count"
-unfoldable pub sheet : Read Sheet
-sheet = do
+-- the block
+unfoldable pub block : ℕ → ℕ → BlockId → Read Block
+block n m b = blockOf (counted mostCount (phi n)) (λ ps. counted mostCount (instruction n m)) (λ ps is. terminal n m) b
+
+-- "Sections in a fixed order, each after its count": an inner function may need N; the blocks need N, the count of inner functions and their own
+abbrev pub sheetOf : (ℕ → Read InnerFunction) → (ℕ → ℕ → ℕ → Read (List Block)) → Read Sheet
+sheetOf inner blocks = do
   fs ← flags
   ids ← counted mostIdentifiers identifier
-  inner ← counted mostFunctions innerFunction
+  fns ← counted mostFunctions (inner (length ids))
   ps ← counted mostParams (place (length ids))
   cs ← counted mostContext (place (length ids))
   k ← fixed returnsCount
   r ← place (length ids)
   b ← count mostBlocks
-  bs ← numbered b [] (block (length ids) (length inner))
-  pure (record { flags = fs; identifiers = ids; functions = inner; params = ps; context = cs; returns = r; blocks = bs })
+  bs ← blocks (length ids) (length fns) b
+  pure (record { flags = fs; identifiers = ids; functions = fns; params = ps; context = cs; returns = r; blocks = bs })
+
+-- the sheet
+unfoldable pub sheet : Read Sheet
+sheet = sheetOf (λ n. innerFunction) (λ n m k. numbered k [] (block n m))

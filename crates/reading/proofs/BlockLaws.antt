@@ -9,11 +9,12 @@ use lib.Seq.{drop-length, drop-cons}
 use lib.Dec.{eqb}
 use Rattle.model.specs.Limits.{mostCount, mostOrder, mostTerminal, mostBlocks}
 use Rattle.model.specs.Lists.{each, among}
-use Rattle.model.specs.Sheet.{Place, EffectList, Operand, Phi, Instruction, Terminal, Return, MaybeThrow, BlockId, EvaluationOrder}
-use Rattle.model.specs.Reading.{Position, got, refused, _>>=_, pure, count, atMost, numbered, counted}
-use Rattle.model.specs.Sections.{place, effects, operand, phi, instruction, terminalOf, terminal, block}
-use Rattle.reading.specs.Judging.{Told, judge, withRelation, tellEffect, tellOperand, tellPhi, tellInstruction, tellTerminal, tellBlock, blocksOf}
-use Rattle.reading.proofs.JudgeLaws.{got-judged, refused-judged, then-got, then-refused, then-made}
+use Rattle.model.specs.Sheet.{Place, Effect, EffectList, Operand, Phi, Instruction, Terminal, Return, MaybeThrow, BlockId, EvaluationOrder}
+use Rattle.model.specs.Reading.{Position, got, refused, _>>=_, pure, Read, count, atMost, numberedFrom, countedFrom}
+use Rattle.model.specs.Sections.{place, effect as plainEffect}
+use Rattle.model.specs.Asking.{effect, effects, operand, phi, instruction, terminalOf, terminal, block, tellEffect, tellOperand, tellPhi, tellInstruction, tellTerminal, tellBlock}
+use Rattle.reading.specs.Judging.{Told, telling, judge, withRelation, tellKind, counting, blocksOf}
+use Rattle.reading.proofs.JudgeLaws.{judge-got, judge-refused, got-judged, refused-judged, then-got, then-refused, then-made}
 
 -- a search: what is found or stands from here on, one number later
 pub listed-next : (x : ℕ) (l : List ℕ) (i : ℕ) (found : Bool) → i < length l → found || among x (drop i l) ≡ eqb x (getD l i 0) || found || among x (drop (i + 1) l)
@@ -23,114 +24,134 @@ listed-next x l i found h = rw (drop-cons l i 0 h, add-one, or-comm (eqb x (getD
 pub listed-end : (x : ℕ) (l : List ℕ) (i : ℕ) (found : Bool) → i ≡ length l → found || among x (drop i l) ≡ found
 listed-end x l i found e = rw (e, drop-length l, or-false found)
 
+-- a section of phis, and one of instructions
+abbrev phis : ℕ → Told → Read (List Phi)
+phis n = countedFrom mostCount (phi counting n) (tellPhi counting)
+
+abbrev instructions : ℕ → ℕ → Told → Read (List Instruction)
+instructions n m = countedFrom mostCount (instruction counting n m) (tellInstruction counting)
+
+-- an effect, of which nothing is asked
+module _ (n m : ℕ) (terminal : Bool) (t : Told) (ws : List ℕ) (c : Position) where
+  pub effect-got : (e : Effect) (d : Position) → plainEffect n m ws c ≡ got e d → judge (effect counting terminal n m) (tellEffect counting terminal) t ws c ≡ got (tellKind terminal (e .kind) t) d
+  unfolding effect plainEffect
+  effect-got e d x = judge-got (effect counting terminal n m t) (tellEffect counting terminal) t ws c e d x
+
+  pub effect-refused : (k : ℕ) → plainEffect n m ws c ≡ refused k → judge (effect counting terminal n m) (tellEffect counting terminal) t ws c ≡ refused k
+  unfolding effect plainEffect
+  effect-refused k x = judge-refused (effect counting terminal n m t) (tellEffect counting terminal) t ws c k x
+
 module _ (n : ℕ) (t : Told) (ws : List ℕ) (c : Position) where
-  pub operand-got : (x : BlockId) (p : Place) (d : Position) → place n ws c ≡ got p d → judge (operand n x) tellOperand t ws c ≡ got (withRelation t) d
-  unfolding operand judge
+  pub operand-got : (x : BlockId) (p : Place) (d : Position) → place n ws c ≡ got p d → judge (operand counting n x) (tellOperand counting) t ws c ≡ got (withRelation t) d
+  unfolding operand telling
   operand-got x p d e = rw e
 
-  pub operand-refused : (x : BlockId) (k : ℕ) → place n ws c ≡ refused k → judge (operand n x) tellOperand t ws c ≡ refused k
-  unfolding operand judge
+  pub operand-refused : (x : BlockId) (k : ℕ) → place n ws c ≡ refused k → judge (operand counting n x) (tellOperand counting) t ws c ≡ refused k
+  unfolding operand telling
   operand-refused x k e = rw e
 
   pub phi-got : (p : Place) (d : Position) (k : ℕ) (e : Position) → place n ws c ≡ got p d → count mostCount ws d ≡ got k e →
-      judge (phi n) tellPhi t ws c ≡ judge (numbered k [] (operand n)) (each tellOperand) t ws e
+      judge (phi counting n) (tellPhi counting) t ws c ≡ judge (numberedFrom k [] (operand counting n) (tellOperand counting)) (each (tellOperand counting)) t ws e
   unfolding phi
   phi-got p d k e x y =
-      then-got (place n) _ tellPhi t ws c p d x
-      ∙ then-got (count mostCount) _ tellPhi t ws d k e y
-      ∙ then-made (numbered k [] (operand n)) (λ (l : List Operand). record { place = p; operands = l }) tellPhi t ws e
+      then-got (place n) _ (tellPhi counting) t ws c p d x
+      ∙ then-got (count mostCount) _ (tellPhi counting) t ws d k e y
+      ∙ then-made (numberedFrom k [] (operand counting n) (tellOperand counting) t) (λ (l : List Operand). record { place = p; operands = l }) (tellPhi counting) t ws e
 
-  pub phi-place-refused : (k : ℕ) → place n ws c ≡ refused k → judge (phi n) tellPhi t ws c ≡ refused k
+  pub phi-place-refused : (k : ℕ) → place n ws c ≡ refused k → judge (phi counting n) (tellPhi counting) t ws c ≡ refused k
   unfolding phi
-  phi-place-refused k x = then-refused (place n) _ tellPhi t ws c k x
+  phi-place-refused k x = then-refused (place n) _ (tellPhi counting) t ws c k x
 
-  pub phi-count-refused : (p : Place) (d : Position) (k : ℕ) → place n ws c ≡ got p d → count mostCount ws d ≡ refused k → judge (phi n) tellPhi t ws c ≡ refused k
+  pub phi-count-refused : (p : Place) (d : Position) (k : ℕ) → place n ws c ≡ got p d → count mostCount ws d ≡ refused k → judge (phi counting n) (tellPhi counting) t ws c ≡ refused k
   unfolding phi
-  phi-count-refused p d k x y = then-got (place n) _ tellPhi t ws c p d x ∙ then-refused (count mostCount) _ tellPhi t ws d k y
+  phi-count-refused p d k x y = then-got (place n) _ (tellPhi counting) t ws c p d x ∙ then-refused (count mostCount) _ (tellPhi counting) t ws d k y
 
 -- a block's totals: those of its phis, then of its instructions, then of its terminal
-block-told : (n m : ℕ) (x : BlockId) (t u v : Told) (ws : List ℕ) (c : Position) (ps : List Phi) (is : List Instruction) → each tellPhi ps t ≡ u →
-    each tellInstruction is u ≡ v →
-    judge (terminal n m) (λ (z : Terminal). tellBlock (record { number = x; phis = ps; instructions = is; terminal = z })) t ws c ≡ judge (terminal n m) tellTerminal v ws c
-unfolding judge tellBlock
+block-told : (n m : ℕ) (x : BlockId) (t u v : Told) (ws : List ℕ) (c : Position) (ps : List Phi) (is : List Instruction) → each (tellPhi counting) ps t ≡ u →
+    each (tellInstruction counting) is u ≡ v →
+    telling (terminal counting n m (each (tellInstruction counting) is (each (tellPhi counting) ps t))) (λ (z : Terminal). tellBlock counting (record { number = x; phis = ps; instructions = is; terminal = z })) t ws c
+    ≡ judge (terminal counting n m) (tellTerminal counting) v ws c
+unfolding telling tellBlock
 block-told n m x t u v ws c ps is g k = rw (g, k)
 
 module _ (n m : ℕ) (t : Told) (ws : List ℕ) (c : Position) where
   pub instruction-got : (o : EvaluationOrder) (d : Position) → atMost mostOrder ws c ≡ got o d →
-      judge (instruction n m) tellInstruction t ws c ≡ judge (effects n m) (each (tellEffect false)) t ws d
+      judge (instruction counting n m) (tellInstruction counting) t ws c ≡ judge (effects counting false n m) (each (tellEffect counting false)) t ws d
   unfolding instruction
   instruction-got o d x =
-      then-got (atMost mostOrder) _ tellInstruction t ws c o d x
-      ∙ then-made (effects n m) (λ (l : EffectList). record { order = o; effects = l }) tellInstruction t ws d
+      then-got (atMost mostOrder) _ (tellInstruction counting) t ws c o d x
+      ∙ then-made (effects counting false n m t) (λ (l : EffectList). record { order = o; effects = l }) (tellInstruction counting) t ws d
 
-  pub instruction-refused : (k : ℕ) → atMost mostOrder ws c ≡ refused k → judge (instruction n m) tellInstruction t ws c ≡ refused k
+  pub instruction-refused : (k : ℕ) → atMost mostOrder ws c ≡ refused k → judge (instruction counting n m) (tellInstruction counting) t ws c ≡ refused k
   unfolding instruction
-  instruction-refused k x = then-refused (atMost mostOrder) _ tellInstruction t ws c k x
+  instruction-refused k x = then-refused (atMost mostOrder) _ (tellInstruction counting) t ws c k x
 
   -- a terminal after its kind and order
   pub terminal-got : (k o : ℕ) (d e : Position) → atMost mostTerminal ws c ≡ got k d → atMost mostOrder ws d ≡ got o e →
-      judge (terminal n m) tellTerminal t ws c ≡ judge (terminalOf n m k o) tellTerminal t ws e
+      judge (terminal counting n m) (tellTerminal counting) t ws c ≡ telling (terminalOf counting n m t k o) (tellTerminal counting) t ws e
   unfolding terminal
-  terminal-got k o d e x y = then-got (atMost mostTerminal) _ tellTerminal t ws c k d x ∙ then-got (atMost mostOrder) _ tellTerminal t ws d o e y
+  terminal-got k o d e x y = then-got (atMost mostTerminal) _ (tellTerminal counting) t ws c k d x ∙ then-got (atMost mostOrder) _ (tellTerminal counting) t ws d o e y
 
-  pub terminal-kind-refused : (r : ℕ) → atMost mostTerminal ws c ≡ refused r → judge (terminal n m) tellTerminal t ws c ≡ refused r
+  pub terminal-kind-refused : (r : ℕ) → atMost mostTerminal ws c ≡ refused r → judge (terminal counting n m) (tellTerminal counting) t ws c ≡ refused r
   unfolding terminal
-  terminal-kind-refused r x = then-refused (atMost mostTerminal) _ tellTerminal t ws c r x
+  terminal-kind-refused r x = then-refused (atMost mostTerminal) _ (tellTerminal counting) t ws c r x
 
   pub terminal-order-refused : (k : ℕ) (d : Position) (r : ℕ) → atMost mostTerminal ws c ≡ got k d → atMost mostOrder ws d ≡ refused r →
-      judge (terminal n m) tellTerminal t ws c ≡ refused r
+      judge (terminal counting n m) (tellTerminal counting) t ws c ≡ refused r
   unfolding terminal
-  terminal-order-refused k d r x y = then-got (atMost mostTerminal) _ tellTerminal t ws c k d x ∙ then-refused (atMost mostOrder) _ tellTerminal t ws d r y
+  terminal-order-refused k d r x y = then-got (atMost mostTerminal) _ (tellTerminal counting) t ws c k d x ∙ then-refused (atMost mostOrder) _ (tellTerminal counting) t ws d r y
 
-  pub other-got : (o : ℕ) → judge (terminalOf n m 0 o) tellTerminal t ws c ≡ got t c
-  unfolding terminalOf judge
+  pub other-got : (o : ℕ) → telling (terminalOf counting n m t 0 o) (tellTerminal counting) t ws c ≡ got t c
+  unfolding terminalOf telling
   other-got o = refl
 
   pub return-got : (o : ℕ) (p : Place) (d : Position) → place n ws c ≡ got p d →
-      judge (terminalOf n m 1 o) tellTerminal t ws c ≡ judge (effects n m) (each (tellEffect true)) (withRelation t) ws d
-  unfolding terminalOf judge
+      telling (terminalOf counting n m t 1 o) (tellTerminal counting) t ws c ≡ judge (effects counting true n m) (each (tellEffect counting true)) (withRelation t) ws d
+  unfolding terminalOf place telling
   return-got o p d x =
-      then-got (place n) (λ (p : Place). effects n m >>= λ (l : EffectList). pure (Return o p l)) tellTerminal t ws c p d x
-      ∙ then-made (effects n m) (λ (l : EffectList). Return o p l) tellTerminal t ws d
+      then-got (place n) (λ (p : Place). effects counting true n m (withRelation t) >>= λ (l : EffectList). pure (Return o p l)) (tellTerminal counting) t ws c p d x
+      ∙ then-made (effects counting true n m (withRelation t)) (λ (l : EffectList). Return o p l) (tellTerminal counting) t ws d
 
-  pub return-refused : (o r : ℕ) → place n ws c ≡ refused r → judge (terminalOf n m 1 o) tellTerminal t ws c ≡ refused r
-  unfolding terminalOf
-  return-refused o r x = then-refused (place n) (λ (p : Place). effects n m >>= λ (l : EffectList). pure (Return o p l)) tellTerminal t ws c r x
+  pub return-refused : (o r : ℕ) → place n ws c ≡ refused r → telling (terminalOf counting n m t 1 o) (tellTerminal counting) t ws c ≡ refused r
+  unfolding terminalOf place
+  return-refused o r x =
+      then-refused (place n) (λ (p : Place). effects counting true n m (withRelation t) >>= λ (l : EffectList). pure (Return o p l)) (tellTerminal counting) t ws c r x
 
-  pub throw-got : (o : ℕ) → judge (terminalOf n m 2 o) tellTerminal t ws c ≡ judge (effects n m) (each (tellEffect true)) t ws c
-  unfolding terminalOf judge
-  throw-got o = then-made (effects n m) (λ (l : EffectList). MaybeThrow o l) tellTerminal t ws c
+  pub throw-got : (o : ℕ) → telling (terminalOf counting n m t 2 o) (tellTerminal counting) t ws c ≡ judge (effects counting true n m) (each (tellEffect counting true)) t ws c
+  unfolding terminalOf telling
+  throw-got o = then-made (effects counting true n m t) (λ (l : EffectList). MaybeThrow o l) (tellTerminal counting) t ws c
 
-  pub block-got : (x : BlockId) (u v : Told) (d e : Position) → judge (counted mostCount (phi n)) (each tellPhi) t ws c ≡ got u d →
-      judge (counted mostCount (instruction n m)) (each tellInstruction) u ws d ≡ got v e →
-      judge (block n m x) tellBlock t ws c ≡ judge (terminal n m) tellTerminal v ws e
+  pub block-got : (x : BlockId) (u v : Told) (d e : Position) → judge (phis n) (each (tellPhi counting)) t ws c ≡ got u d →
+      judge (instructions n m) (each (tellInstruction counting)) u ws d ≡ got v e →
+      judge (block counting n m x) (tellBlock counting) t ws c ≡ judge (terminal counting n m) (tellTerminal counting) v ws e
   unfolding block
   block-got x u v d e p q =
-      got-judged (counted mostCount (phi n)) (each tellPhi) t ws c u d p
-      (λ ps f g. got-judged (counted mostCount (instruction n m)) (each tellInstruction) u ws d v e q
-      (λ is h k. then-got (counted mostCount (phi n)) _ tellBlock t ws c ps d f
-      ∙ then-got (counted mostCount (instruction n m)) _ tellBlock t ws d is e h
-      ∙ then-made (terminal n m) (λ (z : Terminal). record { number = x; phis = ps; instructions = is; terminal = z }) tellBlock t ws e
+      got-judged (phis n t) (each (tellPhi counting)) t ws c u d p
+      (λ ps f g. got-judged (instructions n m u) (each (tellInstruction counting)) u ws d v e q
+      (λ is h k. then-got (phis n t) _ (tellBlock counting) t ws c ps d f
+      ∙ then-got (instructions n m (each (tellPhi counting) ps t)) _ (tellBlock counting) t ws d is e (rw g h)
+      ∙ then-made (terminal counting n m (each (tellInstruction counting) is (each (tellPhi counting) ps t))) (λ (z : Terminal). record { number = x; phis = ps; instructions = is; terminal = z }) (tellBlock counting) t ws e
       ∙ block-told n m x t u v ws e ps is g k))
 
-  pub block-phis-refused : (x : BlockId) (r : ℕ) → judge (counted mostCount (phi n)) (each tellPhi) t ws c ≡ refused r → judge (block n m x) tellBlock t ws c ≡ refused r
+  pub block-phis-refused : (x : BlockId) (r : ℕ) → judge (phis n) (each (tellPhi counting)) t ws c ≡ refused r → judge (block counting n m x) (tellBlock counting) t ws c ≡ refused r
   unfolding block
-  block-phis-refused x r p = then-refused (counted mostCount (phi n)) _ tellBlock t ws c r (refused-judged (counted mostCount (phi n)) (each tellPhi) t ws c r p)
+  block-phis-refused x r p = then-refused (phis n t) _ (tellBlock counting) t ws c r (refused-judged (phis n t) (each (tellPhi counting)) t ws c r p)
 
-  pub block-instructions-refused : (x : BlockId) (u : Told) (d : Position) (r : ℕ) → judge (counted mostCount (phi n)) (each tellPhi) t ws c ≡ got u d →
-      judge (counted mostCount (instruction n m)) (each tellInstruction) u ws d ≡ refused r → judge (block n m x) tellBlock t ws c ≡ refused r
+  pub block-instructions-refused : (x : BlockId) (u : Told) (d : Position) (r : ℕ) → judge (phis n) (each (tellPhi counting)) t ws c ≡ got u d →
+      judge (instructions n m) (each (tellInstruction counting)) u ws d ≡ refused r → judge (block counting n m x) (tellBlock counting) t ws c ≡ refused r
   unfolding block
   block-instructions-refused x u d r p q =
-      got-judged (counted mostCount (phi n)) (each tellPhi) t ws c u d p
-      (λ ps f g. then-got (counted mostCount (phi n)) _ tellBlock t ws c ps d f
-      ∙ then-refused (counted mostCount (instruction n m)) _ tellBlock t ws d r
-      (refused-judged (counted mostCount (instruction n m)) (each tellInstruction) u ws d r q))
+      got-judged (phis n t) (each (tellPhi counting)) t ws c u d p
+      (λ ps f g. then-got (phis n t) _ (tellBlock counting) t ws c ps d f
+      ∙ then-refused (instructions n m (each (tellPhi counting) ps t)) _ (tellBlock counting) t ws d r
+      (rw g (refused-judged (instructions n m u) (each (tellInstruction counting)) u ws d r q)))
 
   -- the blocks after their count
-  pub blocks-got : (k : ℕ) (d : Position) → count mostBlocks ws c ≡ got k d → judge (blocksOf n m) (each tellBlock) t ws c ≡ judge (numbered k [] (block n m)) (each tellBlock) t ws d
+  pub blocks-got : (k : ℕ) (d : Position) → count mostBlocks ws c ≡ got k d →
+      judge (blocksOf n m) (each (tellBlock counting)) t ws c ≡ judge (numberedFrom k [] (block counting n m) (tellBlock counting)) (each (tellBlock counting)) t ws d
   unfolding blocksOf
-  blocks-got k d x = then-got (count mostBlocks) (λ (k : ℕ). numbered k [] (block n m)) (each tellBlock) t ws c k d x
+  blocks-got k d x = then-got (count mostBlocks) (λ (k : ℕ). numberedFrom k [] (block counting n m) (tellBlock counting) t) (each (tellBlock counting)) t ws c k d x
 
-  pub blocks-refused : (r : ℕ) → count mostBlocks ws c ≡ refused r → judge (blocksOf n m) (each tellBlock) t ws c ≡ refused r
+  pub blocks-refused : (r : ℕ) → count mostBlocks ws c ≡ refused r → judge (blocksOf n m) (each (tellBlock counting)) t ws c ≡ refused r
   unfolding blocksOf
-  blocks-refused r x = then-refused (count mostBlocks) (λ (k : ℕ). numbered k [] (block n m)) (each tellBlock) t ws c r x
+  blocks-refused r x = then-refused (count mostBlocks) (λ (k : ℕ). numberedFrom k [] (block counting n m) (tellBlock counting) t) (each (tellBlock counting)) t ws c r x

@@ -12,22 +12,22 @@ use borrow.Author.Tests.{ne-eqb}
 use Rattle.model.specs.Limits.{mostBlockNumber}
 use Rattle.model.specs.Lists.{each, among, Every}
 use Rattle.model.specs.Sheet.{BlockId}
-use Rattle.model.specs.Reading.{Position, Result, got, refused, Read, andThen, _>>=_, pure, count, atMost, newNumber, times, numbered, counted}
+use Rattle.model.specs.Reading.{Position, Result, got, refused, Read, andThen, _>>=_, pure, count, atMost, newNumber, timesFrom, numberedFrom, countedFrom}
 use Rattle.model.proofs.Everywhere.{every-mem}
-use Rattle.reading.specs.Judging.{mapResult, judge}
+use Rattle.reading.specs.Judging.{mapResult, telling, judge}
 
 module _ {A B : Type 0} (f : Read A) (tell : A → B → B) (b : B) (ws : List ℕ) (c : Position) where
-  pub judge-got : (a : A) (d : Position) → f ws c ≡ got a d → judge f tell b ws c ≡ got (tell a b) d
-  unfolding judge
+  pub judge-got : (a : A) (d : Position) → f ws c ≡ got a d → telling f tell b ws c ≡ got (tell a b) d
+  unfolding telling
   judge-got a d e = rw e
 
-  pub judge-refused : (k : ℕ) → f ws c ≡ refused k → judge f tell b ws c ≡ refused k
-  unfolding judge
+  pub judge-refused : (k : ℕ) → f ws c ≡ refused k → telling f tell b ws c ≡ refused k
+  unfolding telling
   judge-refused k e = rw e
 
   -- a judged part was read, and told
-  pub got-judged : {P : Type 0} (b1 : B) (d : Position) → judge f tell b ws c ≡ got b1 d → ((a : A) → f ws c ≡ got a d → tell a b ≡ b1 → P) → P
-  unfolding judge
+  pub got-judged : {P : Type 0} (b1 : B) (d : Position) → telling f tell b ws c ≡ got b1 d → ((a : A) → f ws c ≡ got a d → tell a b ≡ b1 → P) → P
+  unfolding telling
   got-judged {P} b1 d q k = go (f ws c) refl q
     where
       go : (r : Result A) → f ws c ≡ r → mapResult (λ (a : A). tell a b) r ≡ got b1 d → P
@@ -37,8 +37,8 @@ module _ {A B : Type 0} (f : Read A) (tell : A → B → B) (b : B) (ws : List �
           k a (rw z at x) w
       go (refused n) x y = let z : _≡_ {A = ℕ} 0 1 = cc in absurd (omega arith)
 
-  pub refused-judged : (n : ℕ) → judge f tell b ws c ≡ refused n → f ws c ≡ refused n
-  unfolding judge
+  pub refused-judged : (n : ℕ) → telling f tell b ws c ≡ refused n → f ws c ≡ refused n
+  unfolding telling
   refused-judged n q = go (f ws c) refl q
     where
       go : (r : Result A) → f ws c ≡ r → mapResult (λ (a : A). tell a b) r ≡ refused n → f ws c ≡ refused n
@@ -48,20 +48,20 @@ module _ {A B : Type 0} (f : Read A) (tell : A → B → B) (b : B) (ws : List �
 module _ {A B C : Type 0} where
   -- a part that was read, and then the rest
   pub then-got : (m : Read A) (f : A → Read C) (tell : C → B → B) (b : B) (ws : List ℕ) (c : Position) (a : A) (d : Position) → m ws c ≡ got a d →
-      judge (m >>= f) tell b ws c ≡ judge (f a) tell b ws d
-  unfolding judge
+      telling (m >>= f) tell b ws c ≡ telling (f a) tell b ws d
+  unfolding telling
   then-got m f tell b ws c a d e = rw e
 
   -- a part that was refused
   pub then-refused : (m : Read A) (f : A → Read C) (tell : C → B → B) (b : B) (ws : List ℕ) (c : Position) (k : ℕ) → m ws c ≡ refused k →
-      judge (m >>= f) tell b ws c ≡ refused k
-  unfolding judge
+      telling (m >>= f) tell b ws c ≡ refused k
+  unfolding telling
   then-refused m f tell b ws c k e = rw e
 
   -- a part that the whole is made of at once
   pub then-made : (m : Read A) (g : A → C) (tell : C → B → B) (b : B) (ws : List ℕ) (c : Position) →
-      judge (m >>= λ (a : A). pure (g a)) tell b ws c ≡ judge m (λ (a : A). tell (g a)) b ws c
-  unfolding judge
+      telling (m >>= λ (a : A). pure (g a)) tell b ws c ≡ telling m (λ (a : A). tell (g a)) b ws c
+  unfolding telling
   then-made m g tell b ws c = go (m ws c)
     where
       go : (r : Result A) → mapResult (λ (x : C). tell x b) (andThen r (λ (a : A) (d : Position). got (g a) d)) ≡ mapResult (λ (a : A). tell (g a) b) r
@@ -69,43 +69,43 @@ module _ {A B C : Type 0} where
       go (refused k) = refl
 
 -- the first of a list is told before the others
-cons-told : {A B : Type 0} (tell : A → B → B) (b b1 : B) (ws : List ℕ) (c : Position) (g : Read (List A)) (a : A) → tell a b ≡ b1 →
-    judge g (λ (l : List A). each tell (a ∷ l)) b ws c ≡ judge g (each tell) b1 ws c
-unfolding judge
+cons-told : {A B : Type 0} (tell : A → B → B) (b b1 : B) (ws : List ℕ) (c : Position) (g : B → Read (List A)) (a : A) → tell a b ≡ b1 →
+    telling (g (tell a b)) (λ (l : List A). each tell (a ∷ l)) b ws c ≡ judge g (each tell) b1 ws c
+unfolding telling
 cons-told tell b b1 ws c g a w = rw w
 
-module _ {A B : Type 0} (f : Read A) (tell : A → B → B) (ws : List ℕ) where
+module _ {A B : Type 0} (f : B → Read A) (tell : A → B → B) (ws : List ℕ) where
   pub times-next : (k : ℕ) (b b1 : B) (c d : Position) → 0 < k → judge f tell b ws c ≡ got b1 d →
-      judge (times k f) (each tell) b ws c ≡ judge (times (k - 1) f) (each tell) b1 ws d
-  unfolding times
+      judge (timesFrom k f tell) (each tell) b ws c ≡ judge (timesFrom (k - 1) f tell) (each tell) b1 ws d
+  unfolding timesFrom
   times-next zero b b1 c d h q = absurd (not-suc-le-zero h)
   times-next (suc k) b b1 c d h q =
       rw sub-one
-      (got-judged f tell b ws c b1 d q
-      (λ a e w. then-got f (λ (a : A). times k f >>= λ (l : List A). pure (a ∷ l)) (each tell) b ws c a d e
-      ∙ then-made (times k f) (λ (l : List A). a ∷ l) (each tell) b ws d
-      ∙ cons-told tell b b1 ws d (times k f) a w))
+      (got-judged (f b) tell b ws c b1 d q
+      (λ a e w. then-got (f b) (λ (a : A). timesFrom k f tell (tell a b) >>= λ (l : List A). pure (a ∷ l)) (each tell) b ws c a d e
+      ∙ then-made (timesFrom k f tell (tell a b)) (λ (l : List A). a ∷ l) (each tell) b ws d
+      ∙ cons-told tell b b1 ws d (timesFrom k f tell) a w))
 
-  pub times-stop : (k : ℕ) (b : B) (c : Position) (n : ℕ) → 0 < k → judge f tell b ws c ≡ refused n → judge (times k f) (each tell) b ws c ≡ refused n
-  unfolding times
+  pub times-stop : (k : ℕ) (b : B) (c : Position) (n : ℕ) → 0 < k → judge f tell b ws c ≡ refused n → judge (timesFrom k f tell) (each tell) b ws c ≡ refused n
+  unfolding timesFrom
   times-stop zero b c n h q = absurd (not-suc-le-zero h)
   times-stop (suc k) b c n h q =
-      then-refused f (λ (a : A). times k f >>= λ (l : List A). pure (a ∷ l)) (each tell) b ws c n (refused-judged f tell b ws c n q)
+      then-refused (f b) (λ (a : A). timesFrom k f tell (tell a b) >>= λ (l : List A). pure (a ∷ l)) (each tell) b ws c n (refused-judged (f b) tell b ws c n q)
 
-  pub times-done : (k : ℕ) (b : B) (c : Position) → k ≤ 0 → judge (times k f) (each tell) b ws c ≡ got b c
-  unfolding times judge
+  pub times-done : (k : ℕ) (b : B) (c : Position) → k ≤ 0 → judge (timesFrom k f tell) (each tell) b ws c ≡ got b c
+  unfolding timesFrom telling
   times-done zero b c h = refl
   times-done (suc k) b c h = absurd (not-suc-le-zero h)
 
   -- a section: its count, then its parts
   pub section-got : (most k : ℕ) (b : B) (c d : Position) → count most ws c ≡ got k d →
-      judge (counted most f) (each tell) b ws c ≡ judge (times k f) (each tell) b ws d
-  unfolding counted
-  section-got most k b c d e = then-got (count most) (λ (k : ℕ). times k f) (each tell) b ws c k d e
+      judge (countedFrom most f tell) (each tell) b ws c ≡ judge (timesFrom k f tell) (each tell) b ws d
+  unfolding countedFrom
+  section-got most k b c d e = then-got (count most) (λ (k : ℕ). timesFrom k f tell b) (each tell) b ws c k d e
 
-  pub section-refused : (most : ℕ) (b : B) (c : Position) (n : ℕ) → count most ws c ≡ refused n → judge (counted most f) (each tell) b ws c ≡ refused n
-  unfolding counted
-  section-refused most b c n e = then-refused (count most) (λ (k : ℕ). times k f) (each tell) b ws c n e
+  pub section-refused : (most : ℕ) (b : B) (c : Position) (n : ℕ) → count most ws c ≡ refused n → judge (countedFrom most f tell) (each tell) b ws c ≡ refused n
+  unfolding countedFrom
+  section-refused most b c n e = then-refused (count most) (λ (k : ℕ). timesFrom k f tell b) (each tell) b ws c n e
 
 module _ (used : List BlockId) (ws : List ℕ) (c : Position) where
   -- a number that none had
@@ -150,49 +150,49 @@ below-more l x a b e r = (r .1, every-mem (λ (y : ℕ). y < a) (λ (y : ℕ). y
 pub below-stored : (l : List ℕ) (i x a b : ℕ) → 0 < i → i ≤ length l → Every (λ (y : ℕ). y < a) (drop i l) → (a ≤ b) × (x < b) → Every (λ (y : ℕ). y < b) (drop (i - 1) (set l (i - 1) x))
 below-stored l i x a b h g e r = subst (λ (k : List ℕ). Every (λ (y : ℕ). y < b) k) (sym (drop-stored l i x h g)) (below-more (drop i l) x a b e r)
 
-module _ {A B : Type 0} (f : BlockId → Read A) (tell : A → B → B) (ws : List ℕ) where
+module _ {A B : Type 0} (f : BlockId → B → Read A) (tell : A → B → B) (ws : List ℕ) where
   pub numbered-next : (k : ℕ) (used : List BlockId) (b b1 : B) (c d e : Position) (x : BlockId) → 0 < k → newNumber used ws c ≡ got x d →
       judge (f x) tell b ws d ≡ got b1 e →
-      judge (numbered k used f) (each tell) b ws c ≡ judge (numbered (k - 1) (x ∷ used) f) (each tell) b1 ws e
-  unfolding numbered
+      judge (numberedFrom k used f tell) (each tell) b ws c ≡ judge (numberedFrom (k - 1) (x ∷ used) f tell) (each tell) b1 ws e
+  unfolding numberedFrom
   numbered-next zero used b b1 c d e x h p q = absurd (not-suc-le-zero h)
   numbered-next (suc k) used b b1 c d e x h p q =
       rw sub-one
-      (got-judged (f x) tell b ws d b1 e q
-      (λ a y w. then-got (newNumber used) (λ (x : BlockId). f x >>= λ (a : A). numbered k (x ∷ used) f >>= λ (l : List A). pure (a ∷ l)) (each tell) b ws c x d p
-      ∙ then-got (f x) (λ (a : A). numbered k (x ∷ used) f >>= λ (l : List A). pure (a ∷ l)) (each tell) b ws d a e y
-      ∙ then-made (numbered k (x ∷ used) f) (λ (l : List A). a ∷ l) (each tell) b ws e
-      ∙ cons-told tell b b1 ws e (numbered k (x ∷ used) f) a w))
+      (got-judged (f x b) tell b ws d b1 e q
+      (λ a y w. then-got (newNumber used) (λ (x : BlockId). f x b >>= λ (a : A). numberedFrom k (x ∷ used) f tell (tell a b) >>= λ (l : List A). pure (a ∷ l)) (each tell) b ws c x d p
+      ∙ then-got (f x b) (λ (a : A). numberedFrom k (x ∷ used) f tell (tell a b) >>= λ (l : List A). pure (a ∷ l)) (each tell) b ws d a e y
+      ∙ then-made (numberedFrom k (x ∷ used) f tell (tell a b)) (λ (l : List A). a ∷ l) (each tell) b ws e
+      ∙ cons-told tell b b1 ws e (numberedFrom k (x ∷ used) f tell) a w))
 
   pub numbered-refused : (k : ℕ) (used : List BlockId) (b : B) (c : Position) (n : ℕ) → 0 < k → newNumber used ws c ≡ refused n →
-      judge (numbered k used f) (each tell) b ws c ≡ refused n
-  unfolding numbered
+      judge (numberedFrom k used f tell) (each tell) b ws c ≡ refused n
+  unfolding numberedFrom
   numbered-refused zero used b c n h p = absurd (not-suc-le-zero h)
   numbered-refused (suc k) used b c n h p =
-      then-refused (newNumber used) (λ (x : BlockId). f x >>= λ (a : A). numbered k (x ∷ used) f >>= λ (l : List A). pure (a ∷ l)) (each tell) b ws c n p
+      then-refused (newNumber used) (λ (x : BlockId). f x b >>= λ (a : A). numberedFrom k (x ∷ used) f tell (tell a b) >>= λ (l : List A). pure (a ∷ l)) (each tell) b ws c n p
 
   pub numbered-stop : (k : ℕ) (used : List BlockId) (b : B) (c d : Position) (x : BlockId) (n : ℕ) → 0 < k → newNumber used ws c ≡ got x d →
-      judge (f x) tell b ws d ≡ refused n → judge (numbered k used f) (each tell) b ws c ≡ refused n
-  unfolding numbered
+      judge (f x) tell b ws d ≡ refused n → judge (numberedFrom k used f tell) (each tell) b ws c ≡ refused n
+  unfolding numberedFrom
   numbered-stop zero used b c d x n h p q = absurd (not-suc-le-zero h)
   numbered-stop (suc k) used b c d x n h p q =
-      then-got (newNumber used) (λ (x : BlockId). f x >>= λ (a : A). numbered k (x ∷ used) f >>= λ (l : List A). pure (a ∷ l)) (each tell) b ws c x d p
-      ∙ then-refused (f x) (λ (a : A). numbered k (x ∷ used) f >>= λ (l : List A). pure (a ∷ l)) (each tell) b ws d n (refused-judged (f x) tell b ws d n q)
+      then-got (newNumber used) (λ (x : BlockId). f x b >>= λ (a : A). numberedFrom k (x ∷ used) f tell (tell a b) >>= λ (l : List A). pure (a ∷ l)) (each tell) b ws c x d p
+      ∙ then-refused (f x b) (λ (a : A). numberedFrom k (x ∷ used) f tell (tell a b) >>= λ (l : List A). pure (a ∷ l)) (each tell) b ws d n (refused-judged (f x b) tell b ws d n q)
 
-  pub numbered-done : (k : ℕ) (used : List BlockId) (b : B) (c : Position) → k ≤ 0 → judge (numbered k used f) (each tell) b ws c ≡ got b c
-  unfolding numbered judge
+  pub numbered-done : (k : ℕ) (used : List BlockId) (b : B) (c : Position) → k ≤ 0 → judge (numberedFrom k used f tell) (each tell) b ws c ≡ got b c
+  unfolding numberedFrom telling
   numbered-done zero used b c h = refl
   numbered-done (suc k) used b c h = absurd (not-suc-le-zero h)
 
   -- the same numbers, as another list
-  pub used-as : (k : ℕ) (used used′ : List BlockId) (b : B) (c : Position) → used ≡ used′ → judge (numbered k used f) (each tell) b ws c ≡ judge (numbered k used′ f) (each tell) b ws c
-  used-as k used used′ b c e = ap (λ (l : List BlockId). judge (numbered k l f) (each tell) b ws c) e
+  pub used-as : (k : ℕ) (used used′ : List BlockId) (b : B) (c : Position) → used ≡ used′ → judge (numberedFrom k used f tell) (each tell) b ws c ≡ judge (numberedFrom k used′ f tell) (each tell) b ws c
+  used-as k used used′ b c e = ap (λ (l : List BlockId). judge (numberedFrom k l f tell) (each tell) b ws c) e
 
   -- before the first number is stored
-  pub nothing-used : (k : ℕ) (l : List ℕ) (i : ℕ) (b : B) (c : Position) → length l ≡ i → judge (numbered k [] f) (each tell) b ws c ≡ judge (numbered k (drop i l) f) (each tell) b ws c
+  pub nothing-used : (k : ℕ) (l : List ℕ) (i : ℕ) (b : B) (c : Position) → length l ≡ i → judge (numberedFrom k [] f tell) (each tell) b ws c ≡ judge (numberedFrom k (drop i l) f tell) (each tell) b ws c
   nothing-used k l i b c e = rw (← e, drop-length l)
 
   -- one more was stored
   pub one-stored : (k : ℕ) (l : List ℕ) (i x : ℕ) (b : B) (c : Position) → 0 < i → i ≤ length l →
-      judge (numbered k (x ∷ drop i l) f) (each tell) b ws c ≡ judge (numbered k (drop (i - 1) (set l (i - 1) x)) f) (each tell) b ws c
+      judge (numberedFrom k (x ∷ drop i l) f tell) (each tell) b ws c ≡ judge (numberedFrom k (drop (i - 1) (set l (i - 1) x)) f tell) (each tell) b ws c
   one-stored k l i x b c h g = used-as k (x ∷ drop i l) (drop (i - 1) (set l (i - 1) x)) b c (sym (drop-stored l i x h g))

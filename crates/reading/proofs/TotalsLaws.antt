@@ -12,8 +12,9 @@ use Rattle.model.specs.Lists.{pick, each, tally, oneIf}
 use Rattle.model.specs.Sheet.{Effect, Operand, Phi, Instruction, Terminal, Other, Return, MaybeThrow, Block, Sheet}
 use Rattle.model.specs.Effects.{Role, relation, mutation, render, diagnosis, nothing, rowOf, isAlias, isRelation, isMutation, isRender, isDiagnosis}
 use Rattle.model.specs.Totals.{withRole, aliasesIn, terminalRelations, blockRelations, totals, over}
+use Rattle.model.specs.Asking.{tellEffect, tellOperand, tellPhi, tellInstruction, tellTerminal, tellBlock}
 use Rattle.model.proofs.WhenRead.{not-over}
-use Rattle.reading.specs.Judging.{bump, relationStop, mutationStop, renderStop, Told, withRelation, withMutation, withRender, withDiagnosis, tellRole, tellKind, tellEffect, tellOperand, tellPhi, tellInstruction, tellTerminal, tellBlock, noTotals}
+use Rattle.reading.specs.Judging.{bump, relationStop, mutationStop, renderStop, Told, withRelation, withMutation, withRender, withDiagnosis, tellRole, tellKind, noTotals, counting}
 use Rattle.reading.specs.Whole.{tellSheet, totalsOf, diagnoses, told}
 
 -- a number, stopped
@@ -126,12 +127,12 @@ role-adds render t = render-more t
 role-adds diagnosis t = diagnosis-more t
 role-adds nothing t = nothing-more t
 
-effect-adds : Adds (tellEffect false) ownEffect
+effect-adds : Adds (tellEffect counting false) ownEffect
 unfolding tellKind
 effect-adds e t = role-adds (rowOf (e .kind) .role) t
 
 -- an effect of a terminal
-alias-adds : Adds (tellEffect true) (λ (e : Effect). related (oneIf (isAlias (e .kind))))
+alias-adds : Adds (tellEffect counting true) (λ (e : Effect). related (oneIf (isAlias (e .kind))))
 unfolding tellKind
 alias-adds e t = go (isAlias (e .kind))
   where
@@ -139,27 +140,27 @@ alias-adds e t = go (isAlias (e .kind))
     go true = relation-more t
     go false = nothing-more t
 
-instruction-adds : Adds tellInstruction (λ (i : Instruction). sum ownEffect (i .effects))
-instruction-adds i t = each-adds (tellEffect false) ownEffect effect-adds (i .effects) t
+instruction-adds : Adds (tellInstruction counting) (λ (i : Instruction). sum ownEffect (i .effects))
+instruction-adds i t = each-adds (tellEffect counting false) ownEffect effect-adds (i .effects) t
 
 tally-length : {A : Type 0} (l : List A) → tally (λ (a : A). 1) l ≡ length l
 tally-length [] = refl
 tally-length (a ∷ l) = omega (arith, tally-length l)
 
-phi-adds : Adds tellPhi (λ (p : Phi). related (length (p .operands)))
-phi-adds p t = rw (← tally-length (p .operands)) (each-relates tellOperand (λ (o : Operand). 1) (λ o u. relation-more u) (p .operands) t)
+phi-adds : Adds (tellPhi counting) (λ (p : Phi). related (length (p .operands)))
+phi-adds p t = rw (← tally-length (p .operands)) (each-relates (tellOperand counting) (λ (o : Operand). 1) (λ o u. relation-more u) (p .operands) t)
 
 one-more : (k : ℕ) (t : Told) → capped (add (related k) (add (related 1) t)) ≡ capped (add (related (suc k)) t)
 unfolding add
 one-more k t = same-capped _ _ (omega arith)
 
-terminal-adds : Adds tellTerminal (λ (z : Terminal). related (terminalRelations z))
+terminal-adds : Adds (tellTerminal counting) (λ (z : Terminal). related (terminalRelations z))
 unfolding add
 terminal-adds (Other o) t = nothing-more t
 terminal-adds (Return o p l) t =
     rw (relation-more t)
-    (each-relates (tellEffect true) (λ (e : Effect). oneIf (isAlias (e .kind))) alias-adds l (add (related 1) t) ∙ one-more (aliasesIn l) t)
-terminal-adds (MaybeThrow o l) t = each-relates (tellEffect true) (λ (e : Effect). oneIf (isAlias (e .kind))) alias-adds l t
+    (each-relates (tellEffect counting true) (λ (e : Effect). oneIf (isAlias (e .kind))) alias-adds l (add (related 1) t) ∙ one-more (aliasesIn l) t)
+terminal-adds (MaybeThrow o l) t = each-relates (tellEffect counting true) (λ (e : Effect). oneIf (isAlias (e .kind))) alias-adds l t
 
 -- a block's own totals
 abbrev ownBlock : Block → Told
@@ -170,13 +171,13 @@ gather : (p : ℕ) (i : Told) (z : ℕ) (t : Told) →
 unfolding add
 gather p i z t = same-capped _ _ (omega arith)
 
-block-adds : Adds tellBlock ownBlock
+block-adds : Adds (tellBlock counting) ownBlock
 unfolding tellBlock blockRelations
 block-adds b t =
     let p : ℕ = tally (λ (p : Phi). length (p .operands)) (b .phis) in
     let i : Told = sum (λ (i : Instruction). sum ownEffect (i .effects)) (b .instructions) in
-    rw (each-relates tellPhi (λ (p : Phi). length (p .operands)) phi-adds (b .phis) t)
-    (rw (each-adds tellInstruction (λ (i : Instruction). sum ownEffect (i .effects)) instruction-adds (b .instructions) (add (related p) t))
+    rw (each-relates (tellPhi counting) (λ (p : Phi). length (p .operands)) phi-adds (b .phis) t)
+    (rw (each-adds (tellInstruction counting) (λ (i : Instruction). sum ownEffect (i .effects)) instruction-adds (b .instructions) (add (related p) t))
     (terminal-adds (b .terminal) (add i (add (related p) t)) ∙ gather p i (terminalRelations (b .terminal)) t))
 
 -- before the first block
@@ -191,7 +192,7 @@ add-none t = same-capped _ _ (omega arith)
 -- the running totals of a sheet
 sheet-told : (s : Sheet) → tellSheet s noTotals ≡ capped (four (totals s .relations) (totals s .mutations) (totals s .renders) (diagnoses s))
 unfolding totals diagnoses
-sheet-told s = ap (each tellBlock (s .blocks)) (sym none-capped) ∙ each-adds tellBlock ownBlock block-adds (s .blocks) noTotals ∙ add-none (sum ownBlock (s .blocks))
+sheet-told s = ap (each (tellBlock counting) (s .blocks)) (sym none-capped) ∙ each-adds (tellBlock counting) ownBlock block-adds (s .blocks) noTotals ∙ add-none (sum ownBlock (s .blocks))
 
 -- stopped at 1: whether there is one
 up-one : (n : ℕ) → upTo 1 n ≡ oneIf (ltb 0 n)

@@ -1,15 +1,16 @@
 -- Reading that keeps no tree: what was read is told to running totals as it comes, and only they go on.
 -- Refusal 8 asks whether a total is over its limit, so a total stops one above it; of diagnoses it is told only whether there is one.
 use Prim.Native.Nat.{ℕ, _+_}
-use mathlib.Core.Bool.{Bool, true, false}
+use mathlib.Core.Bool.{Bool}
 use mathlib.Core.List.{List, []}
 use lib.Dec.{ltb}
-use Rattle.model.specs.Lists.{pick, each}
-use Rattle.model.specs.Sheet.{EffectKind, Effect, Operand, Phi, Instruction, Terminal, Other, Return, MaybeThrow, Block}
-use Rattle.model.specs.Effects.{Role, relation, mutation, render, diagnosis, nothing, rowOf, isAlias}
-use Rattle.model.specs.Reading.{Result, got, refused, Read, _>>=_, count, numbered}
 use Rattle.model.specs.Limits.{mostBlocks, mostRelations, mostMutations, mostRenders}
-use Rattle.model.specs.Sections.{block}
+use Rattle.model.specs.Lists.{pick}
+use Rattle.model.specs.Sheet.{EffectKind, Block}
+use Rattle.model.specs.Effects.{Role, relation, mutation, render, diagnosis, nothing, rowOf, isAlias}
+use Rattle.model.specs.Reading.{Result, got, refused, Read, _>>=_, count, numberedFrom}
+use Rattle.model.specs.Sections.{noQuestion, innerFunction}
+use Rattle.model.specs.Asking.{Asks, tellBlock, block}
 
 module _ {A B : Type 0} where
   -- the same position or refusal, with another value
@@ -18,8 +19,12 @@ module _ {A B : Type 0} where
   mapResult f (refused k) = refused k
 
   -- a part is read, and told to what was known before
-  unfoldable pub judge : Read A → (A → B → B) → B → Read B
-  judge f tell b ws c = mapResult (λ (a : A). tell a b) (f ws c)
+  unfoldable pub telling : Read A → (A → B → B) → B → Read B
+  telling f tell b ws c = mapResult (λ (a : A). tell a b) (f ws c)
+
+  -- a part that is read with what was known before
+  abbrev pub judge : (B → Read A) → (A → B → B) → B → Read B
+  judge f tell b = telling (f b) tell b
 
 -- one more, but no more than `stop`
 abbrev pub bump : ℕ → ℕ → ℕ
@@ -72,38 +77,16 @@ tellRole nothing t = t
 unfoldable pub tellKind : Bool → EffectKind → Told → Told
 tellKind terminal k t = pick terminal (pick (isAlias k) (withRelation t) t) (tellRole (rowOf k .role) t)
 
--- an effect, by its kind
-abbrev pub tellEffect : Bool → Effect → Told → Told
-tellEffect terminal e t = tellKind terminal (e .kind) t
-
--- a phi operand is a relation effect
-abbrev pub tellOperand : Operand → Told → Told
-tellOperand o t = withRelation t
-
--- a phi: its operands
-abbrev pub tellPhi : Phi → Told → Told
-tellPhi p t = each tellOperand (p .operands) t
-
--- an instruction: its effects
-abbrev pub tellInstruction : Instruction → Told → Told
-tellInstruction i t = each (tellEffect false) (i .effects) t
-
--- a terminal: the Return value is a relation effect, then its effects
-abbrev pub tellTerminal : Terminal → Told → Told
-tellTerminal (Other o) t = t
-tellTerminal (Return o p l) t = each (tellEffect true) l (withRelation t)
-tellTerminal (MaybeThrow o l) t = each (tellEffect true) l t
-
--- a block: phis, instructions, terminal
-unfoldable pub tellBlock : Block → Told → Told
-tellBlock b t = tellTerminal (b .terminal) (each tellInstruction (b .instructions) (each tellPhi (b .phis) t))
-
 -- before the first block
 abbrev pub noTotals : Told
 noTotals = record { relations = 0; mutations = 0; renders = 0; diagnoses = 0 }
 
+-- what is counted while reading; nothing is asked
+abbrev pub counting : Asks
+counting = record { Tally = Told; none = noTotals; effect = tellKind; relation = withRelation; ask = λ t. noQuestion; inner = λ n. innerFunction }
+
 -- "Blocks, at most 256"
-unfoldable pub blocksOf : ℕ → ℕ → Read (List Block)
-blocksOf n m = do
+unfoldable pub blocksOf : ℕ → ℕ → Told → Read (List Block)
+blocksOf n m t = do
   k ← count mostBlocks
-  numbered k [] (block n m)
+  numberedFrom k [] (block counting n m) (tellBlock counting) t

@@ -7,10 +7,11 @@ use Rattle.model.specs.Limits.{mostIdentifiers, mostFunctions, mostParams, most
 use Rattle.model.specs.Lists.{each, tally, oneIf}
 use Rattle.model.specs.Sheet.{Place, Block, Sheet}
 use Rattle.model.specs.Effects.{isDiagnosis}
-use Rattle.model.specs.Reading.{Result, got, refused, Read, _>>=_, pure, fixed, counted}
+use Rattle.model.specs.Reading.{Result, got, refused, Read, _>>=_, pure, fixed, counted, timesFrom}
 use Rattle.model.specs.Sections.{flags, identifier, innerFunction, place}
+use Rattle.model.specs.Asking.{tellBlock}
 use Rattle.model.specs.Totals.{withRole, Totals, totals}
-use Rattle.reading.specs.Judging.{mapResult, judge, Told, tellBlock, noTotals, blocksOf}
+use Rattle.reading.specs.Judging.{mapResult, judge, Told, noTotals, counting, blocksOf}
 
 module _ {A : Type 0} where
   -- a list of which only the length goes on
@@ -20,6 +21,10 @@ module _ {A : Type 0} where
   -- a part of which nothing goes on
   abbrev pub skip : A → Unit {0} → Unit {0}
   skip a u = u
+
+  -- k of them
+  abbrev pub passing : ℕ → Read A → Read (Unit {0})
+  passing k f = judge (timesFrom k (λ u. f) skip) (each skip) tt
 
 -- how many identifiers and inner functions there are
 pub record Heading : Type 0 where
@@ -47,11 +52,11 @@ unfoldable pub judgedSheet : Read Told
 judgedSheet = do
   h ← heading
   r ← placeLists (h .identifiers)
-  judge (blocksOf (h .identifiers) (h .functions)) (each tellBlock) noTotals
+  judge (blocksOf (h .identifiers) (h .functions)) (each (tellBlock counting)) noTotals
 
 -- a sheet: its blocks
 abbrev pub tellSheet : Sheet → Told → Told
-tellSheet s t = each tellBlock (s .blocks) t
+tellSheet s t = each (tellBlock counting) (s .blocks) t
 
 -- what refusal 8 counts
 abbrev pub totalsOf : Told → Totals

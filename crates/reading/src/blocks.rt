@@ -1,10 +1,10 @@
 // Judges the blocks of a sheet: each word is held to its range, and what refusal 8 counts is counted on the way.
 ghost use mathlib.Core.Path.{_≡_};
 ghost use Rattle.model.specs.Lists.{each};
-ghost use Rattle.model.specs.Reading.{counted};
-ghost use Rattle.model.specs.Sections.{effects, instruction, terminal, block};
+ghost use Rattle.model.specs.Reading.{countedFrom};
+ghost use Rattle.model.specs.Asking.{effects, instruction, terminal, block, tellEffect, tellInstruction, tellTerminal, tellBlock};
 ghost use Rattle.model.specs.Limits.{mostCount};
-ghost use Rattle.reading.specs.Judging.{judge, tellEffect, tellInstruction, tellTerminal, tellBlock, noTotals, blocksOf};
+ghost use Rattle.reading.specs.Judging.{judge, counting, noTotals, blocksOf};
 ghost use Rattle.reading.specs.TotalsSays.{totalsAre, totalsSays};
 use hir::BlockStep;
 use hir::Cursor;
@@ -33,7 +33,7 @@ pub enum TotalsStep {
 
 // An effect count and the effects, of an instruction or of a terminal.
 fn effects(start: Cursor, s: &[u32], n: u32, m: u32, terminal: bool, totals: Totals) -> TotalsStep
-    ensures { λ r. ⌜ totalsSays r ≡ judge (effects n m) (each (tellEffect terminal)) (totalsAre totals) (now (s .entry)) (start .at) ⌝ }
+    ensures { λ r. ⌜ totalsSays r ≡ judge (effects counting terminal n m) (each (tellEffect counting terminal)) (totalsAre totals) (now (s .entry)) (start .at) ⌝ }
 {
     let mut left: u32;
     let mut c: Cursor;
@@ -65,7 +65,7 @@ fn effects(start: Cursor, s: &[u32], n: u32, m: u32, terminal: bool, totals: Tot
 
 // An order, an effect count and the effects.
 fn instruction(c: Cursor, s: &[u32], n: u32, m: u32, totals: Totals) -> TotalsStep
-    ensures { λ r. ⌜ totalsSays r ≡ judge (instruction n m) tellInstruction (totalsAre totals) (now (s .entry)) (c .at) ⌝ }
+    ensures { λ r. ⌜ totalsSays r ≡ judge (instruction counting n m) (tellInstruction counting) (totalsAre totals) (now (s .entry)) (c .at) ⌝ }
 {
     match c.order(s) {
         OrderStep::Got(_, d) => effects(d, s, n, m, false, totals),
@@ -75,7 +75,7 @@ fn instruction(c: Cursor, s: &[u32], n: u32, m: u32, totals: Totals) -> TotalsSt
 
 // An instruction count and the instructions.
 fn instructions(start: Cursor, s: &[u32], n: u32, m: u32, totals: Totals) -> TotalsStep
-    ensures { λ r. ⌜ totalsSays r ≡ judge (counted mostCount (instruction n m)) (each tellInstruction) (totalsAre totals) (now (s .entry)) (start .at) ⌝ }
+    ensures { λ r. ⌜ totalsSays r ≡ judge (countedFrom mostCount (instruction counting n m) (tellInstruction counting)) (each (tellInstruction counting)) (totalsAre totals) (now (s .entry)) (start .at) ⌝ }
 {
     let mut left: u32;
     let mut c: Cursor;
@@ -106,7 +106,7 @@ fn instructions(start: Cursor, s: &[u32], n: u32, m: u32, totals: Totals) -> Tot
 
 // Kind and order; of a Return its value; of a Return and a MaybeThrow the effects.
 fn terminal(c: Cursor, s: &[u32], n: u32, m: u32, totals: Totals) -> TotalsStep
-    ensures { λ r. ⌜ totalsSays r ≡ judge (terminal n m) tellTerminal (totalsAre totals) (now (s .entry)) (c .at) ⌝ }
+    ensures { λ r. ⌜ totalsSays r ≡ judge (terminal counting n m) (tellTerminal counting) (totalsAre totals) (now (s .entry)) (c .at) ⌝ }
 {
     let kind: TerminalKind;
     let c1: Cursor;
@@ -140,7 +140,7 @@ fn terminal(c: Cursor, s: &[u32], n: u32, m: u32, totals: Totals) -> TotalsStep
 
 // What follows a block's number.
 fn block(c: Cursor, s: &[u32], n: u32, m: u32, totals: Totals, number: u32) -> TotalsStep
-    ensures { λ r. ⌜ totalsSays r ≡ judge (block n m number) tellBlock (totalsAre totals) (now (s .entry)) (c .at) ⌝ }
+    ensures { λ r. ⌜ totalsSays r ≡ judge (block counting n m number) (tellBlock counting) (totalsAre totals) (now (s .entry)) (c .at) ⌝ }
 {
     match crate::phis::phis(c, s, n, totals) {
         TotalsStep::Got(t1, c1) => match instructions(c1, s, n, m, t1) {
@@ -153,7 +153,7 @@ fn block(c: Cursor, s: &[u32], n: u32, m: u32, totals: Totals, number: u32) -> T
 
 // A block count and the blocks, of which no two have one number.
 pub fn blocks(start: Cursor, s: &[u32], n: u32, m: u32) -> TotalsStep
-    ensures { λ r. ⌜ totalsSays r ≡ judge (blocksOf n m) (each tellBlock) noTotals (now (s .entry)) (start .at) ⌝ }
+    ensures { λ r. ⌜ totalsSays r ≡ judge (blocksOf n m) (each (tellBlock counting)) noTotals (now (s .entry)) (start .at) ⌝ }
 {
     let mut left: u32;
     let mut c: Cursor;

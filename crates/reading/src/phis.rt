@@ -5,9 +5,9 @@ ghost use Prim.Native.Nat.{ℕ, _≤_, _<_};
 ghost use lib.ListN.{length, drop};
 ghost use Rattle.model.specs.Limits.{mostCount, mostBlockNumber};
 ghost use Rattle.model.specs.Lists.{each, among, Every};
-ghost use Rattle.model.specs.Reading.{numbered, counted};
-ghost use Rattle.model.specs.Sections.{operand, phi};
-ghost use Rattle.reading.specs.Judging.{judge, tellOperand, tellPhi};
+ghost use Rattle.model.specs.Reading.{numberedFrom, countedFrom};
+ghost use Rattle.model.specs.Asking.{operand, phi, tellOperand, tellPhi};
+ghost use Rattle.reading.specs.Judging.{judge, counting};
 ghost use Rattle.reading.specs.Operands.{Whole, predecessors};
 ghost use Rattle.reading.specs.TotalsSays.{totalsAre, totalsSays};
 use crate::blocks::Totals;
@@ -86,7 +86,7 @@ fn repeated_operand(s: &[u32], from: usize, to: usize, above: u32, number: u32) 
 
 // `count` operands: a predecessor's number that none before had, and a place.
 fn operands(start: Cursor, s: &[u32], n: u32, count: u32, totals: Totals) -> TotalsStep
-    ensures { λ r. ⌜ totalsSays r ≡ judge (numbered count [] (operand n)) (each tellOperand) (totalsAre totals) (now (s .entry)) (start .at) ⌝ }
+    ensures { λ r. ⌜ totalsSays r ≡ judge (numberedFrom count [] (operand counting n) (tellOperand counting)) (each (tellOperand counting)) (totalsAre totals) (now (s .entry)) (start .at) ⌝ }
 {
     let mut left = count;
     let mut c = start;
@@ -125,7 +125,7 @@ fn operands(start: Cursor, s: &[u32], n: u32, count: u32, totals: Totals) -> Tot
 
 // A place, an operand count and the operands.
 pub fn phi(c: Cursor, s: &[u32], n: u32, totals: Totals) -> TotalsStep
-    ensures { λ r. ⌜ totalsSays r ≡ judge (phi n) tellPhi (totalsAre totals) (now (s .entry)) (c .at) ⌝ }
+    ensures { λ r. ⌜ totalsSays r ≡ judge (phi counting n) (tellPhi counting) (totalsAre totals) (now (s .entry)) (c .at) ⌝ }
 {
     match c.place(s, n) {
         PlaceStep::Got(_, c1) => match c1.count(s, MOST_COUNT) {
@@ -138,7 +138,7 @@ pub fn phi(c: Cursor, s: &[u32], n: u32, totals: Totals) -> TotalsStep
 
 // A phi count and the phis.
 pub fn phis(start: Cursor, s: &[u32], n: u32, totals: Totals) -> TotalsStep
-    ensures { λ r. ⌜ totalsSays r ≡ judge (counted mostCount (phi n)) (each tellPhi) (totalsAre totals) (now (s .entry)) (start .at) ⌝ }
+    ensures { λ r. ⌜ totalsSays r ≡ judge (countedFrom mostCount (phi counting n) (tellPhi counting)) (each (tellPhi counting)) (totalsAre totals) (now (s .entry)) (start .at) ⌝ }
 {
     let mut left: u32;
     let mut c: Cursor;

@@ -4,7 +4,7 @@ ghost use Rattle.model.specs.Limits.{mostIdentifiers, mostFunctions};
 ghost use Rattle.model.specs.Reading.{counted};
 ghost use Rattle.model.specs.Sections.{identifier, innerFunction, place};
 ghost use Rattle.hir.specs.Says.{wordSays};
-ghost use Rattle.reading.specs.Judging.{judge};
+ghost use Rattle.reading.specs.Judging.{telling};
 ghost use Rattle.reading.specs.Whole.{lengthOf, skip};
 ghost use Rattle.reading.specs.Says.{cursorSays};
 use crate::CursorStep;
@@ -49,7 +49,7 @@ pub fn identifiers(start: Cursor, s: &[u32]) -> WordStep
 
 // A count and that many diagnostic numbers.
 pub fn inner_function(start: Cursor, s: &[u32]) -> CursorStep
-    ensures { λ r. ⌜ cursorSays r ≡ judge innerFunction skip tt (now (s .entry)) (start .at) ⌝ }
+    ensures { λ r. ⌜ cursorSays r ≡ telling innerFunction skip tt (now (s .entry)) (start .at) ⌝ }
 {
     let mut left: u32;
     let mut c: Cursor;

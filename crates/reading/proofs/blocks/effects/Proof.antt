@@ -1,9 +1,10 @@
-use Rattle.reading.proofs.JudgeLaws.{judge-got, judge-refused, times-next, times-stop, times-done, section-got, section-refused}
+use Rattle.reading.proofs.BlockLaws.{effect-got, effect-refused}
+use Rattle.reading.proofs.JudgeLaws.{times-next, times-stop, times-done, section-got, section-refused}
 use Rattle.reading.specs.TotalsSays.{totalsAre}
-use Rattle.reading.specs.Judging.{judge, tellEffect}
+use Rattle.reading.specs.Judging.{judge, counting}
 use Rattle.hir.specs.Says.{wordSays, effectSays}
-use Rattle.model.specs.Sections.{effect, effects}
-use Rattle.model.specs.Reading.{times}
+use Rattle.model.specs.Asking.{effect, effects, tellEffect}
+use Rattle.model.specs.Reading.{timesFrom}
 use Rattle.model.specs.Lists.{each}
 use native.Mathlib.Omega.{arith}
 use mathlib.Core.Path.{_≡_, _∙_, sym, refl}
@@ -13,8 +14,8 @@ use Rattle.reading.proofs.blocks.effects.Statement.{statement}
 use Rattle.reading.proofs.blocks.effects.Tie as tie
 
 abbrev Inv-loop : tie.InvT-loop
-Inv-loop s n m terminal left₀ c₀ t₀ left c t = judge (times left₀ (effect n m)) (each (tellEffect terminal)) (totalsAre t₀) s (c₀ .at)
-    ≡ judge (times left (effect n m)) (each (tellEffect terminal)) (totalsAre t) s (c .at)
+Inv-loop s n m terminal left₀ c₀ t₀ left c t = judge (timesFrom left₀ (effect counting terminal n m) (tellEffect counting terminal)) (each (tellEffect counting terminal)) (totalsAre t₀) s (c₀ .at)
+    ≡ judge (timesFrom left (effect counting terminal n m) (tellEffect counting terminal)) (each (tellEffect counting terminal)) (totalsAre t) s (c .at)
 
 abbrev μ-loop : tie.MeasureT-loop
 μ-loop s n m terminal left₀ c₀ t₀ left c t = left
@@ -59,7 +60,7 @@ returns-2 c =
     let b9 = b7 .before .before in
     sym (section-got _ _ _ _ _ _ _ _ (says wordSays (b7 .count2 .given .1) (b9 .count .ensures))
     ∙ b5 .loop .inv
-    ∙ times-stop _ _ _ _ _ _ _ (b4 .loop-test .taken) (judge-refused _ _ _ _ _ _ (says effectSays (c .before .k2 .given .1) (b3 .effect .ensures))))
+    ∙ times-stop _ _ _ _ _ _ _ (b4 .loop-test .taken) (effect-refused _ _ _ _ _ _ _ (says effectSays (c .before .k2 .given .1) (b3 .effect .ensures))))
 
 sub-left : tie.Need-sub-left Inv-loop μ-loop
 sub-left c = omega arith
@@ -72,7 +73,7 @@ loop-again c =
     let b4 = c .before .before .before .before in
     let b5 = b4 .before in
     rw (c .effect2 .ensures) (b5 .before .loop .inv
-    ∙ times-next _ _ _ _ _ _ _ _ (b5 .loop-test .taken) (judge-got _ _ _ _ _ _ _ (says effectSays (c .before .before .e .given .1) (b4 .effect .ensures))))
+    ∙ times-next _ _ _ _ _ _ _ _ (b5 .loop-test .taken) (effect-got _ _ _ _ _ _ _ _ (says effectSays (c .before .before .e .given .1) (b4 .effect .ensures))))
 
 returns-3 : tie.Need-returns-3 Inv-loop μ-loop
 unfolding effects

@@ -3,10 +3,10 @@ use Rattle.reading.proofs.JudgeLaws.{numbered-next, numbered-refused, n
 use Rattle.reading.proofs.OperandLaws.{none-before, at-most-read, whole-next, one-read, below-read}
 use Rattle.reading.specs.Operands.{Whole, predecessors}
 use Rattle.reading.specs.TotalsSays.{totalsAre}
-use Rattle.reading.specs.Judging.{judge, tellOperand}
+use Rattle.reading.specs.Judging.{judge, counting}
 use Rattle.hir.specs.Says.{blockSays, placeSays}
-use Rattle.model.specs.Sections.{operand}
-use Rattle.model.specs.Reading.{numbered}
+use Rattle.model.specs.Asking.{operand, tellOperand}
+use Rattle.model.specs.Reading.{numberedFrom}
 use Rattle.model.specs.Lists.{each, Every}
 use mathlib.Core.List.{[]}
 use Prim.Native.Nat.{ℕ, _<_}
@@ -20,8 +20,8 @@ use Rattle.reading.proofs.phis.operands.Statement.{statement}
 use Rattle.reading.proofs.phis.operands.Tie as tie
 
 abbrev Inv-loop : tie.InvT-loop
-Inv-loop s n count left₀ c₀ t₀ above₀ from left c t above = (judge (numbered left₀ [] (operand n)) (each tellOperand) (totalsAre t₀) s (c₀ .at)
-    ≡ judge (numbered left (predecessors s from (c .at)) (operand n)) (each tellOperand) (totalsAre t) s (c .at)) × Whole from (c .at) × Every (λ (v : ℕ). v < above) (predecessors s from (c .at))
+Inv-loop s n count left₀ c₀ t₀ above₀ from left c t above = (judge (numberedFrom left₀ [] (operand counting n) (tellOperand counting)) (each (tellOperand counting)) (totalsAre t₀) s (c₀ .at)
+    ≡ judge (numberedFrom left (predecessors s from (c .at)) (operand counting n) (tellOperand counting)) (each (tellOperand counting)) (totalsAre t) s (c .at)) × Whole from (c .at) × Every (λ (v : ℕ). v < above) (predecessors s from (c .at))
 
 abbrev μ-loop : tie.MeasureT-loop
 μ-loop s n count left₀ c₀ t₀ above₀ from left c t above = left

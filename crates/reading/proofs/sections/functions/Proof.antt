@@ -2,11 +2,8 @@ use Rattle.reading.proofs.SectionLaws.{section-read, section-stopped, c
 use Rattle.reading.proofs.JudgeLaws.{times-next, times-stop, times-done}
 use Rattle.reading.specs.Says.{cursorSays}
 use Rattle.hir.specs.Says.{wordSays}
-use Rattle.reading.specs.Whole.{skip}
-use Rattle.reading.specs.Judging.{judge}
+use Rattle.reading.specs.Whole.{passing}
 use Rattle.model.specs.Sections.{innerFunction}
-use Rattle.model.specs.Reading.{times}
-use Rattle.model.specs.Lists.{each}
 use native.Mathlib.Omega.{arith}
 use mathlib.Core.Path.{_≡_, _∙_, sym, refl}
 use borrow.Author.Needs.{needs}
@@ -15,7 +12,7 @@ use Rattle.reading.proofs.sections.functions.Statement.{statement}
 use Rattle.reading.proofs.sections.functions.Tie as tie
 
 abbrev Inv-loop : tie.InvT-loop
-Inv-loop s count c₀ left₀ c left = judge (times left₀ innerFunction) (each skip) tt s (c₀ .at) ≡ judge (times left innerFunction) (each skip) tt s (c .at)
+Inv-loop s count c₀ left₀ c left = passing left₀ innerFunction s (c₀ .at) ≡ passing left innerFunction s (c .at)
 
 abbrev μ-loop : tie.MeasureT-loop
 μ-loop s count c₀ left₀ c left = left

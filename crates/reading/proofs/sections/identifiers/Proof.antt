@@ -1,11 +1,8 @@
 use Rattle.reading.proofs.SectionLaws.{section-read, section-stopped, count-stopped}
 use Rattle.reading.proofs.JudgeLaws.{judge-got, judge-refused, times-next, times-stop, times-done}
 use Rattle.hir.specs.Says.{wordSays, identifierSays}
-use Rattle.reading.specs.Whole.{skip}
-use Rattle.reading.specs.Judging.{judge}
+use Rattle.reading.specs.Whole.{passing}
 use Rattle.model.specs.Sections.{identifier}
-use Rattle.model.specs.Reading.{times}
-use Rattle.model.specs.Lists.{each}
 use native.Mathlib.Omega.{arith}
 use mathlib.Core.Path.{_≡_, _∙_, sym, refl}
 use borrow.Author.Needs.{needs}
@@ -14,7 +11,7 @@ use Rattle.reading.proofs.sections.identifiers.Statement.{statement}
 use Rattle.reading.proofs.sections.identifiers.Tie as tie
 
 abbrev Inv-loop : tie.InvT-loop
-Inv-loop s count c₀ left₀ c left = judge (times left₀ identifier) (each skip) tt s (c₀ .at) ≡ judge (times left identifier) (each skip) tt s (c .at)
+Inv-loop s count c₀ left₀ c left = passing left₀ identifier s (c₀ .at) ≡ passing left identifier s (c .at)
 
 abbrev μ-loop : tie.MeasureT-loop
 μ-loop s count c₀ left₀ c left = left

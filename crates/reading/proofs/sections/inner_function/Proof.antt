@@ -1,11 +1,8 @@
 use Rattle.reading.proofs.SectionLaws.{inner-got, inner-refused}
 use Rattle.reading.proofs.JudgeLaws.{judge-got, judge-refused, times-next, times-stop, times-done}
 use Rattle.hir.specs.Says.{wordSays}
-use Rattle.reading.specs.Whole.{skip}
-use Rattle.reading.specs.Judging.{judge}
+use Rattle.reading.specs.Whole.{passing}
 use Rattle.model.specs.Sections.{diagnostic}
-use Rattle.model.specs.Reading.{times}
-use Rattle.model.specs.Lists.{each}
 use native.Mathlib.Omega.{arith}
 use mathlib.Core.Path.{_≡_, _∙_, sym, refl}
 use borrow.Author.Needs.{needs}
@@ -14,7 +11,7 @@ use Rattle.reading.proofs.sections.inner_function.Statement.{statement}
 use Rattle.reading.proofs.sections.inner_function.Tie as tie
 
 abbrev Inv-loop : tie.InvT-loop
-Inv-loop s left₀ c₀ left c = judge (times left₀ diagnostic) (each skip) tt s (c₀ .at) ≡ judge (times left diagnostic) (each skip) tt s (c .at)
+Inv-loop s left₀ c₀ left c = passing left₀ diagnostic s (c₀ .at) ≡ passing left diagnostic s (c .at)
 
 abbrev μ-loop : tie.MeasureT-loop
 μ-loop s left₀ c₀ left c = left

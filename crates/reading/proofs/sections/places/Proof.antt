@@ -1,11 +1,8 @@
 use Rattle.reading.proofs.SectionLaws.{section-read, section-stopped, count-stopped}
 use Rattle.reading.proofs.JudgeLaws.{judge-got, judge-refused, times-next, times-stop, times-done}
 use Rattle.hir.specs.Says.{wordSays, placeSays}
-use Rattle.reading.specs.Whole.{skip}
-use Rattle.reading.specs.Judging.{judge}
+use Rattle.reading.specs.Whole.{passing}
 use Rattle.model.specs.Sections.{place}
-use Rattle.model.specs.Reading.{times}
-use Rattle.model.specs.Lists.{each}
 use native.Mathlib.Omega.{arith}
 use mathlib.Core.Path.{_≡_, _∙_, sym, refl}
 use borrow.Author.Needs.{needs}
@@ -14,7 +11,7 @@ use Rattle.reading.proofs.sections.places.Statement.{statement}
 use Rattle.reading.proofs.sections.places.Tie as tie
 
 abbrev Inv-loop : tie.InvT-loop
-Inv-loop s n most count c₀ left₀ c left = judge (times left₀ (place n)) (each skip) tt s (c₀ .at) ≡ judge (times left (place n)) (each skip) tt s (c .at)
+Inv-loop s n most count c₀ left₀ c left = passing left₀ (place n) s (c₀ .at) ≡ passing left (place n) s (c .at)
 
 abbrev μ-loop : tie.MeasureT-loop
 μ-loop s n most count c₀ left₀ c left = left
