@@ -34,6 +34,7 @@ pub record Describes (s : Sheet) (sheet : List ℕ) (f : HirFunction) : Type 0 w
   pub returns : placeIs (f .returns) ≡ s .returns
   pub identifiers : (e : Position) × (times (f .n) identifier sheet (f .identifiers .at) ≡ got (s .identifiers) e)
   pub blocks : (e : Position) × (numbered (f .count) [] (block (f .n) (f .m)) sheet (f .blocks .at) ≡ got (s .blocks) e)
+  pub inside : f .blocks .at ≤ length sheet
 
 -- what stands in the workspace from here to the call's end: where each inner function's list stands in the sheet, and the tracked places
 pub record Stands (s : Sheet) (sheet ws : List ℕ) : Type 0 where

@@ -6,7 +6,7 @@ use mathlib.Core.Bool.{true, true≢false}
 use mathlib.Core.List.{List, [], _∷_, _++_, map}
 use lib.ListN.{length, getD, length-append}
 use lib.Seq.{sets}
-use Rattle.model.specs.Limits.{mostFunctions}
+use Rattle.model.specs.Limits.{mostFunctions, mostBlocks}
 use Rattle.model.specs.Lists.{each}
 use Rattle.model.specs.Sheet.{Identifier, Place, noFunction, Sheet}
 use Rattle.model.specs.Reading.{Position, got, numbered}
@@ -14,6 +14,7 @@ use Rattle.model.specs.Sections.{innerFunction, block}
 use Rattle.model.specs.Sections.{sheet as sheetReader}
 use Rattle.model.specs.Building.{firstPlaces}
 use Rattle.model.proofs.ReadLaws.{counted-length}
+use Rattle.hir.proofs.Standing.{blocks-stands}
 use Rattle.workspace.specs.Layout.{END, SEEN, VALUE, FBOUND, FUNCTIONS}
 use Rattle.workspace.specs.Graph.{tab}
 use Rattle.workspace.proofs.Parts.{take-less, drop-word, slice-at}
@@ -24,6 +25,7 @@ use Rattle.dataflow.proofs.Sheet.{sheet-sections, first-nodes}
 use Rattle.header.specs.declared.Top.{Top}
 use Rattle.header.specs.declared.TopStep.{TopStep}
 use Rattle.header.specs.declared.TopStep.the-variants.{Got as GotTop, Refused as NoTop}
+use Rattle.header.proofs.Within.{count-within}
 use Rattle.header.specs.Read.{Tops, topIs, topFew, Topped}
 use Rattle.summary.specs.Tracked.{TRACKED, trackedOf}
 use Rattle.function.specs.declared.HirFunction.{HirFunction}
@@ -63,6 +65,14 @@ functionOf t u = record {
 -- the calls one after another, for a sheet that was read
 module _ (sheet : List ℕ) (s : Sheet) (d : Position) (e : sheetReader sheet 0 ≡ got s d) {ws ws₁ : List ℕ} {t : Top} (T : Tops s d sheet ws ws₁ t) (few : t .n ≤ 512) {ws₂ : List ℕ} {b : Building} (start : Starts ws₁ ws₂ b) where
   module _ {ws₃ : List ℕ} {u : Tracked} {r : Building} (U : TrackedRead s d sheet (t .n) ws₂ b ws₃ u r) where
+    -- the blocks begin inside the sheet
+    inside : u .next .at ≤ length sheet
+    inside =
+        let p = sheet-sections sheet s d e in
+        let x = blocks-stands (length (s .identifiers)) (length (s .functions)) (p .blockCount) [] sheet (p .afterCount) (s .blocks) d (p .blocks) in
+        let y = blocks-stands (t .n) (length (s .functions)) (u .count) [] sheet (u .next .at) (s .blocks) d (U .blocks) in
+        omega (arith, y .after, x .inside (count-within mostBlocks sheet (p .afterReturns) (p .blockCount) (p .afterCount) (p .count)))
+
     describes : Describes s sheet (functionOf t u)
     describes = record {
       errors = T .errors;
@@ -74,6 +84,7 @@ module _ (sheet : List ℕ) (s : Sheet) (d : Position) (e : sheetReader sheet 0 
       returns = U .returns;
       identifiers = T .identifiers;
       blocks = (d, subst (λ (k : ℕ). numbered (u .count) [] (block (t .n) k) sheet (u .next .at) ≡ got (s .blocks) d) (sym (T .m)) (U .blocks));
+      inside = inside;
     }
 
     limited : Limited (functionOf t u)
