@@ -1,33 +1,34 @@
 -- An accepted sheet is read a second time, built and laid out; no step refuses it.
-use Prim.Native.Nat.{ℕ, _≤_, _<_}
+use Prim.Native.Nat.{ℕ, _≤_}
 use native.Mathlib.Omega.{arith}
 use mathlib.Core.Path.{_≡_, subst, _∙_}
 use mathlib.Core.Bool.{Bool, false}
 use mathlib.Core.List.{List, []}
 use lib.ListN.{length}
 use Rattle.model.specs.Limits.{mostIdentifiers}
-use Rattle.model.specs.Lists.{each}
+use Rattle.model.specs.Lists.{each, Every}
 use Rattle.model.specs.Sheet.{Place, Sheet}
 use Rattle.model.specs.Totals.{totals, over}
-use Rattle.model.specs.Reading.{Position, got, numbered}
-use Rattle.model.specs.Sections.{block}
+use Rattle.model.specs.Ranges.{PlaceBelow}
+use Rattle.model.specs.Reading.{got}
 use Rattle.model.specs.Sections.{sheet as sheetReader}
 use Rattle.model.specs.Building.{block as blockStep}
 use Rattle.model.specs.Summary.{copied}
 use Rattle.model.specs.Call.{IsSheet}
 use Rattle.model.proofs.WhenRead.{read-got}
+use Rattle.hir.proofs.Standing.{blocks-stands}
 use Rattle.hir.specs.Says.{placeIs}
+use Rattle.hir.specs.Words.{several, blockFrom}
 use Rattle.workspace.specs.Layout.{LEAST}
 use Rattle.building.specs.declared.Building.{Building}
 use Rattle.building.specs.Built.{LaysOut}
-use Rattle.instructions.specs.declared.BuildStep.{BuildStep}
-use Rattle.instructions.specs.declared.BuildStep.the-variants.{Got as GotBlocks, Refused as NoBlocks}
+use Rattle.instructions.specs.declared.Built.{Built as BuiltPart}
 use Rattle.instructions.specs.Cost.{costs}
 use Rattle.instructions.specs.Builds.{Ready, Builds}
 use Rattle.dataflow.specs.Cost.{blockCost}
-use Rattle.dataflow.specs.Whole.{Whole, WholeAt}
+use Rattle.dataflow.specs.Ranges.{BlockInRange}
+use Rattle.dataflow.specs.Whole.{Whole}
 use Rattle.dataflow.proofs.Sheet.{blocks-ready, blocks-whole}
-use Rattle.hir.specs.declared.Cursor.{Cursor}
 use Rattle.function.specs.declared.HirFunction.{HirFunction}
 use Rattle.function.specs.Function.{Limited, Describes}
 use Rattle.parameters.specs.declared.FunctionStep.{FunctionStep}
@@ -38,8 +39,8 @@ use Rattle.inference.specs.Whole.{NoneUnless, Keeps, Prepared, preparedI
 use Rattle.inference.proofs.Preparing.{prepared}
 
 -- the loop over the blocks of f, as its contract says it
-abbrev Looped : List ℕ → HirFunction → List ℕ → Building → List ℕ → BuildStep → Type 0
-Looped sheet f ws b ws′ r = Builds (numbered (f .count) [] (block (f .n) (f .m)) sheet (f .blocks .at)) (each (blockStep (placeIs (f .returns)))) (costs blockCost) ws b ws′ r
+abbrev Looped : List ℕ → HirFunction → List ℕ → Building → List ℕ → BuiltPart → Type 0
+Looped sheet f ws b ws′ r = Builds (several (f .count) blockFrom sheet (f .blocks .at)) (each (blockStep (placeIs (f .returns)))) (costs blockCost) ws b ws′ r
 
 -- f with another flag
 abbrev copying : HirFunction → Bool → HirFunction
@@ -80,46 +81,32 @@ module _ {sheet ws ws₁ : List ℕ} {x : FunctionStep} (h : ReadsFunction sheet
     pub function-got : (s : Sheet) → IsSheet sheet s → FunctionRead s sheet ws ws₁ f b
     function-got s is = subst (functionIs s sheet ws ws₁) q (h .read s (is .0) (is-read sheet is))
 
-    pub blocks-can : ((s : Sheet) × IsSheet sheet s)
-        → ((f .n ≤ mostIdentifiers) × ((f .m ≤ 64) × (f .returns .identifier .0 < mostIdentifiers))) × Ready (numbered (f .count) [] (block (f .n) (f .m)) sheet (f .blocks .at)) (costs blockCost) ws₁ b
+    pub blocks-can : ((s : Sheet) × IsSheet sheet s) → PlaceBelow mostIdentifiers (placeIs (f .returns)) × Ready (several (f .count) blockFrom sheet (f .blocks .at)) (Every BlockInRange) (costs blockCost) sheet ws₁ b
     blocks-can p =
         let g = function-got (p .0) (p .1) in
         let l = g .limited in
-        let k = g .describes .blocks in (
-          (l .n, (l .m, omega (arith, l .returns, l .n))),
-          blocks-ready (p .0) sheet (f .n) (f .m) (f .count) (f .blocks .at) (k .0) (k .1) (g .first) (l .count) (is-within sheet (p .1)),
-        )
+        let k = g .describes .blocks in
+        (omega (arith, l .returns, l .n), blocks-ready (p .0) sheet (f .n) (f .m) (f .count) (f .blocks .at) (k .0) (k .1) (g .first) (l .n) (l .m) (l .count) (omega (arith, blocks-stands (f .n) (f .m) (f .count) [] sheet (f .blocks .at) (p .0 .blocks) (k .0) (k .1) .after, g .describes .inside)) (is-within sheet (p .1)))
 
-    module _ {ws₂ : List ℕ} {y : BuildStep} (w : Looped sheet f ws₁ b ws₂ y) where
-      whole : (s : Sheet) → IsSheet sheet s → (d : Position) × WholeAt s d ws₁ ws₂ y
-      whole s is =
+    pub few-identifiers : ((s : Sheet) × IsSheet sheet s) → f .n ≤ 512
+    few-identifiers p = function-got (p .0) (p .1) .limited .n
+
+    module _ {ws₂ : List ℕ} {r : BuiltPart} (w : Looped sheet f ws₁ b ws₂ r) where
+      pub whole-got : (s : Sheet) → IsSheet sheet s → Whole s ws₁ ws₂ (r .building)
+      whole-got s is =
           let g = function-got s is in
           let k = g .describes .blocks in
-          let w′ : Builds (numbered (f .count) [] (block (f .n) (f .m)) sheet (f .blocks .at)) (each (blockStep (s .returns))) (costs blockCost) ws₁ b ws₂ y =
-          subst (λ (p : Place). Builds (numbered (f .count) [] (block (f .n) (f .m)) sheet (f .blocks .at)) (each (blockStep p)) (costs blockCost) ws₁ b ws₂ y) (g .describes .returns) w in
-          (k .0, blocks-whole s sheet (f .n) (f .m) (f .count) (f .blocks .at) (k .0) (k .1) (g .first) ws₂ y w′)
+          blocks-whole s sheet (f .n) (f .m) (f .count) (f .blocks .at) (k .0) (k .1) (g .first)
+          (subst (λ (p : Place). Builds (several (f .count) blockFrom sheet (f .blocks .at)) (each (blockStep p)) (costs blockCost) ws₁ b ws₂ r) (g .describes .returns) w)
 
-      refuses : {n : ℕ} → y ≡ NoBlocks n → (s : Sheet) → IsSheet sheet s → ⊥
-      refuses e s is = let k = whole s is in subst (WholeAt s (k .0) ws₁ ws₂) e (k .1)
-
-      pub no-blocks : ((s : Sheet) × IsSheet sheet s) → {n : ℕ} → y ≡ NoBlocks n → {ws₀ ws′ : List ℕ} → Prepares sheet ws₀ ws′ Refused
-      no-blocks p e = record { built = λ s is. refuses e s is; same = absurd (refuses e (p .0) (p .1)) }
-
-      module _ {b′ : Building} {c : Cursor} (e : y ≡ GotBlocks b′ c) where
-        pub whole-got : (s : Sheet) → IsSheet sheet s → Whole s ws₁ ws₂ b′
-        whole-got s is = let k = whole s is in let v : WholeAt s (k .0) ws₁ ws₂ (GotBlocks b′ c) = subst (WholeAt s (k .0) ws₁ ws₂) e (k .1) in v .0
-
-        pub few-identifiers : ((s : Sheet) × IsSheet sheet s) → f .n ≤ mostIdentifiers
-        few-identifiers p = function-got (p .0) (p .1) .limited .n
-
-        pub prepares : ((s : Sheet) × IsSheet sheet s) → {copies : Bool} → NoneUnless copies sheet → {ws₃ ws₄ : List ℕ} → LEAST ≤ length ws → LaysOut ws₂ b′ ws₃ → Keeps (f .n) ws₃ ws₄
-            → Prepares sheet ws ws₄ (Got (copying f copies) b′)
-        prepares p {copies} none {ws₃} {ws₄} size l k = record {
-          built = λ s is.
-              let g = function-got s is in
-              prepared s sheet (is .0) (is-read sheet is) (copying f copies) b′ ws ws₁ ws₂ ws₃ ws₄ (describes-copying (g .describes) (λ e. none e s is)) (limited-copying (g .limited)) (g .stands) size (g .ends) (whole-got s is) l k;
-          same = k .same ∙ l .same ∙ whole-got (p .0) (p .1) .same ∙ function-got (p .0) (p .1) .same;
-        }
+      pub prepares : ((s : Sheet) × IsSheet sheet s) → {copies : Bool} → NoneUnless copies sheet → {ws₃ ws₄ : List ℕ} → LEAST ≤ length ws → LaysOut ws₂ (r .building) ws₃ → Keeps (f .n) ws₃ ws₄
+          → Prepares sheet ws ws₄ (Got (copying f copies) (r .building))
+      prepares p {copies} none {ws₃} {ws₄} size l k = record {
+        built = λ s is.
+            let g = function-got s is in
+            prepared s sheet (is .0) (is-read sheet is) (copying f copies) (r .building) ws ws₁ ws₂ ws₃ ws₄ (describes-copying (g .describes) (λ e. none e s is)) (limited-copying (g .limited)) (g .stands) size (g .ends) (whole-got s is) l k;
+        same = k .same ∙ l .same ∙ whole-got (p .0) (p .1) .same ∙ function-got (p .0) (p .1) .same;
+      }
 
 -- what was built
 module _ {sheet ws ws₁ : List ℕ} {x : FunctionStep} (h : Prepares sheet ws ws₁ x) where

@@ -6,7 +6,7 @@ use mathlib.Core.Bool.{true, true≢false}
 use mathlib.Core.List.{List, [], _∷_, _++_, map}
 use lib.ListN.{length, getD, length-append}
 use lib.Seq.{sets}
-use Rattle.model.specs.Limits.{mostIdentifiers, mostFunctions}
+use Rattle.model.specs.Limits.{mostIdentifiers, mostFunctions, mostBlocks, mostSheet}
 use Rattle.model.specs.Lists.{each}
 use Rattle.model.specs.Sheet.{Identifier, Place, noFunction, Sheet}
 use Rattle.model.specs.Reading.{Position, got, numbered}
@@ -14,6 +14,8 @@ use Rattle.model.specs.Sections.{innerFunction, block}
 use Rattle.model.specs.Sections.{sheet as sheetReader}
 use Rattle.model.specs.Building.{firstPlaces}
 use Rattle.model.proofs.ReadLaws.{counted-length}
+use Rattle.copies.proofs.Accepted.{functions-accepted}
+use Rattle.hir.proofs.Standing.{blocks-stands}
 use Rattle.workspace.specs.Layout.{END, SEEN, VALUE, FBOUND, FUNCTIONS, TRACKED}
 use Rattle.workspace.specs.Graph.{tab}
 use Rattle.workspace.proofs.Parts.{take-less, drop-word, slice-at}
@@ -24,6 +26,7 @@ use Rattle.dataflow.proofs.Sheet.{sheet-sections, first-nodes}
 use Rattle.header.specs.declared.Top.{Top}
 use Rattle.header.specs.declared.TopStep.{TopStep}
 use Rattle.header.specs.declared.TopStep.the-variants.{Got as GotTop, Refused as NoTop}
+use Rattle.header.proofs.Within.{count-within}
 use Rattle.header.specs.Read.{Tops, topIs, topFew, Topped}
 use Rattle.workspace.specs.Tracked.{trackedOf}
 use Rattle.function.specs.declared.HirFunction.{HirFunction}
@@ -61,8 +64,15 @@ functionOf t u = record {
 }
 
 -- the calls one after another, for a sheet that was read
-module _ (sheet : List ℕ) (s : Sheet) (d : Position) (e : sheetReader sheet 0 ≡ got s d) {ws ws₁ : List ℕ} {t : Top} (T : Tops s d sheet ws ws₁ t) (few : t .n ≤ mostIdentifiers) {ws₂ : List ℕ} {b : Building} (start : Starts ws₁ ws₂ b) where
+module _ (sheet : List ℕ) (short : length sheet ≤ mostSheet) (s : Sheet) (d : Position) (e : sheetReader sheet 0 ≡ got s d) {ws ws₁ : List ℕ} {t : Top} (T : Tops s d sheet ws ws₁ t) (few : t .n ≤ mostIdentifiers) {ws₂ : List ℕ} {b : Building} (start : Starts ws₁ ws₂ b) where
   module _ {ws₃ : List ℕ} {u : Tracked} {r : Building} (U : TrackedRead s d sheet (t .n) ws₂ b ws₃ u r) where
+    -- the blocks end inside the sheet
+    inside : d ≤ length sheet
+    inside =
+        let p = sheet-sections sheet s d e in
+        blocks-stands (length (s .identifiers)) (length (s .functions)) (p .blockCount) [] sheet (p .afterCount) (s .blocks) d (p .blocks) .inside
+        (count-within mostBlocks sheet (p .afterReturns) (p .blockCount) (p .afterCount) (p .count))
+
     describes : Describes s sheet (functionOf t u)
     describes = record {
       errors = T .errors;
@@ -74,6 +84,8 @@ module _ (sheet : List ℕ) (s : Sheet) (d : Position) (e : sheetReader sheet 0 
       returns = U .returns;
       identifiers = T .identifiers;
       blocks = (d, subst (λ (k : ℕ). numbered (u .count) [] (block (t .n) k) sheet (u .next .at) ≡ got (s .blocks) d) (sym (T .m)) (U .blocks));
+      inside = inside;
+      short = short;
     }
 
     limited : Limited (functionOf t u)
@@ -108,9 +120,8 @@ module _ (sheet : List ℕ) (s : Sheet) (d : Position) (e : sheetReader sheet 0 
         let n : length (s .params) + length (s .context) + 1 ≡ 0 + length (firstPlaces s) = omega (arith, length-append (s .params) (s .context ++ (s .returns ∷ [])), length-append (s .context) (s .returns ∷ [])) in
         record {
           size = U .places .sound .size;
-          functions = record {
-            each = λ k h. subst (λ (w : ℕ). (j : Position) × (innerFunction sheet w ≡ got (getD (s .functions) k noFunction) j)) (function-word k h) (T .functions k h);
-          };
+          functions = functions-accepted sheet ws₃ (s .functions)
+              (λ k h. subst (λ (w : ℕ). (j : Position) × (innerFunction sheet w ≡ got (getD (s .functions) k noFunction) j)) (function-word k h) (T .functions k h));
           tracked = ap (trackedOf ws₃) n ∙ U .places .tracked ∙ ap (λ (l : List Place). l ++ firstPlaces s) (none-tracked ws₂);
         }
 
@@ -142,9 +153,9 @@ module _ {sheet ws ws₁ : List ℕ} {x : TopStep} (T : Topped sheet ws ws₁ x)
             subst (trackedIs s d sheet (t .n) ws₂ b ws₃) p (U .read s d (top .n) (top .rest));
       }
 
-      pub function-read : {u : Tracked} {r : Building} → y ≡ GotTracked u r → ReadsFunction sheet ws ws₃ (Got (functionOf t u) r)
-      function-read {u} {r} p = record {
+      pub function-read : length sheet ≤ mostSheet → {u : Tracked} {r : Building} → y ≡ GotTracked u r → ReadsFunction sheet ws ws₃ (Got (functionOf t u) r)
+      function-read short {u} {r} p = record {
         read = λ s d e.
             let top : Tops s d sheet ws ws₁ t = subst (topIs s d sheet ws ws₁) q (T .read s d e) in
-            function-is sheet s d e top few-identifiers start (subst (trackedIs s d sheet (t .n) ws₂ b ws₃) p (U .read s d (top .n) (top .rest)));
+            function-is sheet short s d e top few-identifiers start (subst (trackedIs s d sheet (t .n) ws₂ b ws₃) p (U .read s d (top .n) (top .rest)));
       }

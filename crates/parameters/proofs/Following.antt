@@ -18,7 +18,7 @@ use Rattle.hir.specs.declared.Cursor.{Cursor}
 use Rattle.hir.specs.Says.{placeIs}
 use Rattle.building.specs.declared.Building.{Building}
 use Rattle.building.specs.Built.{Steps}
-use Rattle.instructions.proofs.Gots.{both-got}
+use Rattle.hir.proofs.Standing.{in-two}
 use Rattle.header.specs.Read.{afterFunctions}
 use Rattle.workspace.specs.Tracked.{Tracks}
 use Rattle.parameters.specs.declared.ListStep.{ListStep}
@@ -48,12 +48,12 @@ pub follows : (n : ℕ) (sheet : List ℕ) (c : Position) (s : Sheet) (d : Posit
 unfolding afterFunctions
 follows n sheet c s d i e =
     let m = length (s .identifiers) in
-    let p₁ = both-got (counted mostParams (place m) sheet c) _ e in
-    let p₂ = both-got (counted mostContext (place m) sheet (p₁ .next)) _ (p₁ .second) in
-    let p₃ = both-got (fixed returnsCount sheet (p₂ .next)) _ (p₂ .second) in
-    let p₄ = both-got (place m sheet (p₃ .next)) _ (p₃ .second) in
-    let p₅ = both-got (count mostBlocks sheet (p₄ .next)) _ (p₄ .second) in
-    let p₆ = both-got (numbered (p₅ .what) [] (block m (length (s .functions))) sheet (p₅ .next)) _ (p₅ .second) in
+    let p₁ = in-two (counted mostParams (place m) sheet c) _ e in
+    let p₂ = in-two (counted mostContext (place m) sheet (p₁ .next)) _ (p₁ .second) in
+    let p₃ = in-two (fixed returnsCount sheet (p₂ .next)) _ (p₂ .second) in
+    let p₄ = in-two (place m sheet (p₃ .next)) _ (p₃ .second) in
+    let p₅ = in-two (count mostBlocks sheet (p₄ .next)) _ (p₄ .second) in
+    let p₆ = in-two (numbered (p₅ .value) [] (block m (length (s .functions))) sheet (p₅ .next)) _ (p₅ .second) in
     subst (λ (k : ℕ). Follows k sheet c s d) (sym i)
     (subst (λ (j : Position). Follows m sheet c s j) (got-next (p₆ .second))
     (subst (λ (z : Sheet). Follows m sheet c z (p₆ .next)) (got-value (p₆ .second)) (record {
@@ -62,8 +62,8 @@ follows n sheet c s d i e =
       afterOne = p₃ .next;
       afterReturns = p₄ .next;
       afterCount = p₅ .next;
-      oneCount = p₃ .what;
-      blockCount = p₅ .what;
+      oneCount = p₃ .value;
+      blockCount = p₅ .value;
       params = p₁ .first;
       context = p₂ .first;
       one = p₃ .first;

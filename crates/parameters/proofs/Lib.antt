@@ -1,3 +1,4 @@
+pub mod Gots
 pub mod Staying
 pub mod Tracking
 pub mod Listing

@@ -12,7 +12,7 @@ use Rattle.model.proofs.Got.{not-both}
 use Rattle.model.proofs.ReadLaws.{times-length, counted-length}
 use Rattle.hir.specs.declared.Cursor.{Cursor}
 use Rattle.building.specs.declared.Building.{Building}
-use Rattle.instructions.proofs.Gots.{counted-is, counted-refused}
+use Rattle.parameters.proofs.Gots.{counted-is, counted-refused}
 use Rattle.parameters.specs.declared.PlacesStep.{PlacesStep}
 use Rattle.parameters.specs.declared.PlacesStep.the-variants.{Got, Refused}
 use Rattle.parameters.specs.declared.ListStep.{ListStep}

@@ -17,7 +17,7 @@ use Rattle.workspace.proofs.Parts.{take-less, drop-more, slice-take, slice-drop
 use Rattle.building.specs.declared.Building.{Building}
 use Rattle.building.specs.Built.{builtOf, Sound, Steps}
 use Rattle.dataflow.specs.Whole.{createdFor}
-use Rattle.instructions.proofs.Gots.{joined, times-joined, times-none}
+use Rattle.parameters.proofs.Gots.{joined, times-joined, times-none}
 use Rattle.hir.specs.declared.Cursor.{Cursor}
 use Rattle.workspace.specs.Tracked.{trackedOf, Tracks}
 use Rattle.workspace.proofs.Places.{tracked-kept}
