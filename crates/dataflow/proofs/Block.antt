@@ -1,7 +1,7 @@
 -- A block: its phis, then it has come; its instructions, what waited for it, its terminal.
 use Prim.Native.Nat.{ℕ, _+_, _≤_, _<_}
 use native.Mathlib.Omega.{arith}
-use mathlib.Core.Path.{_≡_, refl, sym, subst, ap, _∙_}
+use mathlib.Core.Path.{_≡_, refl, sym, subst, ap}
 use mathlib.Core.List.{List, [], _∷_}
 use lib.ListN.{length}
 use Rattle.model.specs.Limits.{mostBlocks}
@@ -12,7 +12,7 @@ use Rattle.model.specs.Reading.{Position}
 use Rattle.model.specs.Built.{Built, comes}
 use Rattle.model.specs.Building.{phiNode, wake}
 use Rattle.model.specs.Building.{instruction as instructionStep, terminal as terminalStep, block as blockStep}
-use Rattle.hir.specs.Words.{Part, wordAt, phiFrom, instructionFrom, terminalFrom, phisFrom, instructionsFrom, blockFrom}
+use Rattle.hir.specs.Words.{Part, wordAt, instructionFrom, terminalFrom, phisFrom, instructionsFrom, blockFrom}
 use Rattle.hir.proofs.Widths.{Rises, listed-rises, terminal-rises, block-rises}
 use Rattle.building.specs.declared.Building.{Building}
 use Rattle.instructions.specs.declared.Built.{Built as BuiltPart}
@@ -24,7 +24,6 @@ use Rattle.instructions.proofs.Building.{ready-as, builds-as}
 use Rattle.instructions.proofs.Instruction.{rises as instruction-rises}
 use Rattle.dataflow.specs.Cost.{phiCost, blockCost}
 use Rattle.dataflow.specs.Ranges.{PhiInRange, BlockInRange}
-use Rattle.dataflow.proofs.Phi.{rises as phi-rises}
 
 pub rises : Rises blockFrom
 rises s c = omega (arith, block-rises s c)

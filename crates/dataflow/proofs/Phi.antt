@@ -72,6 +72,6 @@ module _ (s : List ℕ) (c : Position) {ws : List ℕ} {b : Building} (w : Ready
           let y = spends-then (relationsOnly 0) (costs operandCost operands) x (o .spends) in
           record {
             spends = subst (λ (q : Place). Spends (phiNode (record { place = q; operands = operands })) (relationsOnly (length operands)) ws b ws′ (r .building)) (h .place)
-            (subst (λ (k : Cost). Spends (phiNode (record { place = placeIs (p .place); operands = operands })) k ws b ws′ (r .building)) (sym (phi-cost operands)) y);
+                (subst (λ (k : Cost). Spends (phiNode (record { place = placeIs (p .place); operands = operands })) k ws b ws′ (r .building)) (sym (phi-cost operands)) y);
             next = o .next;
           }

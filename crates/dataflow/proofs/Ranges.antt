@@ -3,7 +3,7 @@ use Prim.Native.Nat.{ℕ, _≤_}
 use mathlib.Core.List.{[]}
 use Rattle.model.specs.Limits.{mostIdentifiers, mostFunctions, mostCount}
 use Rattle.model.specs.Lists.{Every}
-use Rattle.model.specs.Sheet.{BlockId, Block}
+use Rattle.model.specs.Sheet.{BlockId}
 use Rattle.model.specs.Ranges.{PlaceBelow}
 use Rattle.model.specs.Reading.{count, numbered, counted}
 use Rattle.model.specs.Sections.{place, operand, phi, instruction, terminal, block}

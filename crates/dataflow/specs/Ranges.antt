@@ -5,14 +5,15 @@ use Rattle.model.specs.Sheet.{Operand, Phi, Block}
 use Rattle.model.specs.Ranges.{PlaceBelow, PhiBelow}
 use Rattle.instructions.specs.Ranges.{InstructionInRange, TerminalInRange}
 
+-- a phi operand: its place
 abbrev pub OperandInRange : Operand → Type 0
 OperandInRange o = PlaceBelow mostIdentifiers (o .place)
 
--- its place and its operands
+-- a phi: its place and its operands
 abbrev pub PhiInRange : Phi → Type 0
 PhiInRange = PhiBelow mostIdentifiers
 
--- all of it
+-- a block: all of it
 pub record BlockInRange (k : Block) : Type 0 where
   pub phis : Every PhiInRange (k .phis)
   pub instructions : Every InstructionInRange (k .instructions)

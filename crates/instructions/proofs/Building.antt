@@ -12,10 +12,9 @@ use Rattle.hir.specs.Words.{Part, Standing, several, listed}
 use Rattle.hir.specs.Parts.{ListAt}
 use Rattle.hir.proofs.Widths.{Rises, several-rises, listed-rises}
 use Rattle.building.specs.declared.Building.{Building}
-use Rattle.building.specs.Built.{Sound}
 use Rattle.instructions.specs.declared.Built.{Built as BuiltPart}
 use Rattle.instructions.specs.Cost.{Cost, costs, Fits}
-use Rattle.instructions.specs.Builds.{Spends, Ready, Builds}
+use Rattle.instructions.specs.Builds.{Spends, Buildable, Ready, Builds}
 use Rattle.instructions.proofs.Spending.{spends-none, spends-then, fits-first, fits-second}
 
 -- ---- a part that is another
@@ -28,8 +27,8 @@ module _ {A : Type 0} {p q : Part A} (e : p ≡ q) where
 
 -- ---- a value that the part holds
 module _ {A : Type 0} {part : Part A} {x : A} (e : x ≡ part .what) where
-  pub value-ready : {inRange : A → Type 0} {cost : A → Cost} {s ws : List ℕ} {b : Building} → Ready part inRange cost s ws b → Sound ws b × (inRange x × Fits (cost x) b)
-  value-ready {inRange} {cost} {b = b} w = (w .sound, (subst inRange (sym e) (w .range), subst (λ (z : A). Fits (cost z) b) (sym e) (w .fits)))
+  pub value-ready : {inRange : A → Type 0} {cost : A → Cost} {s ws : List ℕ} {b : Building} → Ready part inRange cost s ws b → Buildable x inRange cost ws b
+  value-ready {inRange} {cost} {b = b} w = record { sound = w .sound; range = subst inRange (sym e) (w .range); fits = subst (λ (z : A). Fits (cost z) b) (sym e) (w .fits) }
 
   pub value-builds : {step : A → Built → Built} {cost : A → Cost} {ws ws′ : List ℕ} {b r : Building} → Spends (step x) (cost x) ws b ws′ r → Builds part step cost ws b ws′ (record { building = r; next = part .next })
   value-builds {step} {cost} {ws} {ws′} {b} {r} h = record { spends = subst (λ (z : A). Spends (step z) (cost z) ws b ws′ r) e h; next = refl }

@@ -27,13 +27,13 @@ use Rattle.building.specs.declared.Building.{Building}
 use Rattle.building.specs.Built.{Sound}
 use Rattle.instructions.specs.Cost.{relationsOnly, kindCost, effectCost, terminalEffectCost, Fits}
 use Rattle.instructions.specs.Ranges.{InRange}
-use Rattle.instructions.specs.Builds.{effectStep, Spends}
+use Rattle.instructions.specs.Builds.{effectStep, Spends, Buildable}
 use Rattle.instructions.proofs.Spending.{spends-none}
 
 -- ---- an effect of an instruction
 -- what is asked of the building
 abbrev Asked : AliasingEffect → List ℕ → Building → Type 0
-Asked e ws b = Sound ws b × (InRange (effectIs e) × Fits (effectCost (effectIs e)) b)
+Asked e ws b = Buildable (effectIs e) InRange effectCost ws b
 
 module _ (e : AliasingEffect) {k : Kind} (q : e .kind ≡ k) {ws : List ℕ} {b : Building} where
   -- its step
@@ -41,19 +41,19 @@ module _ (e : AliasingEffect) {k : Kind} (q : e .kind ≡ k) {ws : List ℕ} {b 
   effect-of o {ws′} {r} h = subst (λ (k : Kind). Spends (instructionEffect (kindSays k) o (effectIs e)) (kindCost (kindSays k)) ws b ws′ r) (sym q) h
 
   room : Asked e ws b → Fits (kindCost (kindSays k)) b
-  room p = subst (λ (k : Kind). Fits (kindCost (kindSays k)) b) q (p .1 .1)
+  room p = subst (λ (k : Kind). Fits (kindCost (kindSays k)) b) q (p .fits)
 
   pub relation-can : isRelation (rowOf (kindSays k) .role) ≡ true → Asked e ws b → Sound ws b × ((b .relations < mostRelations) × (PlaceBelow mostIdentifiers (placeIs (e .first)) × PlaceBelow mostIdentifiers (placeIs (e .second))))
   unfolding kindCost
-  relation-can t p = (p .0, (omega (arith, room p .relations, ap oneIf t), (p .1 .0 .first, p .1 .0 .second)))
+  relation-can t p = (p .sound, (omega (arith, room p .relations, ap oneIf t), (p .range .first, p .range .second)))
 
   pub mutation-can : isMutation (rowOf (kindSays k) .role) ≡ true → Asked e ws b → Sound ws b × ((b .mutations < mostMutations) × PlaceBelow mostIdentifiers (placeIs (e .first)))
   unfolding kindCost
-  mutation-can t p = (p .0, (omega (arith, room p .mutations, ap oneIf t), p .1 .0 .first))
+  mutation-can t p = (p .sound, (omega (arith, room p .mutations, ap oneIf t), p .range .first))
 
   pub render-can : isRender (rowOf (kindSays k) .role) ≡ true → Asked e ws b → Sound ws b × ((b .renders < mostRenders) × PlaceBelow mostIdentifiers (placeIs (e .first)))
   unfolding kindCost
-  render-can t p = (p .0, (omega (arith, room p .renders, ap oneIf t), p .1 .0 .first))
+  render-can t p = (p .sound, (omega (arith, room p .renders, ap oneIf t), p .range .first))
 
 -- the extra word is a reason or none
 pub reason-below : (e : AliasingEffect) → e .kind ≡ KindMutate → InRange (effectIs e) → e .extra < 2

@@ -20,7 +20,13 @@ effectStep o e = instructionEffect (e .kind) o e
 abbrev pub Spends : (Built → Built) → Cost → List ℕ → Building → List ℕ → Building → Type 0
 Spends f k ws b ws′ r = Steps f (k .relations) (k .mutations) (k .renders) (k .blocks) ws b ws′ r
 
--- the part of the sheet s can be built: the sheet has its words, they are in their ranges, and there is room for it
+-- x can be built: its words are in their ranges, and there is room for it
+pub record Buildable {A : Type 0} (x : A) (inRange : A → Type 0) (cost : A → Cost) (ws : List ℕ) (b : Building) : Type 0 where
+  pub sound : Sound ws b
+  pub range : inRange x
+  pub fits : Fits (cost x) b
+
+-- so can a part of the sheet s, whose words the sheet has
 pub record Ready {A : Type 0} (part : Part A) (inRange : A → Type 0) (cost : A → Cost) (s ws : List ℕ) (b : Building) : Type 0 where
   pub sound : Sound ws b
   pub inside : part .next ≤ length s

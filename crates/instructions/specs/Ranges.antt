@@ -1,5 +1,5 @@
 -- The parts of an accepted sheet have their words in their ranges: document 01, refusal 5.
-use Prim.Native.Nat.{ℕ, _≤_, _<_}
+use Prim.Native.Nat.{_≤_, _<_}
 use mathlib.Core.Bool.{true, false}
 use mathlib.Core.Path.{_≡_}
 use Rattle.model.specs.Limits.{mostIdentifiers, mostFunctions}

@@ -14,10 +14,9 @@ ghost use Rattle.model.specs.Lists.{each, Every};
 ghost use Rattle.model.specs.Building.{instruction as instructionStep};
 ghost use Rattle.hir.specs.Says.{effectIs};
 ghost use Rattle.hir.specs.Words.{effectWidth, wide, effectAt, several, instructionFrom, instructionsFrom};
-ghost use Rattle.building.specs.Built.{Sound};
-ghost use Rattle.instructions.specs.Cost.{costs, effectCost, instructionCost, Fits};
+ghost use Rattle.instructions.specs.Cost.{costs, effectCost, instructionCost};
 ghost use Rattle.instructions.specs.Ranges.{InRange, InstructionInRange};
-ghost use Rattle.instructions.specs.Builds.{effectStep, Spends, Ready, Builds};
+ghost use Rattle.instructions.specs.Builds.{effectStep, Spends, Buildable, Ready, Builds};
 
 pub mod terminals;
 
@@ -28,14 +27,8 @@ pub struct Built {
 }
 
 // An effect of an instruction with this order. MutateFrozen, MutateGlobal and Impure matter to the answer alone; Freeze, ImmutableCapture and Apply are no-ops.
-fn build_effect(
-    e: AliasingEffect,
-    order: EvaluationOrder,
-    ws: &mut [u32],
-    b: Building,
-) -> Building
-    requires { ⌜ Sound (now ws) b ⌝ }
-    requires { ⌜ InRange (effectIs e) × Fits (effectCost (effectIs e)) b ⌝ }
+fn build_effect(e: AliasingEffect, order: EvaluationOrder, ws: &mut [u32], b: Building) -> Building
+    requires { ⌜ Buildable (effectIs e) InRange effectCost (now ws) b ⌝ }
     ensures { λ r. ⌜ Spends (effectStep (order .0) (effectIs e)) (effectCost (effectIs e)) (now (ws .entry)) b (now (ws .exit)) r ⌝ }
 {
     let kind = e.kind;
@@ -46,7 +39,15 @@ fn build_effect(
         EffectKind::Mutate => b.push_mutation(ws, from, span, order, 0, 1, e.extra),
         EffectKind::MutateConditionally => b.push_mutation(ws, from, span, order, 0, 0, 0),
         EffectKind::MutateTransitive => b.push_mutation(ws, from, span, order, 1, 1, 0),
-        EffectKind::MutateTransitiveConditionally => b.push_mutation(ws, from, span, order, 1, 0, 0),
+        EffectKind::MutateTransitiveConditionally => b.push_mutation(
+            ws,
+            from,
+            span,
+            order,
+            1,
+            0,
+            0,
+        ),
         EffectKind::Capture => b.capture(ws, from, into),
         EffectKind::Alias => b.assign(ws, from, into),
         EffectKind::MaybeAlias => b.maybe_alias(ws, from, into),

@@ -15,14 +15,12 @@ ghost use Rattle.model.specs.Ranges.{PlaceBelow};
 ghost use Rattle.model.specs.Building.{terminalEffect, terminal as terminalStep};
 ghost use Rattle.hir.specs.Says.{placeIs, effectIs};
 ghost use Rattle.hir.specs.Words.{effectWidth, wide, effectAt, several, terminalFrom};
-ghost use Rattle.building.specs.Built.{Sound};
-ghost use Rattle.instructions.specs.Cost.{costs, terminalEffectCost, terminalCost, Fits};
+ghost use Rattle.instructions.specs.Cost.{costs, terminalEffectCost, terminalCost};
 ghost use Rattle.instructions.specs.Ranges.{InRange, TerminalInRange};
-ghost use Rattle.instructions.specs.Builds.{Spends, Ready, Builds};
+ghost use Rattle.instructions.specs.Builds.{Spends, Buildable, Ready, Builds};
 
 fn build_terminal_effect(e: AliasingEffect, ws: &mut [u32], b: Building) -> Building
-    requires { ⌜ Sound (now ws) b ⌝ }
-    requires { ⌜ InRange (effectIs e) × Fits (terminalEffectCost (effectIs e)) b ⌝ }
+    requires { ⌜ Buildable (effectIs e) InRange terminalEffectCost (now ws) b ⌝ }
     ensures { λ r. ⌜ Spends (terminalEffect (effectIs e)) (terminalEffectCost (effectIs e)) (now (ws .entry)) b (now (ws .exit)) r ⌝ }
 {
     let kind = e.kind;
@@ -50,13 +48,7 @@ fn build_terminal_effects(list: List, s: &[u32], ws: &mut [u32], b: Building) ->
 }
 
 // A terminal. The value of a Return is assigned to `returns`; its order does not matter here.
-pub fn build_terminal(
-    at: usize,
-    s: &[u32],
-    ws: &mut [u32],
-    b: Building,
-    returns: Place,
-) -> Built
+pub fn build_terminal(at: usize, s: &[u32], ws: &mut [u32], b: Building, returns: Place) -> Built
     requires { ⌜ PlaceBelow mostIdentifiers (placeIs returns) ⌝ }
     requires { ⌜ Ready (terminalFrom (now s) at) TerminalInRange terminalCost (now s) (now ws) b ⌝ }
     ensures { λ r. ⌜ Builds (terminalFrom (now (s .entry)) at) (terminalStep (placeIs returns)) terminalCost (now (ws .entry)) b (now (ws .exit)) r ⌝ }

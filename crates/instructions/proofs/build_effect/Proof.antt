@@ -16,7 +16,7 @@ unfolding rowOf
 push-mutation-requires c κs =
     let b6 = c .before .before .before .before .before .before in
     let p = mutation-can (b6 .args .e) (c .before .enum-told .given .1) refl (b6 .pre) in
-    (p .0, (p .1 .0, (p .1 .1, (omega arith, (omega arith, reason-below (b6 .args .e) (c .before .enum-told .given .1) (b6 .pre .1 .0))))))
+    (p .0, (p .1 .0, (p .1 .1, (omega arith, (omega arith, reason-below (b6 .args .e) (c .before .enum-told .given .1) (b6 .pre .range))))))
 
 enum-told-2 : tie.Need-enum-told-2
 enum-told-2 c = search needs
@@ -90,7 +90,7 @@ enum-told-9 c = search needs
 create-requires : tie.Need-create-requires
 create-requires c κs =
     let b6 = c .before .before .before .before .before .before in
-    (b6 .pre .0, (b6 .pre .1 .0 .first, tt))
+    (b6 .pre .sound, (b6 .pre .range .first, tt))
 
 enum-told-10 : tie.Need-enum-told-10
 enum-told-10 c = search needs
@@ -107,7 +107,7 @@ enum-told-11 c = search needs
 create-requires-2 : tie.Need-create-requires-2
 create-requires-2 c κs =
     let b6 = c .before .before .before .before .before .before in
-    (b6 .pre .0, (b6 .pre .1 .0 .first, function-below (b6 .args .e) (c .before .enum-told11 .given .1) (b6 .pre .1 .0)))
+    (b6 .pre .sound, (b6 .pre .range .first, function-below (b6 .args .e) (c .before .enum-told11 .given .1) (b6 .pre .range)))
 
 enum-told-12 : tie.Need-enum-told-12
 enum-told-12 c = search needs
@@ -241,7 +241,7 @@ returns-12 c =
 returns-13 : tie.Need-returns-13
 returns-13 c =
     let b4 = c .before .before .before .before in
-    idle (b4 .args .e .kind) (one-of idleKinds _ (c .match .keys13)) (b4 .args .order .0) _ (b4 .pre .0)
+    idle (b4 .args .e .kind) (one-of idleKinds _ (c .match .keys13)) (b4 .args .order .0) _ (b4 .pre .sound)
 
 pub build-effect-spec : {M : Type 1} → statement M
 build-effect-spec =

@@ -26,7 +26,7 @@ operand-requires : tie.Need-operand-requires Inv-loop μ-loop
 operand-requires c κs =
     let b2 = c .before .before in
     let w = value-ready (c .before .operand-at .ensures) (loop-ready (b2 .before .loop .inv) (b2 .loop-test .taken) (wide-rises operandWidth operandAt)) in
-    (w .0, (omega (arith, w .1 .1 .relations), (w .1 .0, b2 .before .before .before .before .pre .0)))
+    (w .sound, (omega (arith, w .fits .relations), (w .range, b2 .before .before .before .before .pre .0)))
 
 add-next : tie.Need-add-next Inv-loop μ-loop
 add-next c =

@@ -11,7 +11,7 @@ assign-requires : tie.Need-assign-requires
 assign-requires c κs =
     let b4 = c .before .before .before .before in
     let p = b4 .pre in
-    (p .0, (alias-fits (b4 .args .e) (is-alias (c .before .enum-told .given .1)) (p .1 .1), (p .1 .0 .first, p .1 .0 .second)))
+    (p .sound, (alias-fits (b4 .args .e) (is-alias (c .before .enum-told .given .1)) (p .fits), (p .range .first, p .range .second)))
 
 same-length : tie.Need-same-length
 same-length c = search needs
@@ -24,7 +24,7 @@ returns c =
 returns-2 : tie.Need-returns-2
 returns-2 c =
     let b2 = c .before .before in
-    terminal-effect-of (b2 .args .e) (not-alias (b2 .args .e .kind) (one-of otherKinds _ (c .match .keys2))) (spends-none (b2 .pre .0))
+    terminal-effect-of (b2 .args .e) (not-alias (b2 .args .e .kind) (one-of otherKinds _ (c .match .keys2))) (spends-none (b2 .pre .sound))
 
 pub build-terminal-effect-spec : {M : Type 1} → statement M
 build-terminal-effect-spec =
