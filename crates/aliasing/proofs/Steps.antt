@@ -92,18 +92,18 @@ graph-there ws hand x h e = ap (λ (g : Graph). nodeAt g x) (graph-is ws hand) �
 shows-to : {base : ℕ} {ws : List ℕ} {top hand : ℕ} (w v : Walk) → Shows base ws top hand v → w ≡ v → Shows base ws top hand w
 shows-to {base} {ws} {top} {hand} w v s p = subst (Shows base ws top hand) (sym p) s
 
--- ---- what an entry leads to, by the two bits that the code takes of it and the level
+-- ---- what an entry leads to
 -- its fields are written in ws₂, and the next function is to be handed over at h
-pub record Accepting (m : Mutation) (base : ℕ) (ws : List ℕ) (top hand transitive kind h : ℕ) (ws₂ : List ℕ) : Type 0 where
+pub record Accepting (m : Mutation) (base : ℕ) (ws : List ℕ) (top hand h : ℕ) (ws₂ : List ℕ) : Type 0 where
   pub room : Room ws₂ (top - 1) (deg (rowsOf ws₂) (placeAt ws top))
-  pub stepped : (ws₃ : List ℕ) (r : ℕ) → Pushed ws₂ (top - 1) (pushedW (rowsOf ws₂) (placeAt ws top) (directionAt ws top) (m .index) transitive kind) ws₃ r → Stepped m base ws top hand ws₃ r h
+  pub stepped : (ws₃ : List ℕ) (r : ℕ) → Pushed ws₂ (top - 1) (pushedW (rowsOf ws₂) (placeAt ws top) (directionAt ws top) (m .index) (transitiveAt ws top) (kindAt ws top)) ws₃ r → Stepped m base ws top hand ws₃ r h
 
 -- whether it is entered, and the words then
-pub record Entering (m : Mutation) (base : ℕ) (ws : List ℕ) (top hand transitive kind level : ℕ) (ws₁ : List ℕ) (enters : Bool) : Type 0 where
+pub record Entering (m : Mutation) (base : ℕ) (ws : List ℕ) (top hand : ℕ) (ws₁ : List ℕ) (enters : Bool) : Type 0 where
   pub passed : enters ≡ false → Stepped m base ws top hand ws₁ (top - 1) hand
   pub accepted : enters ≡ true
       → (wsH : List ℕ) (h : ℕ) → Pushed ws₁ hand (handW ws₁ (getD ws₁ (VALUE + placeAt ws top) 0) (placeAt ws top) (m .«should_record_errors»)) wsH h
-      → (ws₂ : List ℕ) → ws₂ ≡ acceptW wsH (placeAt ws top) transitive level m → Accepting m base ws top hand transitive kind h ws₂
+      → (ws₂ : List ℕ) → ws₂ ≡ acceptW wsH (placeAt ws top) (transitiveAt ws top) (kindAt ws top + 1) m → Accepting m base ws top hand h ws₂
 
 module _ (m : Mutation) (base : ℕ) (ws : List ℕ) (top hand : ℕ) (ready : Ready base ws top hand) (callable : Callable m) (more : QUEUE < top) where
   fit : top ≤ length ws
@@ -379,7 +379,7 @@ module _ (m : Mutation) (base : ℕ) (ws : List ℕ) (top hand : ℕ) (ready : R
             };
           }
 
-    entering : Entering m base ws top hand (transitiveAt ws top) (kindAt ws top) (kindAt ws top + 1) marked (not (eqb (getD ws (VALUE + placeAt ws top) 0) MISSING))
+    entering : Entering m base ws top hand marked (not (eqb (getD ws (VALUE + placeAt ws top) 0) MISSING))
     entering = record {
       passed = λ e. step-missing (value-same ∙ eqb-true (getD ws (VALUE + placeAt ws top) 0) 0 (not-false _ e));
       accepted = λ e wsH h ph ws₂ is₂.
@@ -390,13 +390,13 @@ module _ (m : Mutation) (base : ℕ) (ws : List ℕ) (top hand : ℕ) (ready : R
         value-same : getD marked (VALUE + placeAt ws top) 0 ≡ getD ws (VALUE + placeAt ws top) 0
         value-same = getD-set-other ws (SEEN + placeAt ws top) (VALUE + placeAt ws top) (base + kindAt ws top + 1) 0 (omega arith)
 
-  pub step-enters : {ws₁ : List ℕ} {r : Bool} → Enters ws (placeAt ws top) (base + kindAt ws top) ws₁ r → Entering m base ws top hand (transitiveAt ws top) (kindAt ws top) (kindAt ws top + 1) ws₁ r
+  pub step-enters : {ws₁ : List ℕ} {r : Bool} → Enters ws (placeAt ws top) (base + kindAt ws top) ws₁ r → Entering m base ws top hand ws₁ r
   step-enters {ws₁} {r} is = go (decLt (base + kindAt ws top) (getD ws (SEEN + placeAt ws top) 0))
     where
-      to : {ws′ : List ℕ} {r′ : Bool} → Enters ws (placeAt ws top) (base + kindAt ws top) ws′ r′ → Entering m base ws top hand (transitiveAt ws top) (kindAt ws top) (kindAt ws top + 1) ws′ r′
-          → Entering m base ws top hand (transitiveAt ws top) (kindAt ws top) (kindAt ws top + 1) ws₁ r
-      to {ws′} {r′} e p = subst (λ (A : Type 0). A) (λ j. Entering m base ws top hand (transitiveAt ws top) (kindAt ws top) (kindAt ws top + 1) ((e .0 ∙ sym (is .0)) j) ((e .1 ∙ sym (is .1)) j)) p
+      to : {ws′ : List ℕ} {r′ : Bool} → Enters ws (placeAt ws top) (base + kindAt ws top) ws′ r′ → Entering m base ws top hand ws′ r′
+          → Entering m base ws top hand ws₁ r
+      to {ws′} {r′} e p = subst (λ (A : Type 0). A) (λ j. Entering m base ws top hand ((e .0 ∙ sym (is .0)) j) ((e .1 ∙ sym (is .1)) j)) p
 
-      go : Dec (base + kindAt ws top < getD ws (SEEN + placeAt ws top) 0) → Entering m base ws top hand (transitiveAt ws top) (kindAt ws top) (kindAt ws top + 1) ws₁ r
+      go : Dec (base + kindAt ws top < getD ws (SEEN + placeAt ws top) 0) → Entering m base ws top hand ws₁ r
       go (yes k) = to (enters-seen ws (placeAt ws top) (base + kindAt ws top) k) (record { passed = λ e. step-seen k; accepted = λ e. absurd (true≢false (sym e)) })
       go (no k) = to (enters-marked ws (placeAt ws top) (base + kindAt ws top) (omega (arith, k))) (entering (omega (arith, k)))

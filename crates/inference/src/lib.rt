@@ -25,6 +25,9 @@ use workspace::IDENTIFIERS;
 use workspace::RECORD;
 use workspace::clear;
 
+// The words that a workspace has at least.
+const LEAST: usize = 16384;
+
 // What is said of a call: the number of a refusal, or the answer's length.
 pub enum Outcome {
     Refused(u32),
@@ -108,7 +111,7 @@ fn refuse(workspace: &mut [u32], answer: &mut [u32], k: u32) -> Outcome
 
 // An accepted sheet: its answer, or 9 where the buffer is shorter. Unless `copies`, its instructions have no effect of kind 14 to 17.
 fn answer_sheet(sheet: &[u32], workspace: &mut [u32], answer: &mut [u32], copies: bool) -> Outcome
-    requires { ⌜ 16384 ≤ length (now workspace) ⌝ }
+    requires { ⌜ LEAST ≤ length (now workspace) ⌝ }
     requires { ⌜ ((s : Sheet) × IsSheet (now sheet) s) ⌝ }
     requires { ⌜ NoneUnless copies (now sheet) ⌝ }
     ensures { λ r. ⌜ Answers (now (sheet .entry)) (now (workspace .entry)) (now (answer .entry)) r (now (workspace .exit)) (now (answer .exit)) ⌝ }
@@ -136,7 +139,7 @@ pub fn infer_mutation_aliasing_ranges(
 ) -> Outcome
     ensures { λ r. ⌜ Inferred (now (sheet .entry)) (now (workspace .entry)) (now (answer .entry)) r (now (workspace .exit)) (now (answer .exit)) ⌝ }
 {
-    if workspace.len() < 16384 {
+    if workspace.len() < LEAST {
         return refuse(workspace, answer, 1);
     }
     match reading::read(sheet) {

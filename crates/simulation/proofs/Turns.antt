@@ -32,7 +32,7 @@ use Rattle.aliasing.proofs.Steps.{state-same}
 use Rattle.writing.specs.Wrote.{Wrote}
 use Rattle.writing.proofs.Writing.{wrote-none, wrote-then, wrote-as}
 use Rattle.copies.proofs.Gathers.{gather-append}
-use Rattle.workspace.specs.Tracked.{trackedAt, trackedOf}
+use Rattle.workspace.specs.Tracked.{mostTracked, trackedAt, trackedOf}
 use Rattle.summary.specs.Sections.{Flows, simulatedOf}
 use Rattle.summary.proofs.Held.{holds-state}
 use Rattle.workspace.proofs.Places.{tracked-kept}
@@ -106,7 +106,7 @@ turned-start ws count index returns answer at indexed handing = record {
 }
 
 module _ {ws₀ : List ℕ} {count index returns : ℕ} {answer₀ : List ℕ} {at : ℕ} {ws answer : List ℕ} {to i next : ℕ} (p : Turned ws₀ count index returns answer₀ at ws answer to i next)
-    (least : count ≤ 129) (more : i < count) {into : Place} (is : into ≡ trackedAt ws i)
+    (least : count ≤ mostTracked) (more : i < count) {into : Place} (is : into ≡ trackedAt ws i)
     {m : CodeMutation} (said : (mutationSays m ≡ simulation next into) × ((modeSays m ≡ simulated) × Callable m)) {ws₁ : List ℕ} {c h : ℕ} (w : Mutated m ws HANDED ws₁ c h) where
   -- the count has room
   pub long : SIMULATED + i < length ws₁

@@ -1,11 +1,13 @@
 // The section of effects: those copied, the records of context and parameters, Create for returns, and what simulated walks find.
 ghost use mathlib.Core.Path.{_≡_};
 ghost use Prim.Native.Nat.{_+_, _≤_, _<_};
+ghost use Rattle.model.specs.Limits.{mostIdentifiers};
 ghost use Rattle.model.specs.Sheet.{Sheet};
 ghost use Rattle.model.specs.State.{simulated};
 ghost use Rattle.model.specs.Simulated.{simulation};
 ghost use Rattle.hir.specs.Says.{placeIs};
 ghost use Rattle.workspace.specs.Rows.{Indexed};
+ghost use Rattle.workspace.specs.Tracked.{mostTracked};
 ghost use Rattle.aliasing.specs.Says.{modeSays, mutationSays};
 ghost use Rattle.aliasing.specs.Walks.{Callable};
 ghost use Rattle.writing.specs.Wrote.{farthest};
@@ -33,7 +35,7 @@ use writing::put;
 
 // The simulated mutation of a place: transitive, Conditional, moving no end.
 fn simulated(index: u32, into: Place) -> Mutation
-    requires { ⌜ (into .identifier .0 < 512) × (index < 134217728) ⌝ }
+    requires { ⌜ (into .identifier .0 < mostIdentifiers) × (index < 134217728) ⌝ }
     ensures { λ r. ⌜ (mutationSays r ≡ simulation index (placeIs into)) × ((modeSays r ≡ simulated) × Callable r) ⌝ }
 {
     let start = into.identifier;
@@ -60,7 +62,7 @@ fn simulate(
 ) -> usize
     requires { ⌜ Indexed (now ws) ⌝ }
     requires { ⌜ ((s : Sheet) × Marked s (now ws) count index (returns .0)) ⌝ }
-    requires { ⌜ (count ≤ 129) × ((index ≤ 4096) × (at + 133128 ≤ farthest)) ⌝ }
+    requires { ⌜ (count ≤ mostTracked) × ((index ≤ 4096) × (at + 133128 ≤ farthest)) ⌝ }
     ensures { λ r. ⌜ Simulates (now (ws .entry)) count index (returns .0) (now (answer .entry)) at (now (ws .exit)) (now (answer .exit)) r ⌝ }
 {
     clear_marks(ws);

@@ -1,5 +1,4 @@
-use Prim.Native.Nat.{_+_}
-use Rattle.aliasing.proofs.Steps.{kindAt, transitiveAt, Accepting, Entering, step-enters}
+use Rattle.aliasing.proofs.Steps.{Accepting, Entering, step-enters}
 use borrow.Author.Tests.{not-true, not-false}
 use native.Mathlib.Omega.{arith}
 use Rattle.aliasing.proofs.step.Statement.{statement}
@@ -26,7 +25,7 @@ enter-requires c κs = (omega arith, (omega arith, omega (arith, c .before .befo
 -- whether the entry is accepted
 enters : (c : tie.After-enter)
     → (let b = c .before .before .before .before in
-    Entering (b .args .m) (b .args .base) (b .args .ws .now) (b .args .top) (b .args .hand) (transitiveAt (b .args .ws .now) (b .args .top)) (kindAt (b .args .ws .now) (b .args .top)) (kindAt (b .args .ws .now) (b .args .top) + 1) (c .enter .last .0) (c .enter .result))
+    Entering (b .args .m) (b .args .base) (b .args .ws .now) (b .args .top) (b .args .hand) (c .enter .last .0) (c .enter .result))
 enters c =
     let b = c .before .before .before .before in
     step-enters (b .args .m) (b .args .base) (b .args .ws .now) (b .args .top) (b .args .hand) (b .pre .0) (b .pre .1 .0) (b .pre .1 .1) (c .enter .ensures)
@@ -57,7 +56,7 @@ accept-requires c κs =
 accepts : (c : tie.After-accept)
     → (let b4 = c .before .before .before .before in
     let b = b4 .before .before .before .before .before .before .before .before .before in
-    Accepting (b .args .m) (b .args .base) (b .args .ws .now) (b .args .top) (b .args .hand) (transitiveAt (b .args .ws .now) (b .args .top)) (kindAt (b .args .ws .now) (b .args .top)) (b4 .record-errors .result) (c .accept .last .0))
+    Accepting (b .args .m) (b .args .base) (b .args .ws .now) (b .args .top) (b .args .hand) (b4 .record-errors .result) (c .accept .last .0))
 accepts c =
     let b4 = c .before .before .before .before in
     let b6 = b4 .before .before in
