@@ -5,7 +5,7 @@ use mathlib.Core.Path.{_≡_, refl, sym, ap, subst, _∙_}
 use mathlib.Core.Bool.{Bool, true, false}
 use mathlib.Core.List.{List, [], _∷_, _++_}
 use lib.ListN.{length, getD, length-append, List·getD-eq-default}
-use lib.Seq.{slice, ext-getD}
+use lib.Seq.{slice, ext-getD, length-slice}
 use lib.Dec.{leb}
 use borrow.Author.Tests.{leb-true, leb-false}
 use Rattle.model.specs.Limits.{mostInnerDiagnostics}
@@ -59,7 +59,7 @@ module _ (sheet : List ℕ) (p : Position) where
   function-list h = ap (λ (x : Part (List Diagnostic)). part (record { diagnostics = x .what }) (x .next)) (list-is diagnosticFrom sheet p h)
 
 module _ (sheet ws : List ℕ) (m : ℕ) where
-  functions-length : length (functionsOf sheet ws m) ≡ m
+  pub functions-length : length (functionsOf sheet ws m) ≡ m
   unfolding functionsOf
   functions-length = tab-length m (λ (k : ℕ). functionAt sheet ws k .what)
 
@@ -72,6 +72,9 @@ pub functions-are : {sheet ws : List ℕ} {fs : List InnerFunction} {m : ℕ} �
 functions-are {sheet} {ws} {fs} {m} g e =
     ext-getD noFunction (functionsOf sheet ws m) fs (functions-length sheet ws m ∙ e)
     (λ k h. let z : k < m = omega (arith, h, functions-length sheet ws m) in function-at sheet ws m k z ∙ g .is k (omega (arith, z, e)))
+
+pub functions-again : {sheet ws : List ℕ} {fs : List InnerFunction} {m : ℕ} → Functions sheet ws fs → m ≡ length fs → Functions sheet ws (functionsOf sheet ws m)
+functions-again {sheet} {ws} g e = subst (Functions sheet ws) (sym (functions-are g e)) g
 
 -- they stay if their words stay
 pub functions-kept : {sheet ws ws′ : List ℕ} {fs : List InnerFunction} → ((k : ℕ) → k < length fs → getD ws′ (FUNCTIONS + k) 0 ≡ getD ws (FUNCTIONS + k) 0) → Functions sheet ws fs → Functions sheet ws′ fs
@@ -90,7 +93,7 @@ errors-few {fs = fs} g k = go (leb (length fs) k) refl
     go false e = g .few k (leb-false (length fs) k e)
 
 -- nor have several
-pub handed-few : {sheet ws : List ℕ} {fs : List InnerFunction} → Functions sheet ws fs → (l : List ℕ) → length (gather diagnosticWords (gather (functionErrors fs) l)) ≤ mostInnerDiagnostics * length l
+handed-few : {sheet ws : List ℕ} {fs : List InnerFunction} → Functions sheet ws fs → (l : List ℕ) → length (gather diagnosticWords (gather (functionErrors fs) l)) ≤ mostInnerDiagnostics * length l
 handed-few g [] = omega arith
 handed-few {fs = fs} g (k ∷ l) =
     let one : List Diagnostic = functionErrors fs k in
@@ -144,3 +147,8 @@ module _ {fs : List InnerFunction} {ws : List ℕ} {hand : ℕ} {a₀ : List ℕ
 
   pub handing-end : hand ≤ i → Wrote (gather diagnosticWords (gather (functionErrors fs) (slice HANDED hand ws))) a₀ at₀ a at
   handing-end h = leaves-none (v .leaves) (ap (λ (l : List ℕ). gather diagnosticWords (gather (functionErrors fs) l)) (slice-none i hand ws h))
+
+-- so many words at most
+pub handed-room : {sheet ws : List ℕ} {fs : List InnerFunction} → Functions sheet ws fs → (hand : ℕ) → hand ≤ length ws → {a : List ℕ} {at : ℕ} {a′ : List ℕ} {at′ : ℕ}
+    → Wrote (gather diagnosticWords (gather (functionErrors fs) (slice HANDED hand ws))) a at a′ at′ → at′ ≤ at + mostInnerDiagnostics * (hand - HANDED)
+handed-room {ws = ws} g hand h w = omega (arith, w .next, handed-few g (slice HANDED hand ws), length-slice HANDED hand ws h)

@@ -1,16 +1,15 @@
 -- The section of diagnostics from its parts.
-use Prim.Native.Nat.{ℕ, _+_, _-_, _≤_}
+use Prim.Native.Nat.{ℕ, _+_, _-_, _*_, _≤_}
 use native.Mathlib.Omega.{arith}
 use mathlib.Core.Path.{_≡_, refl, sym, ap, subst, _∙_}
 use mathlib.Core.Bool.{Bool, true, false, _||_, _&&_}
 use mathlib.Core.List.{List, [], _∷_, _++_, map, cons≢nil}
 use lib.ListN.{length, set}
 use lib.Seq.{slice}
+use Rattle.model.specs.Limits.{mostRenders}
 use Rattle.model.specs.Lists.{keep, consIf, gather, listIf}
 use Rattle.model.specs.Sheet.{Effect, Diagnostic, InnerFunction, Sheet}
 use Rattle.model.specs.Effects.{rowOf, isRender, isDiagnosis, diagnosticOf}
-use Rattle.model.specs.Reading.{Position, numbered}
-use Rattle.model.specs.Sections.{block}
 use Rattle.model.specs.Totals.{instructionEffects}
 use Rattle.model.specs.Mutation.{RenderOf}
 use Rattle.model.specs.State.{State}
@@ -21,8 +20,9 @@ use Rattle.model.specs.Simulated.{simulate}
 use Rattle.model.specs.Answer.{functionErrors, diagnosticWords, section, diagnosed}
 use Rattle.model.proofs.Quiet.{quiet}
 use Rattle.model.proofs.Rendering.{rendered-handed}
+use Rattle.hir.specs.Words.{several, blockFrom}
 use Rattle.hir.proofs.WordLaws.{and-left}
-use Rattle.workspace.specs.Layout.{HANDED}
+use Rattle.workspace.specs.Layout.{LEAST, HANDED, MUTATIONS}
 use Rattle.workspace.specs.Pending.{rendersOf}
 use Rattle.aliasing.specs.State.{stateOf}
 use Rattle.renders.specs.Renders.{Unmoved}
@@ -30,13 +30,15 @@ use Rattle.writing.specs.Wrote.{Wrote}
 use Rattle.writing.proofs.Writing.{wrote-then, wrote-as, wrote-none}
 use Rattle.copies.specs.Copies.{Copies}
 use Rattle.copies.specs.Words.{blockWords}
-use Rattle.copies.specs.Functions.{AllAppended}
+use Rattle.copies.specs.Functions.{functionsOf, Functions}
 use Rattle.copies.specs.declared.effect_lists.Section.the-variants.{Diagnostics}
+use Rattle.copies.proofs.Errors.{functions-are, handed-room}
 use Rattle.copies.proofs.Gathers.{gather-append}
 use Rattle.copies.proofs.Sections.{recorded-words, recorded-none, section-patched, diagnostics-count}
 use Rattle.function.specs.declared.HirFunction.{HirFunction}
 use Rattle.function.specs.Function.{Describes, Stands}
-use Rattle.diagnostics.specs.Diagnosed.{RendersPut, RecordedPut, DiagnosticsPut}
+use Rattle.function.proofs.Described.{blocks-stand}
+use Rattle.diagnostics.specs.Diagnosed.{mostHanded, mostDiagnosed, RendersPut, RecordedPut, DiagnosticsPut}
 use Rattle.diagnostics.proofs.Rendering.{unmoved-none, handed-words, rendered-words}
 
 -- ---- those recorded while building
@@ -62,11 +64,11 @@ copied-recorded s e =
     none false = refl
 
 module _ (sheet : List ℕ) (f : HirFunction) (a : List ℕ) (at : ℕ) where
-  pub recorded-put : f .errors && f .copies ≡ true → {a′ : List ℕ} {at′ : ℕ} {next : Position}
-      → Copies (numbered (f .count) [] (block (f .n) (f .m)) sheet (f .blocks .at)) (gather (blockWords Diagnostics)) 2147483648 a at a′ at′ next → RecordedPut sheet f a at a′ at′
-  recorded-put e p = record {
-    wrote = λ s d. wrote-as (p .wrote (s .blocks) (d .blocks .0) (d .blocks .1)) (recorded-words s (sym (d .errors) ∙ and-left (f .errors) (f .copies) e));
-    few = p .few;
+  pub recorded-put : f .errors && f .copies ≡ true → several (f .count) blockFrom sheet (f .blocks .at) .next ≤ length sheet → {a′ : List ℕ} {at′ next : ℕ}
+      → Copies (several (f .count) blockFrom) (gather (blockWords Diagnostics)) sheet (f .blocks .at) a at a′ at′ next → RecordedPut sheet f a at a′ at′
+  recorded-put e h p = record {
+    wrote = λ s d. wrote-as (p .wrote) (ap (gather (blockWords Diagnostics)) (blocks-stand d) ∙ recorded-words s (sym (d .errors) ∙ and-left (f .errors) (f .copies) e));
+    few = omega (arith, p .few, p .after, h);
   }
 
   pub recorded-not : f .errors && f .copies ≡ false → RecordedPut sheet f a at a at
@@ -112,24 +114,29 @@ handed-quiet s ws hand e t =
 pub record HandedPut (sheet ws : List ℕ) (f : HirFunction) (renders hand : ℕ) (a : List ℕ) (at : ℕ) (ws′ a′ : List ℕ) (at′ : ℕ) : Type 0 where
   pub wrote : (s : Sheet) → Describes s sheet f → Stands s sheet ws → stateOf ws hand ≡ afterReal s → rendersOf ws renders ≡ build s .renders
       → Wrote (gather diagnosticWords (gather (functionErrors (s .functions)) (simulate s .state .handed))) a at a′ at′
-  pub least : (s : Sheet) → Describes s sheet f → Stands s sheet ws → at ≤ at′
-  pub few : at′ ≤ at + 8421376
+  pub least : at ≤ at′
+  pub few : at′ ≤ at + mostHanded * (1 + mostRenders)
   pub unmoved : Unmoved ws ws′
   pub same : length a′ ≡ length a
 
 -- after the functions that mutations handed over
-module _ (sheet ws : List ℕ) (f : HirFunction) (renders hand : ℕ) {a : List ℕ} {at : ℕ} {a₁ : List ℕ} {at₁ : ℕ} (p : AllAppended sheet ws (f .m) hand a at a₁ at₁) (same : length a₁ ≡ length a) where
-  pub handed-put : f .errors ≡ true → renders ≤ 256 → {ws′ a₂ : List ℕ} {at₂ : ℕ} → RendersPut sheet ws (f .m) renders a₁ at₁ ws′ a₂ at₂ → length a₂ ≡ length a₁
+module _ (sheet ws : List ℕ) (f : HirFunction) (renders : ℕ) {hand : ℕ} (g : Functions sheet ws (functionsOf sheet ws (f .m))) (low : hand ≤ MUTATIONS) (size : LEAST ≤ length ws) {a : List ℕ} {at : ℕ} {a₁ : List ℕ} {at₁ : ℕ}
+    (p : Wrote (gather diagnosticWords (gather (functionErrors (functionsOf sheet ws (f .m))) (slice HANDED hand ws))) a at a₁ at₁) (same : length a₁ ≡ length a) where
+  room : at₁ ≤ at + mostHanded
+  room = omega (arith, handed-room g hand (omega (arith, low, size)) p, low)
+
+  pub handed-put : f .errors ≡ true → renders ≤ mostRenders → {ws′ a₂ : List ℕ} {at₂ : ℕ} → RendersPut sheet ws (f .m) renders a₁ at₁ ws′ a₂ at₂ → length a₂ ≡ length a₁
       → HandedPut sheet ws f renders hand a at ws′ a₂ at₂
   handed-put e h q same′ = record {
     wrote = λ s d t u r.
-        let fs : List InnerFunction = s .functions in
+        let fs : List InnerFunction = functionsOf sheet ws (f .m) in
         let rs : List ℕ = rendered (rendersOf ws renders) (stateOf ws HANDED) .handed in
-        wrote-as (wrote-then (p .wrote fs (sym (d .m)) (t .functions)) (q .wrote fs (sym (d .m)) (t .functions)))
+        wrote-as (wrote-then p (q .wrote))
         (sym (gather-append diagnosticWords (gather (functionErrors fs) (slice HANDED hand ws)) (gather (functionErrors fs) rs))
-        ∙ ap (gather diagnosticWords) (sym (gather-append (functionErrors fs) (slice HANDED hand ws) rs) ∙ ap (gather (functionErrors fs)) (sym (handed-errors s ws renders hand (sym (d .errors) ∙ e) u r))));
-    least = λ s d t. omega (arith, p .wrote (s .functions) (sym (d .m)) (t .functions) .next, q .wrote (s .functions) (sym (d .m)) (t .functions) .next);
-    few = omega (arith, p .few, q .few, h);
+        ∙ ap (gather diagnosticWords) (sym (gather-append (functionErrors fs) (slice HANDED hand ws) rs) ∙ ap (gather (functionErrors fs)) (sym (handed-errors s ws renders hand (sym (d .errors) ∙ e) u r)))
+        ∙ ap (λ (l : List InnerFunction). gather diagnosticWords (gather (functionErrors l) (simulate s .state .handed))) (functions-are (t .functions) (d .m)));
+    least = omega (arith, p .next, q .wrote .next);
+    few = omega (arith, room, q .few, h);
     unmoved = q .unmoved;
     same = same′ ∙ same;
   }
@@ -137,10 +144,11 @@ module _ (sheet ws : List ℕ) (f : HirFunction) (renders hand : ℕ) {a : List 
   pub handed-not : f .errors ≡ false → HandedPut sheet ws f renders hand a at ws a₁ at₁
   handed-not e = record {
     wrote = λ s d t u r.
-        wrote-as (p .wrote (s .functions) (sym (d .m)) (t .functions))
-        (ap (λ (l : List ℕ). gather diagnosticWords (gather (functionErrors (s .functions)) l)) (sym (handed-quiet s ws hand (sym (d .errors) ∙ e) u)));
-    least = λ s d t. omega (arith, p .wrote (s .functions) (sym (d .m)) (t .functions) .next);
-    few = omega (arith, p .few);
+        wrote-as p
+        (ap (λ (l : List InnerFunction). gather diagnosticWords (gather (functionErrors l) (slice HANDED hand ws))) (functions-are (t .functions) (d .m))
+        ∙ ap (λ (l : List ℕ). gather diagnosticWords (gather (functionErrors (s .functions)) l)) (sym (handed-quiet s ws hand (sym (d .errors) ∙ e) u)));
+    least = omega (arith, p .next);
+    few = omega (arith, room);
     unmoved = unmoved-none ws;
     same = same;
   }
@@ -153,14 +161,14 @@ handed-as {sheet} {ws} {f} {renders} {hand} {a} {at} {ws′} {ws″} {a′} {a�
     (subst (λ (l : List ℕ). HandedPut sheet ws f renders hand a at ws″ l at′) (sym q) (subst (λ (l : List ℕ). HandedPut sheet ws f renders hand a at l a′ at′) (sym p) h))
 
 -- ---- the whole section
-module _ {sheet ws : List ℕ} {f : HirFunction} {renders hand : ℕ} {a : List ℕ} {at : ℕ} {a₁ : List ℕ} {at₁ : ℕ} {a₂ : List ℕ} {at₂ : ℕ} {ws′ a₃ : List ℕ} {at₃ : ℕ} (p : Wrote (0 ∷ []) a at a₁ at₁)
-    (q : RecordedPut sheet f a₁ at₁ a₂ at₂) (h : HandedPut sheet ws f renders hand a₂ at₂ ws′ a₃ at₃) where
+module _ {sheet ws : List ℕ} {f : HirFunction} {renders hand : ℕ} {a : List ℕ} {at : ℕ} {a₁ : List ℕ} {at₁ : ℕ} {a₂ : List ℕ} {at₂ : ℕ} {ws′ a₃ : List ℕ} {at₃ : ℕ} (some : (s : Sheet) × (Describes s sheet f × Stands s sheet ws))
+    (p : Wrote (0 ∷ []) a at a₁ at₁) (q : RecordedPut sheet f a₁ at₁ a₂ at₂) (h : HandedPut sheet ws f renders hand a₂ at₂ ws′ a₃ at₃) where
   -- the count is a difference of positions
-  pub count-least : (s : Sheet) → Describes s sheet f → Stands s sheet ws → at₁ ≤ at₃
-  count-least s d t = omega (arith, q .wrote s d .next, h .least s d t)
+  pub count-least : at₁ ≤ at₃
+  count-least = omega (arith, q .wrote (some .0) (some .1 .0) .next, h .least)
 
-  pub count-few : at₃ ≤ at₁ + 2155905024
-  count-few = omega (arith, q .few, h .few)
+  pub section-few : at₃ ≤ at + mostDiagnosed
+  section-few = omega (arith, p .next, q .few, some .1 .0 .short, h .few)
 
   pub diagnostics-put : {a₄ : List ℕ} → a₄ ≡ set a₃ at (at₃ - at₁) → DiagnosticsPut sheet ws f renders hand a at ws′ a₄ at₃
   unfolding diagnosed
@@ -172,6 +180,6 @@ module _ {sheet ws : List ℕ} {f : HirFunction} {renders hand : ℕ} {a : List 
         (ap (λ (z : List ℕ). 0 ∷ z) (sym (gather-append diagnosticWords (recorded s) (gather (functionErrors (s .functions)) (simulate s .state .handed))))) in
         let n : length l ≡ at₃ - at₁ = omega (arith, p .next, diagnostics-count l w) in
         subst (λ (b : List ℕ). Wrote (section diagnosticWords l) a at b at₃) (ap (set a₃ at) n ∙ sym e) (section-patched diagnosticWords l w);
-    few = omega (arith, p .next, q .few, h .few);
+    few = section-few;
     unmoved = h .unmoved;
   }

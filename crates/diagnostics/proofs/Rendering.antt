@@ -7,7 +7,6 @@ use lib.ListN.{length, getD, drop}
 use lib.Seq.{slice, slice-empty}
 use Rattle.model.specs.Lists.{gather}
 use Rattle.model.specs.Sheet.{InnerFunction}
-use Rattle.model.specs.Sections.{innerFunction}
 use Rattle.model.specs.Mutation.{RenderOf}
 use Rattle.model.specs.State.{State}
 use Rattle.model.specs.Renders.{renderWalk}
@@ -23,11 +22,13 @@ use Rattle.workspace.proofs.Parts.{drop-word}
 use Rattle.aliasing.specs.State.{nodesOf, recordsOf, endsOf, stateOf}
 use Rattle.aliasing.proofs.Walks.{aside-none, aside-then, indexed-after}
 use Rattle.renders.specs.Renders.{Unmoved, Rendered}
+use Rattle.writing.specs.Wrote.{Wrote}
 use Rattle.writing.proofs.Writing.{wrote-as}
-use Rattle.copies.specs.Functions.{Functions, AllAppended}
+use Rattle.copies.specs.Functions.{functionsOf, Functions}
+use Rattle.copies.proofs.Errors.{functions-are, functions-again, functions-kept, handed-room}
 use Rattle.copies.proofs.Gathers.{gather-gather}
 use Rattle.copies.proofs.Loops.{Leaves, leaves-all, table-turn, table-end}
-use Rattle.diagnostics.specs.Diagnosed.{RendersPut}
+use Rattle.diagnostics.specs.Diagnosed.{mostHanded, RendersPut}
 
 pub unmoved-none : (ws : List ℕ) → Unmoved ws ws
 unmoved-none ws = record { nodes = refl; aside = aside-none ws }
@@ -37,12 +38,8 @@ unmoved-then a b = record { nodes = b .nodes ∙ a .nodes; aside = aside-then (a
 
 -- ---- what stays
 -- the places of the inner functions lie behind what a render writes
-functions-kept : (sheet ws ws′ : List ℕ) (fs : List InnerFunction) → Unmoved ws ws′ → Functions sheet ws fs → Functions sheet ws′ fs
-functions-kept sheet ws ws′ fs u g = record {
-  each = λ k h.
-      let p : getD ws′ (FUNCTIONS + k) 0 ≡ getD ws (FUNCTIONS + k) 0 = drop-word MUTATIONS (FUNCTIONS + k) ws ws′ (omega arith) (u .aside .behind) in
-      (g .each k h .0, ap (λ (w : ℕ). innerFunction sheet w) p ∙ g .each k h .1);
-}
+functions-stay : {sheet ws ws′ : List ℕ} {fs : List InnerFunction} → Unmoved ws ws′ → Functions sheet ws fs → Functions sheet ws′ fs
+functions-stay {ws = ws} {ws′} u g = functions-kept (λ k h. drop-word MUTATIONS (FUNCTIONS + k) ws ws′ (omega arith) (u .aside .behind)) g
 
 -- the render that is read there is the one of the start
 word-kept : (ws ws′ : List ℕ) (i : ℕ) → Unmoved ws ws′ → getD ws′ (RENDERS + i) 0 ≡ getD ws (RENDERS + i) 0
@@ -86,55 +83,63 @@ abbrev pub renderWords : State → List InnerFunction → RenderOf → List ℕ
 renderWords t fs r = gather diagnosticWords (gather (functionErrors fs) (handsOver t r))
 
 -- from render i on
-pub record Rendering (sheet ws₀ : List ℕ) (m n : ℕ) (a₀ : List ℕ) (at₀ : ℕ) (ws a : List ℕ) (at i : ℕ) : Type 0 where
-  pub leaves : (fs : List InnerFunction) → length fs ≡ m → Functions sheet ws₀ fs
-      → Leaves (gather (renderWords (stateOf ws₀ HANDED) fs) (tab n (renderAt ws₀))) (gather (renderWords (stateOf ws₀ HANDED) fs) (drop i (tab n (renderAt ws₀)))) a₀ at₀ a at
-  pub few : at + 32768 * (n - i) ≤ at₀ + 32768 * n
+pub record Rendering (fs : List InnerFunction) (ws₀ : List ℕ) (n : ℕ) (a₀ : List ℕ) (at₀ : ℕ) (ws a : List ℕ) (at i : ℕ) : Type 0 where
+  pub leaves : Leaves (gather (renderWords (stateOf ws₀ HANDED) fs) (tab n (renderAt ws₀))) (gather (renderWords (stateOf ws₀ HANDED) fs) (drop i (tab n (renderAt ws₀)))) a₀ at₀ a at
+  pub few : at + mostHanded * (n - i) ≤ at₀ + mostHanded * n
   pub unmoved : Unmoved ws₀ ws
   pub indexed : Indexed ws
-  pub same : length a ≡ length a₀
 
-pub rendering-start : (sheet ws : List ℕ) (m n : ℕ) (a : List ℕ) (at : ℕ) → Indexed ws → Rendering sheet ws m n a at ws a at 0
-rendering-start sheet ws m n a at indexed = record {
-  leaves = λ fs q g. leaves-all (gather (renderWords (stateOf ws HANDED) fs) (tab n (renderAt ws))) a at;
+pub rendering-start : (fs : List InnerFunction) (ws : List ℕ) (n : ℕ) (a : List ℕ) (at : ℕ) → Indexed ws → Rendering fs ws n a at ws a at 0
+rendering-start fs ws n a at indexed = record {
+  leaves = leaves-all (gather (renderWords (stateOf ws HANDED) fs) (tab n (renderAt ws))) a at;
   few = omega arith;
   unmoved = unmoved-none ws;
   indexed = indexed;
-  same = refl;
 }
 
-module _ {sheet ws₀ : List ℕ} {m n : ℕ} {a₀ : List ℕ} {at₀ : ℕ} {ws a : List ℕ} {at i : ℕ} (v : Rendering sheet ws₀ m n a₀ at₀ ws a at i) where
-  -- what this render hands over, by the state and the words of the start
-  turn-words : (ws′ : List ℕ) {count hand : ℕ} → Rendered (getD ws (RENDERS + i) 0 / 512) (getD ws (RENDERS + i) 0 % 512) ws ws′ count hand
-      → slice HANDED hand ws′ ≡ handsOver (stateOf ws₀ HANDED) (renderAt ws₀ i)
-  unfolding renderAt
-  turn-words ws′ r =
-      render-words ws ws′ (getD ws (RENDERS + i) 0) r
-      ∙ ap (λ (s : State). handsOver s (renderOf (getD ws (RENDERS + i) 0))) (state-kept ws₀ ws (v .unmoved))
-      ∙ ap (λ (w : ℕ). handsOver (stateOf ws₀ HANDED) (renderOf w)) (word-kept ws₀ ws i (v .unmoved))
+module _ {fs : List InnerFunction} {ws₀ : List ℕ} {n : ℕ} {a₀ : List ℕ} {at₀ : ℕ} {ws a : List ℕ} {at i : ℕ} (v : Rendering fs ws₀ n a₀ at₀ ws a at i) where
+  module _ {ws′ : List ℕ} {count hand : ℕ} (r : Rendered (getD ws (RENDERS + i) 0 / 512) (getD ws (RENDERS + i) 0 % 512) ws ws′ count hand) where
+    -- what this render hands over, by the state and the words of the start
+    turn-words : slice HANDED hand ws′ ≡ handsOver (stateOf ws₀ HANDED) (renderAt ws₀ i)
+    unfolding renderAt
+    turn-words =
+        render-words ws ws′ (getD ws (RENDERS + i) 0) r
+        ∙ ap (λ (s : State). handsOver s (renderOf (getD ws (RENDERS + i) 0))) (state-kept ws₀ ws (v .unmoved))
+        ∙ ap (λ (w : ℕ). handsOver (stateOf ws₀ HANDED) (renderOf w)) (word-kept ws₀ ws i (v .unmoved))
 
-  pub rendering-turn : i < n → {ws′ : List ℕ} {count hand : ℕ} → Rendered (getD ws (RENDERS + i) 0 / 512) (getD ws (RENDERS + i) 0 % 512) ws ws′ count hand
-      → {a′ : List ℕ} {at′ : ℕ} → AllAppended sheet ws′ m hand a at a′ at′ → length a′ ≡ length a → Rendering sheet ws₀ m n a₀ at₀ ws′ a′ at′ (i + 1)
-  rendering-turn h {ws′} r p e =
-      let u : Unmoved ws₀ ws′ = unmoved-then (v .unmoved) (r .unmoved) in
-      record {
-        leaves = λ fs q g. table-turn (renderWords (stateOf ws₀ HANDED) fs) n (renderAt ws₀) i (v .leaves fs q g) h
-            (wrote-as (p .wrote fs q (functions-kept sheet ws₀ ws′ fs u g)) (ap (λ (l : List ℕ). gather diagnosticWords (gather (functionErrors fs) l)) (turn-words ws′ r)));
-        few = omega (arith, v .few, p .few, h);
-        unmoved = u;
-        indexed = indexed-after (v .indexed) (r .unmoved .aside .graph) (r .unmoved .aside .same);
-        same = e ∙ v .same;
-      }
+    turn-unmoved : Unmoved ws₀ ws′
+    turn-unmoved = unmoved-then (v .unmoved) (r .unmoved)
 
-  pub rendering-end : n ≤ i → RendersPut sheet ws₀ m n a₀ at₀ ws a at
+    module _ {sheet : List ℕ} (g : Functions sheet ws₀ fs) {m : ℕ} (q : m ≡ length fs) where
+      -- the functions stand where they stood
+      pub turn-functions : Functions sheet ws′ (functionsOf sheet ws′ m)
+      turn-functions = functions-again (functions-stay turn-unmoved g) q
+
+      pub rendering-turn : i < n → {a′ : List ℕ} {at′ : ℕ} → Wrote (gather diagnosticWords (gather (functionErrors (functionsOf sheet ws′ m)) (slice HANDED hand ws′))) a at a′ at′ → Rendering fs ws₀ n a₀ at₀ ws′ a′ at′ (i + 1)
+      rendering-turn h p =
+          let same : functionsOf sheet ws′ m ≡ fs = functions-are (functions-stay turn-unmoved g) q in
+          let indexed = indexed-after (v .indexed) (r .unmoved .aside .graph) (r .unmoved .aside .same) in
+          record {
+            leaves =
+                table-turn (renderWords (stateOf ws₀ HANDED) fs) n (renderAt ws₀) i (v .leaves) h
+                (wrote-as p
+                (ap (λ (l : List InnerFunction). gather diagnosticWords (gather (functionErrors l) (slice HANDED hand ws′))) same
+                ∙ ap (λ (l : List ℕ). gather diagnosticWords (gather (functionErrors fs) l)) turn-words));
+            few = omega (arith, v .few, handed-room turn-functions hand (omega (arith, r .room, indexed .size)) p, r .room, h);
+            unmoved = turn-unmoved;
+            indexed = indexed;
+          }
+
+  pub rendering-end : n ≤ i → {sheet : List ℕ} {m : ℕ} → functionsOf sheet ws₀ m ≡ fs → RendersPut sheet ws₀ m n a₀ at₀ ws a at
   unfolding rendersOf
-  rendering-end h = record {
-    wrote = λ fs q g.
+  rendering-end h {sheet} {m} q = record {
+    wrote =
         let t : State = stateOf ws₀ HANDED in
         let rs : List RenderOf = tab n (renderAt ws₀) in
-        wrote-as (table-end (renderWords t fs) n (renderAt ws₀) i (v .leaves fs q g) h)
+        wrote-as (table-end (renderWords t fs) n (renderAt ws₀) i (v .leaves) h)
         (sym (gather-gather diagnosticWords (λ (r : RenderOf). gather (functionErrors fs) (handsOver t r)) rs)
-        ∙ ap (gather diagnosticWords) (sym (gather-gather (functionErrors fs) (handsOver t) rs) ∙ ap (gather (functionErrors fs)) (sym (rendered-words rs ws₀))));
+        ∙ ap (gather diagnosticWords) (sym (gather-gather (functionErrors fs) (handsOver t) rs) ∙ ap (gather (functionErrors fs)) (sym (rendered-words rs ws₀)))
+        ∙ ap (λ (l : List InnerFunction). gather diagnosticWords (gather (functionErrors l) (rendered rs t .handed))) (sym q));
     few = omega (arith, v .few);
     unmoved = v .unmoved;
   }

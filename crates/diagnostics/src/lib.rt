@@ -1,11 +1,15 @@
 // The section of diagnostics: those recorded while building, then those handed over by mutations and by renders.
-ghost use Prim.Native.Nat.{_+_, _≤_};
+ghost use Prim.Native.Nat.{_+_, _*_, _≤_};
+ghost use lib.ListN.{length};
+ghost use Rattle.model.specs.Limits.{mostFunctions, mostRenders};
 ghost use Rattle.model.specs.Sheet.{Sheet};
+ghost use Rattle.hir.specs.Words.{several, blockFrom};
 ghost use Rattle.workspace.specs.Layout.{MUTATIONS};
 ghost use Rattle.workspace.specs.Rows.{Indexed};
 ghost use Rattle.writing.specs.Wrote.{farthest};
+ghost use Rattle.copies.specs.Functions.{functionsOf, Functions};
 ghost use Rattle.function.specs.Function.{Limited, Describes, Stands};
-ghost use Rattle.diagnostics.specs.Diagnosed.{RendersPut, RecordedPut, DiagnosticsPut};
+ghost use Rattle.diagnostics.specs.Diagnosed.{mostHanded, mostDiagnosed, RendersPut, RecordedPut, DiagnosticsPut};
 use copies::effect_lists::Section;
 use copies::effect_lists::copy_effects;
 use copies::functions::put_handed;
@@ -26,7 +30,9 @@ fn process_renders(
     at: usize,
 ) -> usize
     requires { ⌜ Indexed (now ws) ⌝ }
-    requires { ⌜ (count ≤ 64) × ((renders ≤ 256) × (at + 8388608 ≤ farthest)) ⌝ }
+    requires { ⌜ (count ≤ mostFunctions) × (renders ≤ mostRenders) ⌝ }
+    requires { ⌜ Functions (now sheet) (now ws) (functionsOf (now sheet) (now ws) count) ⌝ }
+    requires { ⌜ at + mostHanded * renders ≤ farthest ⌝ }
     ensures { λ r. ⌜ RendersPut (now (sheet .entry)) (now (ws .entry)) count renders (now (answer .entry)) at (now (ws .exit)) (now (answer .exit)) r ⌝ }
 {
     let mut to = at;
@@ -42,17 +48,16 @@ fn process_renders(
 
 // The diagnostics that are recorded: none unless errors are, and none where no effect is copied.
 fn put_recorded(sheet: &[u32], f: HirFunction, answer: &mut [u32], at: usize) -> usize
-    requires { ⌜ Limited f ⌝ }
-    requires { ⌜ at + 2147483648 ≤ farthest ⌝ }
+    requires { ⌜ several (f .count) blockFrom (now sheet) (f .blocks .at) .next ≤ length (now sheet) ⌝ }
+    requires { ⌜ at + length (now sheet) ≤ farthest ⌝ }
     ensures { λ r. ⌜ RecordedPut (now (sheet .entry)) f (now (answer .entry)) at (now (answer .exit)) r ⌝ }
 {
     if f.errors & f.copies {
+        let blocks = f.blocks;
         let r = copy_effects(
             sheet,
-            f.blocks,
+            blocks.at,
             f.count,
-            f.n,
-            f.m,
             Section::Diagnostics,
             answer,
             at,
@@ -62,7 +67,7 @@ fn put_recorded(sheet: &[u32], f: HirFunction, answer: &mut [u32], at: usize) ->
     at
 }
 
-// The section; mutations handed over the functions up to `hand`. A sheet is asked for because without one nothing says that the positions rise.
+// The section; mutations handed over the functions up to `hand`.
 pub fn put_diagnostics(
     sheet: &[u32],
     ws: &mut [u32],
@@ -75,7 +80,7 @@ pub fn put_diagnostics(
     requires { ⌜ Limited f ⌝ }
     requires { ⌜ Indexed (now ws) ⌝ }
     requires { ⌜ ((s : Sheet) × (Describes s (now sheet) f × Stands s (now sheet) (now ws))) ⌝ }
-    requires { ⌜ (renders ≤ 256) × ((hand ≤ MUTATIONS) × (at + 4294967296 ≤ farthest)) ⌝ }
+    requires { ⌜ (renders ≤ mostRenders) × ((hand ≤ MUTATIONS) × (at + mostDiagnosed ≤ farthest)) ⌝ }
     ensures { λ r. ⌜ DiagnosticsPut (now (sheet .entry)) (now (ws .entry)) f renders hand (now (answer .entry)) at (now (ws .exit)) (now (answer .exit)) r ⌝ }
 {
     let a1 = put(answer, at, 0);

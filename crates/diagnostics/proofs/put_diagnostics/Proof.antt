@@ -1,4 +1,6 @@
-use Rattle.diagnostics.proofs.Diagnosing.{HandedPut, handed-put, handed-not, handed-as, count-least, count-few, diagnostics-put}
+use Rattle.copies.proofs.Errors.{functions-again, handed-room}
+use Rattle.function.proofs.Described.{blocks-inside}
+use Rattle.diagnostics.proofs.Diagnosing.{HandedPut, handed-put, handed-not, handed-as, count-least, section-few, diagnostics-put}
 use native.Mathlib.Omega.{arith}
 use mathlib.Core.Logic.{⊎-elim}
 use mathlib.Core.Path.{_∙_}
@@ -14,14 +16,16 @@ put-recorded-requires : tie.Need-put-recorded-requires
 put-recorded-requires c κs =
     let b3 = c .before .before .before in
     let b8 = b3 .before .before .before .before .before in
-    (b8 .pre .0, omega (arith, b3 .put .ensures .next, b8 .pre .1 .1 .1 .1 .1))
+    let d = b8 .pre .1 .1 .0 .1 .0 in
+    (blocks-inside d, omega (arith, b3 .put .ensures .next, d .short, b8 .pre .1 .1 .1 .1 .1))
 
 put-handed-requires : tie.Need-put-handed-requires
 put-handed-requires c κs =
     let b4 = c .before .before .before .before in
     let b8 = b4 .before .before .before .before in
     let b13 = b8 .before .before .before .before .before in
-    ((b13 .pre .0 .m, (b13 .pre .1 .1 .1 .1 .0, b13 .pre .1 .0 .size)), omega (arith, b8 .put .ensures .next, b4 .put-recorded .ensures .few, b13 .pre .1 .1 .1 .1 .1))
+    let k = b13 .pre .1 .1 .0 .1 in
+    ((b13 .pre .0 .m, (b13 .pre .1 .1 .1 .1 .0, b13 .pre .1 .0 .size)), (functions-again (k .1 .functions) (k .0 .m), omega (arith, b8 .put .ensures .next, b4 .put-recorded .ensures .few, k .0 .short, b13 .pre .1 .1 .1 .1)))
 
 process-renders-requires : tie.Need-process-renders-requires
 process-renders-requires c κs =
@@ -29,7 +33,9 @@ process-renders-requires c κs =
     let b10 = b5 .before .before .before .before .before in
     let b14 = b10 .before .before .before .before in
     let b19 = b14 .before .before .before .before .before in
-    (b19 .pre .1 .0, (b19 .pre .0 .m, (b19 .pre .1 .1 .1 .0, omega (arith, b14 .put .ensures .next, b10 .put-recorded .ensures .few, b5 .put-handed .ensures .few, b19 .pre .1 .1 .1 .1 .1))))
+    let k = b19 .pre .1 .1 .0 .1 in
+    let g = functions-again (k .1 .functions) (k .0 .m) in
+    (b19 .pre .1 .0, ((b19 .pre .0 .m, b19 .pre .1 .1 .1 .0), (g, omega (arith, b14 .put .ensures .next, b10 .put-recorded .ensures .few, k .0 .short, handed-room g (b19 .args .hand) (omega (arith, b19 .pre .1 .1 .1 .1 .0, b19 .pre .1 .0 .size)) (b5 .put-handed .ensures), b19 .pre .1 .1 .1))))
 
 -- where the arms meet
 joined : (c : tie.Joined1)
@@ -39,24 +45,26 @@ joined : (c : tie.Joined1)
 joined c =
     let b3 = c .before .before .before in
     let b17 = b3 .before .before .before .before .before .before .before .before .before .before .before .before .before .before in
+    let k = b17 .pre .1 .1 .0 .1 in
+    let g = functions-again (k .1 .functions) (k .0 .m) in
     let same = b3 .put-handed .kept .1 .1 .1 .1 .0 in
     ⊎-elim
-    (λ w. handed-as (handed-put _ _ _ _ _ (b3 .put-handed .ensures) same (w .0 .taken) (b17 .pre .1 .1 .1 .0) (w .3 .ensures) (w .3 .kept .1 .1 .1 .1 .0)) (w .8) (w .9) (w .10))
-    (λ w. handed-as (handed-not _ _ _ _ _ (b3 .put-handed .ensures) same (w .0 .left)) (w .1) (w .2) (w .3)) (c .if1 .came)
+    (λ w. handed-as (handed-put _ _ _ _ g (b17 .pre .1 .1 .1 .1 .0) (b17 .pre .1 .0 .size) (b3 .put-handed .ensures) same (w .0 .taken) (b17 .pre .1 .1 .1 .0) (w .3 .ensures) (w .3 .kept .1 .1 .1 .1 .0)) (w .8) (w .9) (w .10))
+    (λ w. handed-as (handed-not _ _ _ _ g (b17 .pre .1 .1 .1 .1 .0) (b17 .pre .1 .0 .size) (b3 .put-handed .ensures) same (w .0 .left)) (w .1) (w .2) (w .3)) (c .if1 .came)
 
 sub-patch : tie.Need-sub-patch
 sub-patch c =
     let b10 = c .before .before .before .before .before .before .before .before .before .before in
     let b14 = b10 .before .before .before .before in
     let b19 = b14 .before .before .before .before .before in
-    let k = b19 .pre .1 .1 .0 in
-    count-least (b14 .put .ensures) (b10 .put-recorded .ensures) (joined (c .before .before)) (k .0) (k .1 .0) (k .1 .1)
+    count-least (b19 .pre .1 .1 .0) (b14 .put .ensures) (b10 .put-recorded .ensures) (joined (c .before .before))
 
 cast-patch : tie.Need-cast-patch
 cast-patch c =
     let b10 = c .before .before .before .before .before .before .before .before .before .before in
     let b14 = b10 .before .before .before .before in
-    omega (arith, count-few (b14 .put .ensures) (b10 .put-recorded .ensures) (joined (c .before .before)))
+    let b19 = b14 .before .before .before .before .before in
+    omega (arith, b14 .put .ensures .next, section-few (b19 .pre .1 .1 .0) (b14 .put .ensures) (b10 .put-recorded .ensures) (joined (c .before .before)))
 
 patch-requires : tie.Need-patch-requires
 patch-requires c κs = omega arith
@@ -81,7 +89,8 @@ returns c =
     let b4 = c .before .before .before .before in
     let b13 = b4 .before .before .before .before .before .before .before .before .before in
     let b17 = b13 .before .before .before .before in
-    diagnostics-put (b17 .put .ensures) (b13 .put-recorded .ensures) (joined (b4 .before)) (c .before .before .patch .ensures)
+    let b22 = b17 .before .before .before .before .before in
+    diagnostics-put (b22 .pre .1 .1 .0) (b17 .put .ensures) (b13 .put-recorded .ensures) (joined (b4 .before)) (c .before .before .patch .ensures)
 
 pub put-diagnostics-spec : {M : Type 1} → statement M
 put-diagnostics-spec =

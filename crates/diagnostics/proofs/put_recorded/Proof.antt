@@ -1,20 +1,16 @@
 use Rattle.diagnostics.proofs.Diagnosing.{recorded-put, recorded-not}
-use native.Mathlib.Omega.{arith}
+use borrow.Author.Needs.{needs}
 use Rattle.diagnostics.proofs.put_recorded.Statement.{statement}
 use Rattle.diagnostics.proofs.put_recorded.Tie as tie
 
 copy-effects-requires : tie.Need-copy-effects-requires
-copy-effects-requires c κs =
-    let b5 = c .before .before .before .before .before in
-    (b5 .pre .0 .count, omega (arith, b5 .pre .1))
+copy-effects-requires c κs = search needs
 
 same-length : tie.Need-same-length
-same-length c = c .before .before .copy-effects .kept .1 .1 .1 .1 .1 .1 .0
+same-length c = search needs
 
 returns : tie.Need-returns
-returns c =
-    let b4 = c .before .before .before .before in
-    recorded-put _ _ _ _ (b4 .if1 .taken) (c .before .before .copy-effects .ensures)
+returns c = recorded-put _ _ _ _ (c .before .before .before .before .before .if1 .taken) (c .before .before .before .before .before .before .before .before .before .pre .0) (c .before .before .copy-effects .ensures)
 
 returns-2 : tie.Need-returns-2
 returns-2 c = recorded-not _ _ _ _ (c .if1 .left)
