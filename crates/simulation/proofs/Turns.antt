@@ -16,6 +16,7 @@ use Rattle.model.specs.Simulated.{tracked, simulation, flowEffects, simulate}
 use Rattle.model.specs.Answer.{effectWords}
 use Rattle.model.proofs.Handed.{withHanded}
 use Rattle.model.proofs.Simulating.{takenBy, After, after-start, after-turn, after-done}
+use Rattle.hir.specs.Words.{effectWidth}
 use Rattle.workspace.specs.Layout.{HANDED, MUTATIONS, SIMULATED}
 use Rattle.workspace.specs.Rows.{rowsOf, Good, Indexed, Kept}
 use Rattle.workspace.specs.Graph.{tab}
@@ -38,7 +39,7 @@ use Rattle.summary.specs.Sections.{Flows, simulatedOf}
 use Rattle.summary.proofs.Held.{holds-state}
 use Rattle.summary.proofs.Places.{tracked-kept}
 use Rattle.summary.proofs.Rooms.{flows-next}
-use Rattle.simulation.specs.Simulates.{Marked, Simulates}
+use Rattle.simulation.specs.Simulates.{mostTracked, Marked, Simulates}
 
 -- ---- tables in the words
 tracked-length : (ws : List ℕ) (n : ℕ) → length (trackedOf ws n) ≡ n
@@ -84,7 +85,7 @@ pub record Turned (ws₀ : List ℕ) (count index returns : ℕ) (answer₀ : Li
   pub number : next ≡ index + i
   pub places : drop TRACKED ws ≡ drop TRACKED ws₀
   pub kept : slice MUTATIONS SIMULATED ws ≡ slice MUTATIONS SIMULATED ws₀
-  pub few : to ≤ at + 1032 * i
+  pub few : to ≤ at + effectWidth * mostTracked * i
   pub same : length ws ≡ length ws₀
   pub buffer : length answer ≡ length answer₀
 
@@ -107,7 +108,7 @@ turned-start ws count index returns answer at indexed handing = record {
 }
 
 module _ {ws₀ : List ℕ} {count index returns : ℕ} {answer₀ : List ℕ} {at : ℕ} {ws answer : List ℕ} {to i next : ℕ} (p : Turned ws₀ count index returns answer₀ at ws answer to i next)
-    (least : count ≤ 129) (more : i < count) {into : Place} (is : into ≡ trackedAt ws i)
+    (least : count ≤ mostTracked) (more : i < count) {into : Place} (is : into ≡ trackedAt ws i)
     {m : CodeMutation} (said : (mutationSays m ≡ simulation next into) × ((modeSays m ≡ simulated) × Callable m)) {ws₁ : List ℕ} {c h : ℕ} (w : Mutated m ws HANDED ws₁ c h) where
   -- the count has room
   pub long : SIMULATED + i < length ws₁
