@@ -6,7 +6,7 @@ use mathlib.Core.Bool.{true, true≢false}
 use mathlib.Core.List.{List, [], _∷_, _++_, map}
 use lib.ListN.{length, getD, length-append}
 use lib.Seq.{sets}
-use Rattle.model.specs.Limits.{mostFunctions}
+use Rattle.model.specs.Limits.{mostSheet, mostFunctions, mostBlocks}
 use Rattle.model.specs.Lists.{each}
 use Rattle.model.specs.Sheet.{Identifier, Place, noFunction, Sheet}
 use Rattle.model.specs.Reading.{Position, got, numbered}
@@ -26,6 +26,7 @@ use Rattle.header.specs.declared.TopStep.{TopStep}
 use Rattle.header.specs.declared.TopStep.the-variants.{Got as GotTop, Refused as NoTop}
 use Rattle.header.specs.Read.{Tops, topIs, topFew, Topped}
 use Rattle.summary.specs.Tracked.{TRACKED, trackedOf}
+use Rattle.copies.proofs.Accepted.{functions-accepted, blocks-inside}
 use Rattle.function.specs.declared.HirFunction.{HirFunction}
 use Rattle.function.specs.Function.{Limited, Describes, Stands}
 use Rattle.parameters.specs.declared.Tracked.{Tracked}
@@ -40,6 +41,12 @@ few-functions : (sheet : List ℕ) (s : Sheet) (d : Position) → sheetReader sh
 few-functions sheet s d e =
     let p = sheet-sections sheet s d e in
     counted-length mostFunctions innerFunction sheet (p .afterIdentifiers) (s .functions) (p .afterFunctions) (p .functions)
+
+-- the sheet has all its words
+sheet-inside : (sheet : List ℕ) (s : Sheet) (d : Position) → sheetReader sheet 0 ≡ got s d → d ≤ length sheet
+sheet-inside sheet s d e =
+    let p = sheet-sections sheet s d e in
+    blocks-inside (length (s .identifiers)) (length (s .functions)) (p .blockCount) sheet (p .afterCount) (s .blocks) d (p .blocks) mostBlocks (p .afterReturns) (p .count)
 
 none-tracked : (ws : List ℕ) → trackedOf ws 0 ≡ []
 unfolding trackedOf tab
@@ -61,7 +68,7 @@ functionOf t u = record {
 }
 
 -- the calls one after another, for a sheet that was read
-module _ (sheet : List ℕ) (s : Sheet) (d : Position) (e : sheetReader sheet 0 ≡ got s d) {ws ws₁ : List ℕ} {t : Top} (T : Tops s d sheet ws ws₁ t) (few : t .n ≤ 512) {ws₂ : List ℕ} {b : Building} (start : Starts ws₁ ws₂ b) where
+module _ (sheet : List ℕ) (short : length sheet ≤ mostSheet) (s : Sheet) (d : Position) (e : sheetReader sheet 0 ≡ got s d) {ws ws₁ : List ℕ} {t : Top} (T : Tops s d sheet ws ws₁ t) (few : t .n ≤ 512) {ws₂ : List ℕ} {b : Building} (start : Starts ws₁ ws₂ b) where
   module _ {ws₃ : List ℕ} {u : Tracked} {r : Building} (U : TrackedRead s d sheet (t .n) ws₂ b ws₃ u r) where
     describes : Describes s sheet (functionOf t u)
     describes = record {
@@ -74,6 +81,8 @@ module _ (sheet : List ℕ) (s : Sheet) (d : Position) (e : sheetReader sheet 0 
       returns = U .returns;
       identifiers = T .identifiers;
       blocks = (d, subst (λ (k : ℕ). numbered (u .count) [] (block (t .n) k) sheet (u .next .at) ≡ got (s .blocks) d) (sym (T .m)) (U .blocks));
+      inside = sheet-inside sheet s d e;
+      short = short;
     }
 
     limited : Limited (functionOf t u)
@@ -108,9 +117,8 @@ module _ (sheet : List ℕ) (s : Sheet) (d : Position) (e : sheetReader sheet 0 
         let n : length (s .params) + length (s .context) + 1 ≡ 0 + length (firstPlaces s) = omega (arith, length-append (s .params) (s .context ++ (s .returns ∷ [])), length-append (s .context) (s .returns ∷ [])) in
         record {
           size = U .places .sound .size;
-          functions = record {
-            each = λ k h. subst (λ (w : ℕ). (j : Position) × (innerFunction sheet w ≡ got (getD (s .functions) k noFunction) j)) (function-word k h) (T .functions k h);
-          };
+          functions = functions-accepted sheet ws₃ (s .functions)
+              (λ k h. subst (λ (w : ℕ). (j : Position) × (innerFunction sheet w ≡ got (getD (s .functions) k noFunction) j)) (function-word k h) (T .functions k h));
           tracked = ap (trackedOf ws₃) n ∙ U .places .tracked ∙ ap (λ (l : List Place). l ++ firstPlaces s) (none-tracked ws₂);
         }
 
@@ -142,9 +150,9 @@ module _ {sheet ws ws₁ : List ℕ} {x : TopStep} (T : Topped sheet ws ws₁ x)
             subst (trackedIs s d sheet (t .n) ws₂ b ws₃) p (U .read s d (top .n) (top .rest));
       }
 
-      pub function-read : {u : Tracked} {nodes : ℕ} → y ≡ GotTracked u nodes → {r : Building} → r ≡ begun nodes → ReadsFunction sheet ws ws₃ (Got (functionOf t u) r)
-      function-read {u} {nodes} p is = record {
+      pub function-read : length sheet ≤ mostSheet → {u : Tracked} {nodes : ℕ} → y ≡ GotTracked u nodes → {r : Building} → r ≡ begun nodes → ReadsFunction sheet ws ws₃ (Got (functionOf t u) r)
+      function-read short {u} {nodes} p is = record {
         read = λ s d e.
             let top : Tops s d sheet ws ws₁ t = subst (topIs s d sheet ws ws₁) q (T .read s d e) in
-            subst (FunctionRead s sheet ws ws₃ (functionOf t u)) (sym is) (function-is sheet s d e top few-identifiers start (subst (trackedIs s d sheet (t .n) ws₂ b ws₃) p (U .read s d (top .n) (top .rest))));
+            subst (FunctionRead s sheet ws ws₃ (functionOf t u)) (sym is) (function-is sheet short s d e top few-identifiers start (subst (trackedIs s d sheet (t .n) ws₂ b ws₃) p (U .read s d (top .n) (top .rest))));
       }
