@@ -15,7 +15,7 @@ use Rattle.model.specs.Sections.{identifier, diagnostic, innerFunction, block}
 use Rattle.model.specs.Summary.{noIdentifier}
 use Rattle.model.proofs.Got.{got-value, not-both, times-step}
 use Rattle.model.proofs.ReadLaws.{counted-length}
-use Rattle.hir.specs.Words.{identifierWidth, wide, identifierAt, several, functionFrom, blockFrom}
+use Rattle.hir.specs.Words.{identifierWidth, identifierAt, several, functionFrom, blockFrom}
 use Rattle.hir.proofs.Standing.{in-two, value-is, next-is, count-stands, identifier-stands, function-stands, blocks-stands}
 use Rattle.workspace.specs.Layout.{FUNCTIONS}
 use Rattle.copies.specs.Functions.{Functions}

@@ -1,10 +1,9 @@
 -- Create for returns.
 use Prim.Native.Nat.{ℕ, _+_, _*_, _<_}
 use native.Mathlib.Omega.{arith}
-use mathlib.Core.Path.{_≡_, sym, ap, _∙_}
+use mathlib.Core.Path.{_≡_, sym, ap}
 use mathlib.Core.List.{List}
-use lib.ListN.{length, getD}
-use Rattle.model.specs.Sheet.{Identifier, IdentifierType, Place, noPlace, Create, Effect, Sheet}
+use Rattle.model.specs.Sheet.{Identifier, IdentifierType, Place, noPlace, Create, Sheet}
 use Rattle.model.specs.Reading.{Position, got, times}
 use Rattle.model.specs.Sections.{identifier}
 use Rattle.model.specs.Summary.{valueKind, createReturns}

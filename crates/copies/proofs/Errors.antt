@@ -13,7 +13,7 @@ use Rattle.model.specs.Lists.{gather}
 use Rattle.model.specs.Sheet.{Diagnostic, InnerFunction, noFunction}
 use Rattle.model.specs.Reading.{Position}
 use Rattle.model.specs.Answer.{functionErrors, diagnosticWords}
-use Rattle.hir.specs.Words.{Part, Standing, diagnosticWidth, wide, diagnosticAt, several, listed, functionFrom}
+use Rattle.hir.specs.Words.{Part, Standing, diagnosticWidth, wide, diagnosticAt, several, functionFrom}
 use Rattle.hir.specs.Parts.{ListAt}
 use Rattle.hir.specs.declared.at.List.{List as Listed}
 use Rattle.hir.proofs.Standing.{part}
@@ -85,7 +85,7 @@ functions-kept {sheet} {fs = fs} e g = record {
 }
 
 -- no function has more diagnostics than the limit
-pub errors-few : {sheet ws : List ℕ} {fs : List InnerFunction} → Functions sheet ws fs → (k : ℕ) → length (functionErrors fs k) ≤ mostInnerDiagnostics
+errors-few : {sheet ws : List ℕ} {fs : List InnerFunction} → Functions sheet ws fs → (k : ℕ) → length (functionErrors fs k) ≤ mostInnerDiagnostics
 errors-few {fs = fs} g k = go (leb (length fs) k) refl
   where
     go : (b : Bool) → leb (length fs) k ≡ b → length (functionErrors fs k) ≤ mostInnerDiagnostics

@@ -21,10 +21,6 @@ pub record Leaves (whole rest a₀ : List ℕ) (at₀ : ℕ) (a : List ℕ) (at 
 pub leaves-all : (whole a : List ℕ) (at : ℕ) → Leaves whole whole a at a at
 leaves-all whole a at = record { words = refl; next = refl }
 
--- the rest by another name
-pub leaves-as : {whole rest rest′ a₀ a : List ℕ} {at₀ at : ℕ} → Leaves whole rest a₀ at₀ a at → rest ≡ rest′ → Leaves whole rest′ a₀ at₀ a at
-leaves-as h e = record { words = rw (← e) (h .words); next = rw (← e) (h .next) }
-
 -- us were written
 pub leaves-then : {whole rest us rest′ a₀ a a′ : List ℕ} {at₀ at at′ : ℕ} → Leaves whole rest a₀ at₀ a at → Wrote us a at a′ at′ → rest ≡ us ++ rest′ → Leaves whole rest′ a₀ at₀ a′ at′
 leaves-then {whole} {rest} {us} {rest′} {a₀} {a} {a′} {at₀} {at} {at′} h k e = record {

@@ -50,13 +50,7 @@ fn takes(section: Section, role: Role) -> bool
 }
 
 // What the section takes of the effect that stands here.
-fn copy_effect(
-    sheet: &[u32],
-    from: usize,
-    section: Section,
-    answer: &mut [u32],
-    at: usize,
-) -> usize
+fn copy_effect(sheet: &[u32], from: usize, section: Section, answer: &mut [u32], at: usize) -> usize
     requires { ⌜ from + effectWidth ≤ length (now sheet) ⌝ }
     requires { ⌜ at + length (now sheet) ≤ farthest + from ⌝ }
     ensures { λ r. ⌜ Copies (wide effectWidth effectAt) (copyWords section) (now (sheet .entry)) from (now (answer .entry)) at (now (answer .exit)) r (from + effectWidth) ⌝ }
@@ -136,13 +130,7 @@ fn copy_instructions(
 }
 
 // A block: its phis and its terminal are passed over.
-fn copy_block(
-    sheet: &[u32],
-    from: usize,
-    section: Section,
-    answer: &mut [u32],
-    at: usize,
-) -> Copied
+fn copy_block(sheet: &[u32], from: usize, section: Section, answer: &mut [u32], at: usize) -> Copied
     requires { ⌜ blockFrom (now sheet) from .next ≤ length (now sheet) ⌝ }
     requires { ⌜ at + length (now sheet) ≤ farthest + from ⌝ }
     ensures { λ r. ⌜ Copies blockFrom (blockWords section) (now (sheet .entry)) from (now (answer .entry)) at (now (answer .exit)) (r .at) (r .next) ⌝ }

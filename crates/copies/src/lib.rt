@@ -2,6 +2,7 @@
 ghost use Prim.Native.Nat.{_+_, _≤_};
 ghost use Rattle.model.specs.Answer.{placeWords, effectWords};
 ghost use Rattle.hir.specs.Says.{placeIs, effectIs};
+ghost use Rattle.hir.specs.Words.{placeWidth, effectWidth};
 ghost use Rattle.writing.specs.Wrote.{Wrote, farthest};
 use hir::AliasingEffect;
 use hir::Effect;
@@ -31,7 +32,7 @@ pub struct Copied {
 
 // A place in words.
 pub fn put_place(answer: &mut [u32], at: usize, p: Place) -> usize
-    requires { ⌜ at + 3 ≤ farthest ⌝ }
+    requires { ⌜ at + placeWidth ≤ farthest ⌝ }
     ensures { λ r. ⌜ Wrote (placeWords (placeIs p)) (now (answer .entry)) at (now (answer .exit)) r ⌝ }
 {
     let identifier = p.identifier;
@@ -43,7 +44,7 @@ pub fn put_place(answer: &mut [u32], at: usize, p: Place) -> usize
 
 // An effect in words.
 pub fn put_effect(answer: &mut [u32], at: usize, e: AliasingEffect) -> usize
-    requires { ⌜ at + 8 ≤ farthest ⌝ }
+    requires { ⌜ at + effectWidth ≤ farthest ⌝ }
     ensures { λ r. ⌜ Wrote (effectWords (effectIs e)) (now (answer .entry)) at (now (answer .exit)) r ⌝ }
 {
     let kind = e.kind;

@@ -54,14 +54,7 @@ fn put_recorded(sheet: &[u32], f: HirFunction, answer: &mut [u32], at: usize) ->
 {
     if f.errors & f.copies {
         let blocks = f.blocks;
-        let r = copy_effects(
-            sheet,
-            blocks.at,
-            f.count,
-            Section::Diagnostics,
-            answer,
-            at,
-        );
+        let r = copy_effects(sheet, blocks.at, f.count, Section::Diagnostics, answer, at);
         return r.at;
     }
     at

@@ -1,18 +1,18 @@
 -- The section of effects, one part after another.
-use Prim.Native.Nat.{ℕ, _+_, _-_, _/_, _≤_, _<_}
+use Prim.Native.Nat.{ℕ, _+_, _-_, _*_, _/_, _≤_}
 use native.Mathlib.Omega.{arith}
 use mathlib.Core.Path.{_≡_, sym, ap, subst, _∙_}
 use mathlib.Core.Bool.{false}
 use mathlib.Core.List.{List, [], _∷_, _++_}
 use lib.ListN.{length, set}
+use Rattle.model.specs.Limits.{mostParams, mostContext}
 use Rattle.model.specs.Lists.{gather}
 use Rattle.model.specs.Sheet.{Place, Effect, Sheet}
-use Rattle.model.specs.Reading.{times, numbered}
-use Rattle.model.specs.Sections.{identifier, block}
 use Rattle.model.specs.Summary.{afterRenders, copied, collectParamEffects, createReturns}
 use Rattle.model.specs.Simulated.{simulate}
 use Rattle.model.specs.Answer.{effectWords, section, summary}
 use Rattle.hir.specs.Says.{placeIs}
+use Rattle.hir.specs.Words.{effectWidth, identifierAt, several, blockFrom}
 use Rattle.workspace.specs.Layout.{HANDED, MUTATIONS, SIMULATED}
 use Rattle.workspace.specs.Rows.{Good, Indexed}
 use Rattle.aliasing.proofs.Parts.{slice-below, nodes-below, rows-below}
@@ -21,7 +21,7 @@ use Rattle.writing.specs.Wrote.{Wrote}
 use Rattle.writing.proofs.Writing.{wrote-none, wrote-then, wrote-as}
 use Rattle.copies.specs.Copies.{Copies}
 use Rattle.copies.specs.Words.{blockWords}
-use Rattle.copies.specs.Returns.{Created}
+use Rattle.copies.specs.Returns.{identifierFrom, createOf}
 use Rattle.copies.specs.declared.effect_lists.Section.the-variants.{Effects}
 use Rattle.copies.proofs.Gathers.{gather-append}
 use Rattle.copies.proofs.Sections.{copied-words, section-patched, effects-count}
@@ -33,7 +33,8 @@ use Rattle.summary.proofs.Rooms.{collected-next}
 use Rattle.summary.proofs.Whole.{params-tracked, context-tracked, marks-tracked}
 use Rattle.function.specs.declared.HirFunction.{HirFunction}
 use Rattle.function.specs.Function.{Limited}
-use Rattle.simulation.specs.Simulates.{Marked, Simulates, CopiedPut, Before, EffectsPut}
+use Rattle.function.proofs.Described.{blocks-stand, returns-create}
+use Rattle.simulation.specs.Simulates.{mostFlows, mostEffects, Marked, Simulates, CopiedPut, Before, EffectsPut}
 
 -- the words hold the records that the walks and renders left
 holds-after : (s : Sheet) {sheet ws : List ℕ} {f : HirFunction} {index : ℕ} → Before s sheet ws f index → Holds ws (afterRenders s)
@@ -57,9 +58,9 @@ summary-words s =
 
 -- ---- the copied effects
 module _ (sheet : List ℕ) (f : HirFunction) (a : List ℕ) (at : ℕ) where
-  pub copied-put : {a′ : List ℕ} {at′ next : ℕ} → Copies (numbered (f .count) [] (block (f .n) (f .m)) sheet (f .blocks .at)) (gather (blockWords Effects)) 2147483648 a at a′ at′ next
+  pub copied-put : several (f .count) blockFrom sheet (f .blocks .at) .next ≤ length sheet → {a′ : List ℕ} {at′ next : ℕ} → Copies (several (f .count) blockFrom) (gather (blockWords Effects)) sheet (f .blocks .at) a at a′ at′ next
       → CopiedPut sheet f a at a′ at′
-  copied-put c = record { wrote = λ s d. wrote-as (c .wrote (s .blocks) (d .blocks .0) (d .blocks .1)) (copied-words s); few = c .few }
+  copied-put h c = record { wrote = λ s d. wrote-as (c .wrote) (ap (gather (blockWords Effects)) (blocks-stand d) ∙ copied-words s); few = omega (arith, c .few, c .after, h) }
 
   pub copied-not : f .copies ≡ false → CopiedPut sheet f a at a at
   copied-not e = record { wrote = λ s d. wrote-as (wrote-none a at) (ap (gather effectWords) (sym (d .copies e))); few = omega arith }
@@ -69,6 +70,10 @@ pub indexed-after : {ws ws₁ : List ℕ} {n : ℕ} → Indexed ws → Marks ws 
 indexed-after i m = record { size = omega (arith, i .size, m .kept .same); good = subst Good (sym (rows-below (m .kept) (omega arith))) (i .good) }
 
 module _ (sheet ws : List ℕ) (f : HirFunction) (index : ℕ) (limited : Limited f) where
+  -- Create for returns, by the type that stands in the sheet
+  abbrev ReturnsWrote : List ℕ → ℕ → List ℕ → ℕ → Type 0
+  ReturnsWrote = Wrote (effectWords (createOf (placeIs (f .returns)) (identifierAt sheet (identifierFrom (f .identifiers .at) (f .returns .identifier .0)) .type)))
+
   -- ---- each part, for a sheet
   module _ (s : Sheet) (b : Before s sheet ws f index) where
     context-wrote : {a a′ : List ℕ} {at at′ : ℕ} → Collected ws (trackedFrom ws (f .params) (f .context)) a at a′ at′
@@ -89,15 +94,8 @@ module _ (sheet ws : List ℕ) (f : HirFunction) (index : ℕ) (limited : Limite
     returns-is : s .returns .identifier ≡ f .returns .identifier .0
     returns-is = ap (λ (p : Place). p .identifier) (sym (b .describes .returns))
 
-    returns-wrote : {a a′ : List ℕ} {at at′ : ℕ} → Created sheet (f .identifiers .at) (placeIs (f .returns)) a at a′ at′ → Wrote (effectWords (createReturns s)) a at a′ at′
-    returns-wrote c =
-        c s (b .describes .identifiers .0)
-        (ap (λ (n : ℕ). times n identifier sheet (f .identifiers .at)) (sym (b .describes .n)) ∙ b .describes .identifiers .1) (sym (b .describes .returns))
-        (omega (arith, limited .returns, returns-is, b .describes .n))
-
-    -- eight words
-    returns-next : {a a′ : List ℕ} {at at′ : ℕ} → Created sheet (f .identifiers .at) (placeIs (f .returns)) a at a′ at′ → at′ ≡ at + 8
-    returns-next c = returns-wrote c .next
+    returns-wrote : {a a′ : List ℕ} {at at′ : ℕ} → ReturnsWrote a at a′ at′ → Wrote (effectWords (createReturns s)) a at a′ at′
+    returns-wrote c = wrote-as c (ap effectWords (returns-create (b .describes) limited))
 
     -- with their marks the tracked places are those of the simulated walks
     marked-before : {ws₁ : List ℕ} → Marks ws (f .params + f .context) ws₁ → Marked s ws₁ (f .params + f .context + 1) index (f .returns .identifier .0)
@@ -117,18 +115,18 @@ module _ (sheet ws : List ℕ) (f : HirFunction) (index : ℕ) (limited : Limite
       (context : Collected ws (trackedFrom ws (f .params) (f .context)) a₂ at₂ a₃ at₃)
     where
       -- where the next word goes after the context's effects
-      pub after-context : at₃ ≤ at + 2147484673
+      pub after-context : at₃ ≤ at + 1 + length sheet + 2 * effectWidth * mostContext
       after-context = omega (arith, put .next, copy .few, collected-next ws (f .params) (f .context) context, limited .context)
 
       module _ {a₄ : List ℕ} {at₄ : ℕ} (params : Collected ws (trackedFrom ws 0 (f .params)) a₃ at₃ a₄ at₄) where
         -- after those of the parameters
-        pub after-params : at₄ ≤ at + 2147485697
+        pub after-params : at₄ ≤ at + 1 + length sheet + 2 * effectWidth * (mostContext + mostParams)
         after-params = omega (arith, after-context, collected-next ws 0 (f .params) params, limited .params)
 
-        module _ (some : (s : Sheet) × Before s sheet ws f index) {a₅ : List ℕ} {at₅ : ℕ} (create : Created sheet (f .identifiers .at) (placeIs (f .returns)) a₄ at₄ a₅ at₅) where
+        module _ (some : (s : Sheet) × Before s sheet ws f index) {a₅ : List ℕ} {at₅ : ℕ} (create : ReturnsWrote a₄ at₄ a₅ at₅) where
           -- after Create for returns
-          pub after-returns : at₅ ≤ at + 2147485705
-          after-returns = omega (arith, after-params, returns-next (some .0) (some .1) create)
+          pub after-returns : at₅ + mostFlows ≤ at + mostEffects
+          after-returns = omega (arith, after-params, some .1 .describes .short, create .next)
 
           module _ {ws₁ : List ℕ} (marks : Marks ws (f .params + f .context) ws₁) where
             -- so the simulated walks can run
@@ -146,15 +144,11 @@ module _ (sheet ws : List ℕ) (f : HirFunction) (index : ℕ) (limited : Limite
                   (ap (λ (l : List ℕ). 0 ∷ l) (sym (summary-words s)))
 
               -- after what the simulated walks found
-              pub after-walks : at₆ ≤ at + 4294967296
+              pub after-walks : at₆ ≤ at + mostEffects
               after-walks = omega (arith, after-returns, walks .few, limited .params, limited .context)
 
               pub rises : at₁ ≤ at₆
               rises = omega (arith, put .next, all-parts (some .0) (some .1) .next)
-
-              -- the count fits a word
-              pub count-fits : (at₆ - at₁) / 8 < 4294967296
-              count-fits = omega (arith, after-walks)
 
               -- the count was patched in
               pub effects-put : {a₇ : List ℕ} → a₇ ≡ set a₆ at ((at₆ - at₁) / 8) → EffectsPut sheet ws f index a at ws₂ a₇ at₆

@@ -4,6 +4,7 @@ use mathlib.Core.Path.{_≡_}
 use mathlib.Core.List.{List, [], map}
 use lib.ListN.{length}
 use lib.Seq.{slice}
+use Rattle.model.specs.Limits.{mostSheet, mostParams, mostContext}
 use Rattle.model.specs.Lists.{gather}
 use Rattle.model.specs.Sheet.{Sheet}
 use Rattle.model.specs.Building.{build}
@@ -12,6 +13,7 @@ use Rattle.model.specs.Walks.{Walk}
 use Rattle.model.specs.Summary.{copied, afterRenders}
 use Rattle.model.specs.Simulated.{tracked, simulate}
 use Rattle.model.specs.Answer.{effectWords, section, summary}
+use Rattle.hir.specs.Words.{effectWidth}
 use Rattle.workspace.specs.Layout.{HANDED, MUTATIONS, SIMULATED}
 use Rattle.aliasing.specs.State.{stateOf}
 use Rattle.writing.specs.Wrote.{Wrote}
@@ -19,6 +21,18 @@ use Rattle.workspace.specs.Tracked.{trackedOf}
 use Rattle.summary.specs.Sections.{simulatedOf}
 use Rattle.function.specs.declared.HirFunction.{HirFunction}
 use Rattle.function.specs.Function.{Describes, Stands}
+
+-- how many places are tracked: parameters, context and returns
+abbrev pub mostTracked : ℕ
+mostTracked = mostParams + mostContext + 1
+
+-- the words that the simulated walks can leave: an effect for each two places
+abbrev pub mostFlows : ℕ
+mostFlows = effectWidth * mostTracked * mostTracked
+
+-- those of the section: its count, the copied effects, two for each parameter and context place, Create for returns, and the simulated walks'
+abbrev pub mostEffects : ℕ
+mostEffects = 1 + mostSheet + 2 * effectWidth * (mostContext + mostParams) + effectWidth + mostFlows
 
 -- the state with nothing handed over
 abbrev pub unhanded : State → State
@@ -36,13 +50,13 @@ pub record Simulates (ws : List ℕ) (count index returns : ℕ) (answer : List 
   pub wrote : (s : Sheet) → Marked s ws count index returns → Wrote (gather effectWords (simulate s .effects)) answer at answer′ r
   pub counts : (s : Sheet) → Marked s ws count index returns → simulatedOf ws′ count ≡ map (λ (w : Walk). w .taken) (simulate s .walks)
   pub kept : slice MUTATIONS SIMULATED ws′ ≡ slice MUTATIONS SIMULATED ws
-  pub few : r ≤ at + 1032 * count
+  pub few : r ≤ at + effectWidth * mostTracked * count
   pub same : length ws′ ≡ length ws
 
 -- the copied effects were written
 pub record CopiedPut (sheet : List ℕ) (f : HirFunction) (answer : List ℕ) (at : ℕ) (answer′ : List ℕ) (r : ℕ) : Type 0 where
   pub wrote : (s : Sheet) → Describes s sheet f → Wrote (gather effectWords (copied s)) answer at answer′ r
-  pub few : r ≤ at + 2147483648
+  pub few : r ≤ at + length sheet
 
 -- the workspace before the section of effects of s is written
 pub record Before (s : Sheet) (sheet ws : List ℕ) (f : HirFunction) (index : ℕ) : Type 0 where
@@ -56,5 +70,5 @@ pub record EffectsPut (sheet ws : List ℕ) (f : HirFunction) (index : ℕ) (ans
   pub wrote : (s : Sheet) → Before s sheet ws f index → Wrote (section effectWords (summary s)) answer at answer′ r
   pub counts : (s : Sheet) → Before s sheet ws f index → simulatedOf ws′ (f .params + f .context + 1) ≡ map (λ (w : Walk). w .taken) (simulate s .walks)
   pub kept : slice MUTATIONS SIMULATED ws′ ≡ slice MUTATIONS SIMULATED ws
-  pub few : r ≤ at + 4294967296
+  pub few : r ≤ at + mostEffects
   pub same : length ws′ ≡ length ws

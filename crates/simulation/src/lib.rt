@@ -2,17 +2,19 @@
 ghost use mathlib.Core.Path.{_≡_};
 ghost use Prim.Native.Nat.{_+_, _≤_, _<_};
 ghost use Rattle.model.specs.Limits.{mostIdentifiers};
+ghost use lib.ListN.{length};
 ghost use Rattle.model.specs.Sheet.{Sheet};
 ghost use Rattle.model.specs.State.{simulated};
 ghost use Rattle.model.specs.Simulated.{simulation};
 ghost use Rattle.hir.specs.Says.{placeIs};
+ghost use Rattle.hir.specs.Words.{several, blockFrom};
 ghost use Rattle.workspace.specs.Rows.{Indexed};
 ghost use Rattle.workspace.specs.Tracked.{mostTracked};
 ghost use Rattle.aliasing.specs.Says.{modeSays, mutationSays};
 ghost use Rattle.aliasing.specs.Walks.{Callable};
 ghost use Rattle.writing.specs.Wrote.{farthest};
 ghost use Rattle.function.specs.Function.{Limited};
-ghost use Rattle.simulation.specs.Simulates.{Marked, Simulates, CopiedPut, Before, EffectsPut};
+ghost use Rattle.simulation.specs.Simulates.{mostTracked, mostFlows, mostEffects, Marked, Simulates, CopiedPut, Before, EffectsPut};
 use aliasing::Mutation;
 use aliasing::MutationKind;
 use aliasing::clear_marks;
@@ -62,7 +64,7 @@ fn simulate(
 ) -> usize
     requires { ⌜ Indexed (now ws) ⌝ }
     requires { ⌜ ((s : Sheet) × Marked s (now ws) count index (returns .0)) ⌝ }
-    requires { ⌜ (count ≤ mostTracked) × ((index ≤ 4096) × (at + 133128 ≤ farthest)) ⌝ }
+    requires { ⌜ (count ≤ mostTracked) × ((index ≤ 4096) × (at + mostFlows ≤ farthest)) ⌝ }
     ensures { λ r. ⌜ Simulates (now (ws .entry)) count index (returns .0) (now (answer .entry)) at (now (ws .exit)) (now (answer .exit)) r ⌝ }
 {
     clear_marks(ws);
@@ -82,21 +84,13 @@ fn simulate(
 
 // The effects of instructions that are copied: where there is none, no pass over the sheet.
 fn put_copied(sheet: &[u32], f: HirFunction, answer: &mut [u32], at: usize) -> usize
-    requires { ⌜ Limited f ⌝ }
-    requires { ⌜ at + 2147483648 ≤ farthest ⌝ }
+    requires { ⌜ several (f .count) blockFrom (now sheet) (f .blocks .at) .next ≤ length (now sheet) ⌝ }
+    requires { ⌜ at + length (now sheet) ≤ farthest ⌝ }
     ensures { λ r. ⌜ CopiedPut (now (sheet .entry)) f (now (answer .entry)) at (now (answer .exit)) r ⌝ }
 {
     if f.copies {
-        let r = copy_effects(
-            sheet,
-            f.blocks,
-            f.count,
-            f.n,
-            f.m,
-            Section::Effects,
-            answer,
-            at,
-        );
+        let blocks = f.blocks;
+        let r = copy_effects(sheet, blocks.at, f.count, Section::Effects, answer, at);
         return r.at;
     }
     at
@@ -114,17 +108,18 @@ pub fn put_effects(
     requires { ⌜ Limited f ⌝ }
     requires { ⌜ Indexed (now ws) ⌝ }
     requires { ⌜ ((s : Sheet) × Before s (now sheet) (now ws) f index) ⌝ }
-    requires { ⌜ (index ≤ 4096) × (at + 4294967296 ≤ farthest) ⌝ }
+    requires { ⌜ (index ≤ 4096) × (at + mostEffects ≤ farthest) ⌝ }
     ensures { λ r. ⌜ EffectsPut (now (sheet .entry)) (now (ws .entry)) f index (now (answer .entry)) at (now (ws .exit)) (now (answer .exit)) r ⌝ }
 {
     let params = f.params as usize;
     let context = f.context as usize;
     let returns = f.returns;
+    let identifiers = f.identifiers;
     let a1 = put(answer, at, 0);
     let a2 = put_copied(sheet, f, answer, a1);
     let a3 = collect_effects(ws, params, context, answer, a2);
     let a4 = collect_effects(ws, 0, params, answer, a3);
-    let a5 = put_create_returns(sheet, f.identifiers, returns, answer, a4);
+    let a5 = put_create_returns(sheet, identifiers.at, returns, answer, a4);
     mark_tracked(ws, params + context);
     let a6 = simulate(
         ws,

@@ -15,7 +15,9 @@ abbrev μ-loop : tie.MeasureT-loop
 μ-loop sheet ws₀ count renders answer₀ at to₀ i₀ ws answer to i = renders - i
 
 loop-holds : tie.Need-loop-holds Inv-loop μ-loop
-loop-holds c = rendering-start _ _ _ _ _ (c .before .before .before .pre .0)
+loop-holds c =
+    let b3 = c .before .before .before in
+    rendering-start _ _ _ _ _ (b3 .pre .0)
 
 add-w : tie.Need-add-w Inv-loop μ-loop
 add-w c = omega arith
@@ -27,10 +29,17 @@ slice-read-w : tie.Need-slice-read-w Inv-loop μ-loop
 slice-read-w c = omega (arith, c .before .before .loop .inv .indexed .size)
 
 render-requires : tie.Need-render-requires Inv-loop μ-loop
-render-requires c κs = (c .before .before .before .loop .inv .indexed, omega arith)
+render-requires c κs =
+    let b3 = c .before .before .before in
+    (b3 .loop .inv .indexed, omega arith)
 
 put-handed-requires : tie.Need-put-handed-requires Inv-loop μ-loop
-put-handed-requires c κs = ((c .before .before .before .before .before .before .before .before .before .before .before .before .pre .1 .0 .0, (omega (arith, c .before .before .before .before .render .ensures .room), omega (arith, c .before .before .before .before .render .ensures .unmoved .aside .same, c .before .before .before .before .before .before .before .before .loop .inv .indexed .size))), (turn-functions (c .before .before .before .before .before .before .before .before .loop .inv) (c .before .before .before .before .render .ensures) (c .before .before .before .before .before .before .before .before .before .before .before .before .pre .1 .1 .0) (sym (functions-length _ _ _)), omega (arith, c .before .before .before .before .render .ensures .room, c .before .before .before .before .before .before .before .before .loop .inv .few, c .before .before .before .before .before .before .before .loop-test .taken, c .before .before .before .before .before .before .before .before .before .before .before .before .pre .1 .1 .1)))
+put-handed-requires c κs =
+    let b4 = c .before .before .before .before in
+    let b7 = b4 .before .before .before in
+    let b8 = b7 .before in
+    let b12 = b8 .before .before .before .before in
+    ((b12 .pre .1 .0 .0, (omega (arith, b4 .render .ensures .room), omega (arith, b4 .render .ensures .unmoved .aside .same, b8 .loop .inv .indexed .size))), (turn-functions (b8 .loop .inv) (b4 .render .ensures) (b12 .pre .1 .1 .0) (sym (functions-length _ _ _)), omega (arith, b4 .render .ensures .room, b8 .loop .inv .few, b7 .loop-test .taken, b12 .pre .1 .1 .1)))
 
 add-i : tie.Need-add-i Inv-loop μ-loop
 add-i c = omega arith
@@ -39,7 +48,12 @@ loop-less : tie.Need-loop-less Inv-loop μ-loop
 loop-less c = omega arith
 
 loop-again : tie.Need-loop-again Inv-loop μ-loop
-loop-again c = rendering-turn (c .before .before .before .before .before .before .before .before .before .before .before .loop .inv) (c .before .before .before .before .before .before .before .render .ensures) (c .before .before .before .before .before .before .before .before .before .before .before .before .before .before .before .pre .1 .1 .0) (sym (functions-length _ _ _)) (c .before .before .before .before .before .before .before .before .before .before .loop-test .taken) (c .before .before .put-handed .ensures)
+loop-again c =
+    let b7 = c .before .before .before .before .before .before .before in
+    let b10 = b7 .before .before .before in
+    let b11 = b10 .before in
+    let b15 = b11 .before .before .before .before in
+    rendering-turn (b11 .loop .inv) (b7 .render .ensures) (b15 .pre .1 .1 .0) (sym (functions-length _ _ _)) (b10 .loop-test .taken) (c .before .before .put-handed .ensures)
 
 same-length : tie.Need-same-length Inv-loop μ-loop
 same-length c = c .before .loop .inv .unmoved .aside .same

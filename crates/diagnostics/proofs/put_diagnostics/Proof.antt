@@ -9,8 +9,8 @@ use Rattle.diagnostics.proofs.put_diagnostics.Tie as tie
 
 put-requires : tie.Need-put-requires
 put-requires c κs =
-    let b4 = c .before .before .before .before in
-    omega (arith, b4 .pre .1 .1 .1 .1 .1)
+    let b3 = c .before .before .before in
+    let b4 = b3 .before in omega (arith, b4 .pre .1 .1 .1 .1 .1)
 
 put-recorded-requires : tie.Need-put-recorded-requires
 put-recorded-requires c κs =
@@ -21,7 +21,8 @@ put-recorded-requires c κs =
 
 put-handed-requires : tie.Need-put-handed-requires
 put-handed-requires c κs =
-    let b4 = c .before .before .before .before in
+    let b3 = c .before .before .before in
+    let b4 = b3 .before in
     let b8 = b4 .before .before .before .before in
     let b13 = b8 .before .before .before .before .before in
     let k = b13 .pre .1 .1 .0 .1 in
@@ -29,7 +30,8 @@ put-handed-requires c κs =
 
 process-renders-requires : tie.Need-process-renders-requires
 process-renders-requires c κs =
-    let b5 = c .before .before .before .before .before in
+    let b4 = c .before .before .before .before in
+    let b5 = b4 .before in
     let b10 = b5 .before .before .before .before .before in
     let b14 = b10 .before .before .before .before in
     let b19 = b14 .before .before .before .before .before in
@@ -54,43 +56,40 @@ joined c =
 
 sub-patch : tie.Need-sub-patch
 sub-patch c =
-    let b10 = c .before .before .before .before .before .before .before .before .before .before in
+    let b9 = c .before .before .before .before .before .before .before .before .before in
+    let b10 = b9 .before in
     let b14 = b10 .before .before .before .before in
-    let b19 = b14 .before .before .before .before .before in
-    count-least (b19 .pre .1 .1 .0) (b14 .put .ensures) (b10 .put-recorded .ensures) (joined (c .before .before))
+    let b19 = b14 .before .before .before .before .before in count-least (b19 .pre .1 .1 .0) (b14 .put .ensures) (b10 .put-recorded .ensures) (joined (c .before .before))
 
 cast-patch : tie.Need-cast-patch
 cast-patch c =
-    let b10 = c .before .before .before .before .before .before .before .before .before .before in
+    let b9 = c .before .before .before .before .before .before .before .before .before in
+    let b10 = b9 .before in
     let b14 = b10 .before .before .before .before in
-    let b19 = b14 .before .before .before .before .before in
-    omega (arith, b14 .put .ensures .next, section-few (b19 .pre .1 .1 .0) (b14 .put .ensures) (b10 .put-recorded .ensures) (joined (c .before .before)))
+    let b19 = b14 .before .before .before .before .before in omega (arith, b14 .put .ensures .next, section-few (b19 .pre .1 .1 .0) (b14 .put .ensures) (b10 .put-recorded .ensures) (joined (c .before .before)))
 
 patch-requires : tie.Need-patch-requires
 patch-requires c κs = omega arith
 
 same-length : tie.Need-same-length
 same-length c =
-    let b4 = c .before .before .before .before in
-    joined (b4 .before) .unmoved .aside .same
+    let b3 = c .before .before .before in
+    let b4 = b3 .before in joined (b4 .before) .unmoved .aside .same
 
 same-length-2 : tie.Need-same-length-2
 same-length-2 c =
-    let b4 = c .before .before .before .before in
+    let b3 = c .before .before .before in
+    let b4 = b3 .before in
     let b13 = b4 .before .before .before .before .before .before .before .before .before in
-    let b17 = b13 .before .before .before .before in
-    c .before .before .patch .kept .0
-    ∙ joined (b4 .before) .same
-    ∙ b13 .put-recorded .kept .1 .1 .0
-    ∙ b17 .put .kept .0
+    let b17 = b13 .before .before .before .before in c .before .before .patch .kept .0 ∙ joined (b4 .before) .same ∙ b13 .put-recorded .kept .1 .1 .0 ∙ b17 .put .kept .0
 
 returns : tie.Need-returns
 returns c =
-    let b4 = c .before .before .before .before in
+    let b3 = c .before .before .before in
+    let b4 = b3 .before in
     let b13 = b4 .before .before .before .before .before .before .before .before .before in
     let b17 = b13 .before .before .before .before in
-    let b22 = b17 .before .before .before .before .before in
-    diagnostics-put (b22 .pre .1 .1 .0) (b17 .put .ensures) (b13 .put-recorded .ensures) (joined (b4 .before)) (c .before .before .patch .ensures)
+    let b22 = b17 .before .before .before .before .before in diagnostics-put (b22 .pre .1 .1 .0) (b17 .put .ensures) (b13 .put-recorded .ensures) (joined (b4 .before)) (c .before .before .patch .ensures)
 
 pub put-diagnostics-spec : {M : Type 1} → statement M
 put-diagnostics-spec =

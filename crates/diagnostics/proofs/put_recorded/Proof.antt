@@ -10,7 +10,10 @@ same-length : tie.Need-same-length
 same-length c = search needs
 
 returns : tie.Need-returns
-returns c = recorded-put _ _ _ _ (c .before .before .before .before .before .if1 .taken) (c .before .before .before .before .before .before .before .before .before .pre .0) (c .before .before .copy-effects .ensures)
+returns c =
+    let b5 = c .before .before .before .before .before in
+    let b9 = b5 .before .before .before .before in
+    recorded-put _ _ _ _ (b5 .if1 .taken) (b9 .pre .0) (c .before .before .copy-effects .ensures)
 
 returns-2 : tie.Need-returns-2
 returns-2 c = recorded-not _ _ _ _ (c .if1 .left)

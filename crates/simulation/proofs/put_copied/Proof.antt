@@ -1,18 +1,18 @@
 use Rattle.simulation.proofs.Written.{copied-put, copied-not}
-use native.Mathlib.Omega.{arith}
+use borrow.Author.Needs.{needs}
 use Rattle.simulation.proofs.put_copied.Statement.{statement}
 use Rattle.simulation.proofs.put_copied.Tie as tie
 
 copy-effects-requires : tie.Need-copy-effects-requires
-copy-effects-requires c κs =
-    let b4 = c .before .before .before .before in
-    (b4 .pre .0 .count, omega (arith, b4 .pre .1))
+copy-effects-requires c κs = search needs
 
 same-length : tie.Need-same-length
-same-length c = c .before .before .copy-effects .kept .1 .1 .1 .1 .1 .1 .0
+same-length c = search needs
 
 returns : tie.Need-returns
-returns c = copied-put _ _ _ _ (c .before .before .copy-effects .ensures)
+returns c =
+    let b8 = c .before .before .before .before .before .before .before .before in
+    copied-put _ _ _ _ (b8 .pre .0) (c .before .before .copy-effects .ensures)
 
 returns-2 : tie.Need-returns-2
 returns-2 c = copied-not _ _ _ _ (c .if1 .left)

@@ -1,6 +1,7 @@
 use native.Mathlib.Omega.{arith}
 use mathlib.Core.Path.{_∙_}
-use Rattle.simulation.proofs.Written.{indexed-after, after-context, after-params, after-returns, some-marked, rises, count-fits, effects-put}
+use Rattle.function.proofs.Described.{blocks-inside, returns-inside}
+use Rattle.simulation.proofs.Written.{indexed-after, after-context, after-params, after-returns, some-marked, after-walks, rises, effects-put}
 use borrow.Author.Needs.{needs}
 use Rattle.simulation.proofs.put_effects.Statement.{statement}
 use Rattle.simulation.proofs.put_effects.Tie as tie
@@ -17,29 +18,29 @@ cast-context c =
 
 put-requires : tie.Need-put-requires
 put-requires c κs =
-    let b7 = c .before .before .before .before .before .before .before in
-    omega (arith, b7 .pre .1 .1 .1)
+    let b8 = c .before .before .before .before .before .before .before .before in
+    omega (arith, b8 .pre .1 .1 .1)
 
 put-copied-requires : tie.Need-put-copied-requires
 put-copied-requires c κs =
     let b3 = c .before .before .before in
-    let b11 = b3 .before .before .before .before .before .before .before .before in
-    (b11 .pre .0, omega (arith, b11 .pre .1 .1 .1, b3 .put .ensures .next))
+    let b12 = b3 .before .before .before .before .before .before .before .before .before in
+    (blocks-inside (b12 .pre .1 .1 .0 .1 .describes), omega (arith, b3 .put .ensures .next, b12 .pre .1 .1 .0 .1 .describes .short, b12 .pre .1 .1 .1))
 
 collect-effects-requires : tie.Need-collect-effects-requires
 collect-effects-requires c κs =
     let b4 = c .before .before .before .before in
     let b8 = b4 .before .before .before .before in
-    let b16 = b8 .before .before .before .before .before .before .before .before in
-    ((omega (arith, b16 .pre .0 .params, b16 .pre .0 .context), b16 .pre .1 .0 .size), omega (arith, b16 .pre .1 .1 .1, b16 .pre .0 .context, b8 .put .ensures .next, b4 .put-copied .ensures .few))
+    let b17 = b8 .before .before .before .before .before .before .before .before .before in
+    ((omega (arith, b17 .pre .0 .params, b17 .pre .0 .context), b17 .pre .1 .0 .size), omega (arith, b17 .pre .1 .1 .1, b17 .pre .1 .1 .0 .1 .describes .short, b17 .pre .0 .context, b8 .put .ensures .next, b4 .put-copied .ensures .few))
 
 collect-effects-requires-2 : tie.Need-collect-effects-requires-2
 collect-effects-requires-2 c κs =
     let b4 = c .before .before .before .before in
     let b9 = b4 .before .before .before .before .before in
     let b13 = b9 .before .before .before .before in
-    let b21 = b13 .before .before .before .before .before .before .before .before in
-    ((omega (arith, b21 .pre .0 .params), b21 .pre .1 .0 .size), omega (arith, b21 .pre .1 .1 .1, b21 .pre .0 .params, after-context _ _ _ (b21 .args .index) (b21 .pre .0) (b13 .put .ensures) (b9 .put-copied .ensures) (b4 .collect-effects .ensures)))
+    let b22 = b13 .before .before .before .before .before .before .before .before .before in
+    ((omega (arith, b22 .pre .0 .params), b22 .pre .1 .0 .size), omega (arith, b22 .pre .1 .1 .1, b22 .pre .1 .1 .0 .1 .describes .short, b22 .pre .0 .params, after-context _ _ _ (b22 .args .index) (b22 .pre .0) (b13 .put .ensures) (b9 .put-copied .ensures) (b4 .collect-effects .ensures)))
 
 put-create-returns-requires : tie.Need-put-create-returns-requires
 put-create-returns-requires c κs =
@@ -47,28 +48,28 @@ put-create-returns-requires c κs =
     let b8 = b3 .before .before .before .before .before in
     let b13 = b8 .before .before .before .before .before in
     let b17 = b13 .before .before .before .before in
-    let b25 = b17 .before .before .before .before .before .before .before .before in
-    omega (arith, b25 .pre .1 .1 .1, after-params _ _ _ (b25 .args .index) (b25 .pre .0) (b17 .put .ensures) (b13 .put-copied .ensures) (b8 .collect-effects .ensures) (b3 .collect-effects2 .ensures))
+    let b26 = b17 .before .before .before .before .before .before .before .before .before in
+    (returns-inside (b26 .pre .1 .1 .0 .1 .describes) (b26 .pre .0), omega (arith, b26 .pre .1 .1 .1, b26 .pre .1 .1 .0 .1 .describes .short, after-params _ _ _ (b26 .args .index) (b26 .pre .0) (b17 .put .ensures) (b13 .put-copied .ensures) (b8 .collect-effects .ensures) (b3 .collect-effects2 .ensures)))
 
 add-mark-tracked : tie.Need-add-mark-tracked
 add-mark-tracked c =
-    let b29 = c .before .before .before .before .before .before .before .before .before .before .before .before .before .before .before .before .before .before .before .before .before .before .before .before .before .before .before .before .before in
-    omega (arith, b29 .pre .0 .params, b29 .pre .0 .context)
+    let b30 = c .before .before .before .before .before .before .before .before .before .before .before .before .before .before .before .before .before .before .before .before .before .before .before .before .before .before .before .before .before .before in
+    omega (arith, b30 .pre .0 .params, b30 .pre .0 .context)
 
 mark-tracked-requires : tie.Need-mark-tracked-requires
 mark-tracked-requires c κs =
-    let b29 = c .before .before .before .before .before .before .before .before .before .before .before .before .before .before .before .before .before .before .before .before .before .before .before .before .before .before .before .before .before in
-    (omega (arith, b29 .pre .0 .params, b29 .pre .0 .context), b29 .pre .1 .0 .size)
+    let b30 = c .before .before .before .before .before .before .before .before .before .before .before .before .before .before .before .before .before .before .before .before .before .before .before .before .before .before .before .before .before .before in
+    (omega (arith, b30 .pre .0 .params, b30 .pre .0 .context), b30 .pre .1 .0 .size)
 
 add-simulate : tie.Need-add-simulate
 add-simulate c =
-    let b33 = c .before .before .before .before .before .before .before .before .before .before .before .before .before .before .before .before .before .before .before .before .before .before .before .before .before .before .before .before .before .before .before .before .before in
-    omega (arith, b33 .pre .0 .params, b33 .pre .0 .context)
+    let b34 = c .before .before .before .before .before .before .before .before .before .before .before .before .before .before .before .before .before .before .before .before .before .before .before .before .before .before .before .before .before .before .before .before .before .before in
+    omega (arith, b34 .pre .0 .params, b34 .pre .0 .context)
 
 add-simulate-2 : tie.Need-add-simulate-2
 add-simulate-2 c =
-    let b33 = c .before .before .before .before .before .before .before .before .before .before .before .before .before .before .before .before .before .before .before .before .before .before .before .before .before .before .before .before .before .before .before .before .before in
-    omega (arith, b33 .pre .0 .params, b33 .pre .0 .context)
+    let b34 = c .before .before .before .before .before .before .before .before .before .before .before .before .before .before .before .before .before .before .before .before .before .before .before .before .before .before .before .before .before .before .before .before .before .before in
+    omega (arith, b34 .pre .0 .params, b34 .pre .0 .context)
 
 simulate-requires : tie.Need-simulate-requires
 simulate-requires c κs =
@@ -78,8 +79,8 @@ simulate-requires c κs =
     let b17 = b12 .before .before .before .before .before in
     let b22 = b17 .before .before .before .before .before in
     let b26 = b22 .before .before .before .before in
-    let b34 = b26 .before .before .before .before .before .before .before .before in
-    (indexed-after (b34 .pre .1 .0) (b4 .mark-tracked .ensures), (some-marked _ _ _ _ (b34 .pre .0) (b26 .put .ensures) (b22 .put-copied .ensures) (b17 .collect-effects .ensures) (b12 .collect-effects2 .ensures) (b34 .pre .1 .1 .0) (b8 .put-create-returns .ensures) (b4 .mark-tracked .ensures), (omega (arith, b34 .pre .0 .params, b34 .pre .0 .context), (b34 .pre .1 .1 .1 .0, omega (arith, b34 .pre .1 .1 .1, after-returns _ _ _ _ (b34 .pre .0) (b26 .put .ensures) (b22 .put-copied .ensures) (b17 .collect-effects .ensures) (b12 .collect-effects2 .ensures) (b34 .pre .1 .1 .0) (b8 .put-create-returns .ensures))))))
+    let b35 = b26 .before .before .before .before .before .before .before .before .before in
+    (indexed-after (b35 .pre .1 .0) (b4 .mark-tracked .ensures), (some-marked _ _ _ _ (b35 .pre .0) (b26 .put .ensures) (b22 .put-copied .ensures) (b17 .collect-effects .ensures) (b12 .collect-effects2 .ensures) (b35 .pre .1 .1 .0) (b8 .put-create-returns .ensures) (b4 .mark-tracked .ensures), (omega (arith, b35 .pre .0 .params, b35 .pre .0 .context), (b35 .pre .1 .1 .1 .0, omega (arith, b35 .pre .1 .1 .1, after-returns _ _ _ _ (b35 .pre .0) (b26 .put .ensures) (b22 .put-copied .ensures) (b17 .collect-effects .ensures) (b12 .collect-effects2 .ensures) (b35 .pre .1 .1 .0) (b8 .put-create-returns .ensures))))))
 
 sub-patch : tie.Need-sub-patch
 sub-patch c =
@@ -90,8 +91,8 @@ sub-patch c =
     let b23 = b18 .before .before .before .before .before in
     let b28 = b23 .before .before .before .before .before in
     let b32 = b28 .before .before .before .before in
-    let b40 = b32 .before .before .before .before .before .before .before .before in
-    rises _ _ _ _ (b40 .pre .0) (b32 .put .ensures) (b28 .put-copied .ensures) (b23 .collect-effects .ensures) (b18 .collect-effects2 .ensures) (b40 .pre .1 .1 .0) (b14 .put-create-returns .ensures) (b10 .mark-tracked .ensures) (b5 .simulate .ensures)
+    let b41 = b32 .before .before .before .before .before .before .before .before .before in
+    rises _ _ _ _ (b41 .pre .0) (b32 .put .ensures) (b28 .put-copied .ensures) (b23 .collect-effects .ensures) (b18 .collect-effects2 .ensures) (b41 .pre .1 .1 .0) (b14 .put-create-returns .ensures) (b10 .mark-tracked .ensures) (b5 .simulate .ensures)
 
 cast-patch : tie.Need-cast-patch
 cast-patch c =
@@ -102,8 +103,8 @@ cast-patch c =
     let b23 = b18 .before .before .before .before .before in
     let b28 = b23 .before .before .before .before .before in
     let b32 = b28 .before .before .before .before in
-    let b40 = b32 .before .before .before .before .before .before .before .before in
-    omega (arith, count-fits _ _ _ _ (b40 .pre .0) (b32 .put .ensures) (b28 .put-copied .ensures) (b23 .collect-effects .ensures) (b18 .collect-effects2 .ensures) (b40 .pre .1 .1 .0) (b14 .put-create-returns .ensures) (b10 .mark-tracked .ensures) (b5 .simulate .ensures))
+    let b41 = b32 .before .before .before .before .before .before .before .before .before in
+    omega (arith, b32 .put .ensures .next, after-walks _ _ _ _ (b41 .pre .0) (b32 .put .ensures) (b28 .put-copied .ensures) (b23 .collect-effects .ensures) (b18 .collect-effects2 .ensures) (b41 .pre .1 .1 .0) (b14 .put-create-returns .ensures) (b10 .mark-tracked .ensures) (b5 .simulate .ensures))
 
 patch-requires : tie.Need-patch-requires
 patch-requires c κs = search needs
@@ -139,8 +140,8 @@ returns c =
     let b26 = b21 .before .before .before .before .before in
     let b31 = b26 .before .before .before .before .before in
     let b35 = b31 .before .before .before .before in
-    let b43 = b35 .before .before .before .before .before .before .before .before in
-    effects-put _ _ _ _ (b43 .pre .0) (b35 .put .ensures) (b31 .put-copied .ensures) (b26 .collect-effects .ensures) (b21 .collect-effects2 .ensures) (b43 .pre .1 .1 .0) (b17 .put-create-returns .ensures) (b13 .mark-tracked .ensures) (b8 .simulate .ensures) (c .before .before .patch .ensures)
+    let b44 = b35 .before .before .before .before .before .before .before .before .before in
+    effects-put _ _ _ _ (b44 .pre .0) (b35 .put .ensures) (b31 .put-copied .ensures) (b26 .collect-effects .ensures) (b21 .collect-effects2 .ensures) (b44 .pre .1 .1 .0) (b17 .put-create-returns .ensures) (b13 .mark-tracked .ensures) (b8 .simulate .ensures) (c .before .before .patch .ensures)
 
 pub put-effects-spec : {M : Type 1} → statement M
 put-effects-spec =

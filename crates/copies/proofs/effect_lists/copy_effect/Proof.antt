@@ -15,7 +15,9 @@ takes-requires : tie.Need-takes-requires
 takes-requires c κs = search needs
 
 returns : tie.Need-returns
-returns c = effect-left _ _ _ (c .before .before .before .effect-at .ensures) (c .before .before .role-of .ensures) (c .before .takes .ensures) (c .if1 .taken) _ _
+returns c =
+    let b3 = c .before .before .before in
+    effect-left _ _ _ (b3 .effect-at .ensures) (c .before .before .role-of .ensures) (c .before .takes .ensures) (c .if1 .taken) _ _
 
 enum-told : tie.Need-enum-told
 enum-told c = search needs
@@ -33,13 +35,25 @@ same-length : tie.Need-same-length
 same-length c = search needs
 
 returns-2 : tie.Need-returns-2
-returns-2 c = effect-taken _ _ _ (c .before .before .before .before .before .before .before .before .before .effect-at .ensures) (c .before .before .before .before .before .before .before .before .role-of .ensures) (c .before .before .before .before .before .before .before .takes .ensures) (c .before .before .before .before .before .before .if1 .left) Diagnostics (c .before .before .before .before .enum-told .given .1) (c .before .before .put .ensures) (omega arith)
+returns-2 c =
+    let b4 = c .before .before .before .before in
+    let b6 = b4 .before .before in
+    let b7 = b6 .before in
+    let b8 = b7 .before in
+    let b9 = b8 .before in
+    effect-taken _ _ _ (b9 .effect-at .ensures) (b8 .role-of .ensures) (b7 .takes .ensures) (b6 .if1 .left) Diagnostics (b4 .enum-told .given .1) (c .before .before .put .ensures) (omega arith)
 
 same-length-2 : tie.Need-same-length-2
 same-length-2 c = search needs
 
 returns-3 : tie.Need-returns-3
-returns-3 c = effect-taken _ _ _ (c .before .before .before .before .before .before .before .before .before .effect-at .ensures) (c .before .before .before .before .before .before .before .before .role-of .ensures) (c .before .before .before .before .before .before .before .takes .ensures) (c .before .before .before .before .before .before .if1 .left) Effects (c .before .before .before .before .enum-told2 .given .1) (c .before .before .put-effect .ensures) (omega arith)
+returns-3 c =
+    let b4 = c .before .before .before .before in
+    let b6 = b4 .before .before in
+    let b7 = b6 .before in
+    let b8 = b7 .before in
+    let b9 = b8 .before in
+    effect-taken _ _ _ (b9 .effect-at .ensures) (b8 .role-of .ensures) (b7 .takes .ensures) (b6 .if1 .left) Effects (b4 .enum-told2 .given .1) (c .before .before .put-effect .ensures) (omega arith)
 
 pub copy-effect-spec : {M : Type 1} → statement M
 copy-effect-spec =

@@ -17,7 +17,9 @@ loop-holds : tie.Need-loop-holds Inv-loop μ-loop
 loop-holds c = copying-start _ _ _ _ _ _ _
 
 copy-block-requires : tie.Need-copy-block-requires Inv-loop μ-loop
-copy-block-requires c κs = (copying-inside _ _ _ (c .before .before .loop .inv) block-follows (c .before .loop-test .taken) (c .before .before .before .before .before .pre .0), omega (arith, c .before .before .loop .inv .few, c .before .before .before .before .before .pre .1))
+copy-block-requires c κs =
+    let b5 = c .before .before .before .before .before in
+    (copying-inside _ _ _ (c .before .before .loop .inv) block-follows (c .before .loop-test .taken) (b5 .pre .0), omega (arith, c .before .before .loop .inv .few, b5 .pre .1))
 
 sub-left : tie.Need-sub-left Inv-loop μ-loop
 sub-left c = omega arith
@@ -26,7 +28,10 @@ loop-less : tie.Need-loop-less Inv-loop μ-loop
 loop-less c = omega arith
 
 loop-again : tie.Need-loop-again Inv-loop μ-loop
-loop-again c = copying-turn _ _ _ (c .before .before .before .before .before .loop .inv) (c .before .before .before .before .loop-test .taken) (c .before .before .copy-block .ensures)
+loop-again c =
+    let b4 = c .before .before .before .before in
+    let b5 = b4 .before in
+    copying-turn _ _ _ (b5 .loop .inv) (b4 .loop-test .taken) (c .before .before .copy-block .ensures)
 
 same-length : tie.Need-same-length Inv-loop μ-loop
 same-length c = leaves-same (c .before .loop .inv .leaves)

@@ -9,13 +9,17 @@ instruction-at-requires : tie.Need-instruction-at-requires
 instruction-at-requires c κs = omega (arith, instruction-rises (c .before .before .args .sheet .now) (c .before .before .args .from), c .before .before .pre .0)
 
 copy-list-requires : tie.Need-copy-list-requires
-copy-list-requires c κs = (effects-inside (c .before .instruction-at .ensures) (c .before .before .before .before .pre .0), omega (arith, c .before .instruction-at .ensures .effects .first, c .before .before .before .before .pre .1))
+copy-list-requires c κs =
+    let b4 = c .before .before .before .before in
+    (effects-inside (c .before .instruction-at .ensures) (b4 .pre .0), omega (arith, c .before .instruction-at .ensures .effects .first, b4 .pre .1))
 
 same-length : tie.Need-same-length
 same-length c = search needs
 
 returns : tie.Need-returns
-returns c = copies-instruction (c .before .before .before .before .instruction-at .ensures) _ (c .before .before .copy-list .ensures)
+returns c =
+    let b4 = c .before .before .before .before in
+    copies-instruction (b4 .instruction-at .ensures) _ (c .before .before .copy-list .ensures)
 
 pub copy-instruction-spec : {M : Type 1} → statement M
 copy-instruction-spec =

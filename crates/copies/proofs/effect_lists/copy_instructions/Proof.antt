@@ -21,7 +21,10 @@ loop-holds : tie.Need-loop-holds Inv-loop μ-loop
 loop-holds c = copying-start _ _ _ _ _ _ _
 
 copy-instruction-requires : tie.Need-copy-instruction-requires Inv-loop μ-loop
-copy-instruction-requires c κs = (copying-inside _ _ _ (c .before .before .loop .inv) instruction-follows (c .before .loop-test .taken) (list-inside instructionFrom _ _ (c .before .before .before .list-at .ensures) (c .before .before .before .before .before .before .pre .0)), omega (arith, c .before .before .loop .inv .few, c .before .before .before .list-at .ensures .first, c .before .before .before .before .before .before .pre .1))
+copy-instruction-requires c κs =
+    let b3 = c .before .before .before in
+    let b6 = b3 .before .before .before in
+    (copying-inside _ _ _ (c .before .before .loop .inv) instruction-follows (c .before .loop-test .taken) (list-inside instructionFrom _ _ (b3 .list-at .ensures) (b6 .pre .0)), omega (arith, c .before .before .loop .inv .few, b3 .list-at .ensures .first, b6 .pre .1))
 
 sub-left : tie.Need-sub-left Inv-loop μ-loop
 sub-left c = omega arith
@@ -30,7 +33,10 @@ loop-less : tie.Need-loop-less Inv-loop μ-loop
 loop-less c = omega arith
 
 loop-again : tie.Need-loop-again Inv-loop μ-loop
-loop-again c = copying-turn _ _ _ (c .before .before .before .before .before .loop .inv) (c .before .before .before .before .loop-test .taken) (c .before .before .copy-instruction .ensures)
+loop-again c =
+    let b4 = c .before .before .before .before in
+    let b5 = b4 .before in
+    copying-turn _ _ _ (b5 .loop .inv) (b4 .loop-test .taken) (c .before .before .copy-instruction .ensures)
 
 same-length : tie.Need-same-length Inv-loop μ-loop
 same-length c = leaves-same (c .before .loop .inv .leaves)

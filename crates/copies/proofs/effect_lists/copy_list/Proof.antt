@@ -17,10 +17,16 @@ loop-holds : tie.Need-loop-holds Inv-loop μ-loop
 loop-holds c = copying-start _ _ _ _ _ _ _
 
 copy-effect-requires : tie.Need-copy-effect-requires Inv-loop μ-loop
-copy-effect-requires c κs = (copying-inside _ _ _ (c .before .before .loop .inv) (wide-rises effectWidth effectAt) (c .before .loop-test .taken) (c .before .before .before .before .before .pre .0), omega (arith, c .before .before .loop .inv .few, c .before .before .before .before .before .pre .1))
+copy-effect-requires c κs =
+    let b5 = c .before .before .before .before .before in
+    (copying-inside _ _ _ (c .before .before .loop .inv) (wide-rises effectWidth effectAt) (c .before .loop-test .taken) (b5 .pre .0), omega (arith, c .before .before .loop .inv .few, b5 .pre .1))
 
 add-next : tie.Need-add-next Inv-loop μ-loop
-add-next c = omega (arith, copying-inside _ _ _ (c .before .before .before .before .before .loop .inv) (wide-rises effectWidth effectAt) (c .before .before .before .before .loop-test .taken) (c .before .before .before .before .before .before .before .before .pre .0))
+add-next c =
+    let b4 = c .before .before .before .before in
+    let b5 = b4 .before in
+    let b8 = b5 .before .before .before in
+    omega (arith, copying-inside _ _ _ (b5 .loop .inv) (wide-rises effectWidth effectAt) (b4 .loop-test .taken) (b8 .pre .0))
 
 sub-left : tie.Need-sub-left Inv-loop μ-loop
 sub-left c = omega arith
@@ -29,7 +35,10 @@ loop-less : tie.Need-loop-less Inv-loop μ-loop
 loop-less c = omega arith
 
 loop-again : tie.Need-loop-again Inv-loop μ-loop
-loop-again c = copying-turn _ _ _ (c .before .before .before .before .before .loop .inv) (c .before .before .before .before .loop-test .taken) (c .before .before .copy-effect .ensures)
+loop-again c =
+    let b4 = c .before .before .before .before in
+    let b5 = b4 .before in
+    copying-turn _ _ _ (b5 .loop .inv) (b4 .loop-test .taken) (c .before .before .copy-effect .ensures)
 
 same-length : tie.Need-same-length Inv-loop μ-loop
 same-length c = leaves-same (c .before .loop .inv .leaves)

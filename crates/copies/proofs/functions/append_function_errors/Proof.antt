@@ -22,19 +22,30 @@ shared-slice-read-start : tie.Need-shared-slice-read-start
 shared-slice-read-start c = search needs
 
 cast-start : tie.Need-cast-start
-cast-start c = omega (arith, c .shared-slice-known3 .given (FUNCTIONS + c .before .before .before .before .before .before .before .args .function .0))
+cast-start c =
+    let b7 = c .before .before .before .before .before .before .before in
+    omega (arith, c .shared-slice-known3 .given (FUNCTIONS + b7 .args .function .0))
 
 list-at-requires : tie.Need-list-at-requires
-list-at-requires c κs = errors-begin (c .before .before .before .before .before .before .before .pre .1 .0) (c .before .before .if1 .left)
+list-at-requires c κs =
+    let b7 = c .before .before .before .before .before .before .before in
+    errors-begin (b7 .pre .1 .0) (c .before .before .if1 .left)
 
 copy-diagnostics-requires : tie.Need-copy-diagnostics-requires
-copy-diagnostics-requires c κs = (errors-inside (c .before .before .before .before .before .before .before .before .before .pre .1 .0) (c .before .before .before .before .if1 .left) (c .before .list-at .ensures), omega (arith, errors-room (c .before .before .before .before .before .before .before .before .before .pre .1 .0) (c .before .before .before .before .if1 .left) (c .before .list-at .ensures), c .before .before .before .before .before .before .before .before .before .pre .1 .1))
+copy-diagnostics-requires c κs =
+    let b4 = c .before .before .before .before in
+    let b9 = b4 .before .before .before .before .before in
+    (errors-inside (b9 .pre .1 .0) (b4 .if1 .left) (c .before .list-at .ensures), omega (arith, errors-room (b9 .pre .1 .0) (b4 .if1 .left) (c .before .list-at .ensures), b9 .pre .1 .1))
 
 same-length : tie.Need-same-length
 same-length c = search needs
 
 returns-2 : tie.Need-returns-2
-returns-2 c = errors-wrote (c .before .before .before .before .before .before .before .before .before .before .before .before .pre .1 .0) (c .before .before .before .before .before .before .before .if1 .left) (c .before .before .before .before .list-at .ensures) (c .before .before .copy-diagnostics .ensures)
+returns-2 c =
+    let b4 = c .before .before .before .before in
+    let b7 = b4 .before .before .before in
+    let b12 = b7 .before .before .before .before .before in
+    errors-wrote (b12 .pre .1 .0) (b7 .if1 .left) (b4 .list-at .ensures) (c .before .before .copy-diagnostics .ensures)
 
 pub append-function-errors-spec : {M : Type 1} → statement M
 append-function-errors-spec =

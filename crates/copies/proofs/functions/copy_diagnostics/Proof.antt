@@ -18,13 +18,22 @@ loop-holds : tie.Need-loop-holds Inv-loop μ-loop
 loop-holds c = copying-start _ _ _ _ _ _ _
 
 diagnostic-at-requires : tie.Need-diagnostic-at-requires Inv-loop μ-loop
-diagnostic-at-requires c κs = copying-inside _ _ _ (c .before .loop .inv) (wide-rises diagnosticWidth diagnosticAt) (c .loop-test .taken) (c .before .before .before .before .pre .0)
+diagnostic-at-requires c κs =
+    let b4 = c .before .before .before .before in
+    copying-inside _ _ _ (c .before .loop .inv) (wide-rises diagnosticWidth diagnosticAt) (c .loop-test .taken) (b4 .pre .0)
 
 put-requires : tie.Need-put-requires Inv-loop μ-loop
-put-requires c κs = omega (arith, diagnostics-room (c .before .before .before .loop .inv), c .before .before .loop-test .taken, c .before .before .before .before .before .before .pre .1)
+put-requires c κs =
+    let b3 = c .before .before .before in
+    let b6 = b3 .before .before .before in
+    omega (arith, diagnostics-room (b3 .loop .inv), c .before .before .loop-test .taken, b6 .pre .1)
 
 add-next : tie.Need-add-next Inv-loop μ-loop
-add-next c = omega (arith, copying-inside _ _ _ (c .before .before .before .before .before .before .loop .inv) (wide-rises diagnosticWidth diagnosticAt) (c .before .before .before .before .before .loop-test .taken) (c .before .before .before .before .before .before .before .before .before .pre .0))
+add-next c =
+    let b5 = c .before .before .before .before .before in
+    let b6 = b5 .before in
+    let b9 = b6 .before .before .before in
+    omega (arith, copying-inside _ _ _ (b6 .loop .inv) (wide-rises diagnosticWidth diagnosticAt) (b5 .loop-test .taken) (b9 .pre .0))
 
 sub-left : tie.Need-sub-left Inv-loop μ-loop
 sub-left c = omega arith
@@ -33,7 +42,11 @@ loop-less : tie.Need-loop-less Inv-loop μ-loop
 loop-less c = omega arith
 
 loop-again : tie.Need-loop-again Inv-loop μ-loop
-loop-again c = copying-turn _ _ _ (c .before .before .before .before .before .before .loop .inv) (c .before .before .before .before .before .loop-test .taken) (copies-diagnostic (c .before .before .before .before .diagnostic-at .ensures) (c .before .before .put .ensures))
+loop-again c =
+    let b4 = c .before .before .before .before in
+    let b5 = b4 .before in
+    let b6 = b5 .before in
+    copying-turn _ _ _ (b6 .loop .inv) (b5 .loop-test .taken) (copies-diagnostic (b4 .diagnostic-at .ensures) (c .before .before .put .ensures))
 
 same-length : tie.Need-same-length Inv-loop μ-loop
 same-length c = leaves-same (c .before .loop .inv .leaves)

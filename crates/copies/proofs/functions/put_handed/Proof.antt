@@ -19,10 +19,15 @@ mul-t11 : tie.Need-mul-t11 Inv-loop μ-loop
 mul-t11 c = omega arith
 
 shared-slice-read-t13 : tie.Need-shared-slice-read-t13 Inv-loop μ-loop
-shared-slice-read-t13 c = omega (arith, c .before .before .before .before .before .before .pre .0)
+shared-slice-read-t13 c =
+    let b6 = c .before .before .before .before .before .before in
+    omega (arith, b6 .pre .0)
 
 append-function-errors-requires : tie.Need-append-function-errors-requires Inv-loop μ-loop
-append-function-errors-requires c κs = ((c .before .before .before .before .before .before .before .pre .0 .0, c .before .before .before .before .before .before .before .pre .0 .1 .1), (c .before .before .before .before .before .before .before .pre .1 .0, omega (arith, c .before .before .before .loop .inv .few, c .before .before .loop-test .taken, c .before .before .before .before .before .before .before .pre .1 .1)))
+append-function-errors-requires c κs =
+    let b3 = c .before .before .before in
+    let b7 = b3 .before .before .before .before in
+    ((b7 .pre .0 .0, b7 .pre .0 .1 .1), (b7 .pre .1 .0, omega (arith, b3 .loop .inv .few, c .before .before .loop-test .taken, b7 .pre .1 .1)))
 
 add-i : tie.Need-add-i Inv-loop μ-loop
 add-i c = omega arith
@@ -31,7 +36,11 @@ loop-less : tie.Need-loop-less Inv-loop μ-loop
 loop-less c = omega arith
 
 loop-again : tie.Need-loop-again Inv-loop μ-loop
-loop-again c = handing-turn (c .before .before .before .before .before .before .loop .inv) (c .before .before .before .before .before .before .before .before .before .before .pre .1 .0) (c .before .before .before .before .before .loop-test .taken) (omega (arith, c .before .before .before .before .before .before .before .before .before .before .pre .0)) (c .before .before .append-function-errors .ensures)
+loop-again c =
+    let b5 = c .before .before .before .before .before in
+    let b6 = b5 .before in
+    let b10 = b6 .before .before .before .before in
+    handing-turn (b6 .loop .inv) (b10 .pre .1 .0) (b5 .loop-test .taken) (omega (arith, b10 .pre .0)) (c .before .before .append-function-errors .ensures)
 
 same-length : tie.Need-same-length Inv-loop μ-loop
 same-length c = leaves-same (c .before .loop .inv .leaves)

@@ -18,7 +18,9 @@ mul-result : tie.Need-mul-result
 mul-result c = search needs
 
 add-result : tie.Need-add-result
-add-result c = omega (arith, phi-past (c .before .before .before .before .args .sheet .now) (c .before .before .before .before .args .from) (c .before .before .list-at .ensures), c .before .before .before .before .pre)
+add-result c =
+    let b4 = c .before .before .before .before in
+    omega (arith, phi-past (b4 .args .sheet .now) (b4 .args .from) (c .before .before .list-at .ensures), b4 .pre)
 
 returns : tie.Need-returns
 returns c = phi-past _ _ (c .before .before .list-at .ensures)

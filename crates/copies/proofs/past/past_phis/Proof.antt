@@ -18,7 +18,9 @@ loop-holds : tie.Need-loop-holds Inv-loop μ-loop
 loop-holds c = phis-start _ _ (c .list-at .ensures)
 
 past-phi-requires : tie.Need-past-phi-requires Inv-loop μ-loop
-past-phi-requires c κs = phis-inside _ _ _ (c .before .loop .inv) (c .loop-test .taken) (c .before .before .before .before .pre)
+past-phi-requires c κs =
+    let b4 = c .before .before .before .before in
+    phis-inside _ _ _ (c .before .loop .inv) (c .loop-test .taken) (b4 .pre)
 
 sub-left : tie.Need-sub-left Inv-loop μ-loop
 sub-left c = omega arith

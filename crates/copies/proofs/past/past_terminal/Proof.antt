@@ -20,7 +20,11 @@ mul-result : tie.Need-mul-result
 mul-result c = search needs
 
 add-result : tie.Need-add-result
-add-result c = omega (arith, return-past (c .before .before .before .before .before .before .before .args .sheet .now) (c .before .before .before .before .before .before .before .args .from) (c .before .before .before .before .before .terminal-at .ensures) (c .before .before .before .effects .given .1), c .before .before .before .before .before .before .before .pre)
+add-result c =
+    let b3 = c .before .before .before in
+    let b5 = b3 .before .before in
+    let b7 = b5 .before .before in
+    omega (arith, return-past (b7 .args .sheet .now) (b7 .args .from) (b5 .terminal-at .ensures) (b3 .effects .given .1), b7 .pre)
 
 enum-known-effects-2 : tie.Need-enum-known-effects-2
 enum-known-effects-2 c = search needs
@@ -32,16 +36,28 @@ mul-result-2 : tie.Need-mul-result-2
 mul-result-2 c = search needs
 
 add-result-2 : tie.Need-add-result-2
-add-result-2 c = omega (arith, throw-past (c .before .before .before .before .before .before .before .args .sheet .now) (c .before .before .before .before .before .before .before .args .from) (c .before .before .before .before .before .terminal-at .ensures) (c .before .before .before .effects2 .given .1), c .before .before .before .before .before .before .before .pre)
+add-result-2 c =
+    let b3 = c .before .before .before in
+    let b5 = b3 .before .before in
+    let b7 = b5 .before .before in
+    omega (arith, throw-past (b7 .args .sheet .now) (b7 .args .from) (b5 .terminal-at .ensures) (b3 .effects2 .given .1), b7 .pre)
 
 returns : tie.Need-returns
-returns c = other-past _ _ (c .before .before .before .terminal-at .ensures) (c .before .next .given .1)
+returns c =
+    let b3 = c .before .before .before in
+    other-past _ _ (b3 .terminal-at .ensures) (c .before .next .given .1)
 
 returns-2 : tie.Need-returns-2
-returns-2 c = return-past _ _ (c .before .before .before .before .before .terminal-at .ensures) (c .before .before .before .effects .given .1)
+returns-2 c =
+    let b3 = c .before .before .before in
+    let b5 = b3 .before .before in
+    return-past _ _ (b5 .terminal-at .ensures) (b3 .effects .given .1)
 
 returns-3 : tie.Need-returns-3
-returns-3 c = throw-past _ _ (c .before .before .before .before .before .terminal-at .ensures) (c .before .before .before .effects2 .given .1)
+returns-3 c =
+    let b3 = c .before .before .before in
+    let b5 = b3 .before .before in
+    throw-past _ _ (b5 .terminal-at .ensures) (b3 .effects2 .given .1)
 
 pub past-terminal-spec : {M : Type 1} → statement M
 past-terminal-spec =

@@ -31,7 +31,12 @@ same-length : tie.Need-same-length
 same-length c = search needs
 
 returns : tie.Need-returns
-returns c = wrote-as (c .before .before .put-effect .ensures) (ap effectWords (created _ _ _ _ (c .before .before .before .before .before .number .ensures) (c .before .before .before .before .number2 .ensures) (c .before .before .before .before .before .before .value-kind .ensures) (c .before .before .before .before .before .before .before .type-at .ensures)))
+returns c =
+    let b4 = c .before .before .before .before in
+    let b5 = b4 .before in
+    let b6 = b5 .before in
+    let b7 = b6 .before in
+    wrote-as (c .before .before .put-effect .ensures) (ap effectWords (created _ _ _ _ (b5 .number .ensures) (b4 .number2 .ensures) (b6 .value-kind .ensures) (b7 .type-at .ensures)))
 
 pub put-create-returns-spec : {M : Type 1} → statement M
 put-create-returns-spec =
