@@ -38,7 +38,7 @@ use Rattle.summary.specs.Sections.{Flows, simulatedOf}
 use Rattle.summary.proofs.Held.{holds-state}
 use Rattle.workspace.proofs.Places.{tracked-kept}
 use Rattle.summary.proofs.Rooms.{flows-next}
-use Rattle.simulation.specs.Simulates.{mostTracked, Marked, Simulates}
+use Rattle.simulation.specs.Simulates.{Marked, Simulates}
 
 -- ---- tables in the words
 tracked-length : (ws : List ℕ) (n : ℕ) → length (trackedOf ws n) ≡ n

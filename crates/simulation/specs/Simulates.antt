@@ -17,14 +17,10 @@ use Rattle.hir.specs.Words.{effectWidth}
 use Rattle.workspace.specs.Layout.{HANDED, MUTATIONS, SIMULATED}
 use Rattle.aliasing.specs.State.{stateOf}
 use Rattle.writing.specs.Wrote.{Wrote}
-use Rattle.workspace.specs.Tracked.{trackedOf}
+use Rattle.workspace.specs.Tracked.{mostTracked, trackedOf}
 use Rattle.summary.specs.Sections.{simulatedOf}
 use Rattle.function.specs.declared.HirFunction.{HirFunction}
 use Rattle.function.specs.Function.{Describes, Stands}
-
--- how many places are tracked: parameters, context and returns
-abbrev pub mostTracked : ℕ
-mostTracked = mostParams + mostContext + 1
 
 -- the words that the simulated walks can leave: an effect for each two places
 abbrev pub mostFlows : ℕ

@@ -14,7 +14,7 @@ ghost use Rattle.aliasing.specs.Says.{modeSays, mutationSays};
 ghost use Rattle.aliasing.specs.Walks.{Callable};
 ghost use Rattle.writing.specs.Wrote.{farthest};
 ghost use Rattle.function.specs.Function.{Limited};
-ghost use Rattle.simulation.specs.Simulates.{mostTracked, mostFlows, mostEffects, Marked, Simulates, CopiedPut, Before, EffectsPut};
+ghost use Rattle.simulation.specs.Simulates.{mostFlows, mostEffects, Marked, Simulates, CopiedPut, Before, EffectsPut};
 use aliasing::Mutation;
 use aliasing::MutationKind;
 use aliasing::clear_marks;

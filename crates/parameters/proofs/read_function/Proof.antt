@@ -62,7 +62,7 @@ returns-3 c =
     let b13 = b8 .before .before .before .before .before in
     let b16 = b13 .before .before .before in
     let b20 = b16 .before .before .before .before in
-    function-read (b20 .read-top .ensures) (b16 .top .given .1) (b13 .start .ensures) (b8 .read-tracked .ensures) (b20 .before .before .pre .1) (b4 .t .given .1)
+    function-read (b20 .read-top .ensures) (b16 .top .given .1) (b13 .start .ensures) (b8 .read-tracked .ensures) (b20 .before .before .before .before .pre .1) (b4 .t .given .1)
 
 pub read-function-spec : {M : Type 1} → statement M
 read-function-spec =
