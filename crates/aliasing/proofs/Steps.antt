@@ -70,10 +70,6 @@ item-level : (e : ℕ) → level (itemOf e .kind) ≡ e / 2048 % 2 + 1
 unfolding itemOf
 item-level e = level-is (e / 2048 % 2) (omega arith)
 
-item-place : (e : ℕ) → itemOf e .identifier ≡ e % 512
-unfolding itemOf
-item-place e = refl
-
 -- ---- the state by its parts
 pub state-same : (ws ws′ : List ℕ) (hand hand′ : ℕ) → rowsOf ws′ ≡ rowsOf ws → nodesOf ws′ ≡ nodesOf ws → slice HANDED hand′ ws′ ≡ slice HANDED hand ws → stateOf ws′ hand′ ≡ stateOf ws hand
 unfolding stateOf

@@ -1,5 +1,5 @@
 -- The building so far under the steps that leave the graph's words alone: a mutation, a render or a block more; and the start, and the end in rows.
-use Prim.Native.Nat.{ℕ, suc, _+_, _-_, _*_, _<_}
+use Prim.Native.Nat.{ℕ, suc, _+_, _*_, _<_}
 use native.Mathlib.Omega.{arith}
 use mathlib.Core.Bool.{Bool}
 use mathlib.Core.List.{List, [], _∷_, _++_}

@@ -1,5 +1,5 @@
 -- The building so far under each step: what the graph's words, the waiting operands and the counts say together.
-use Prim.Native.Nat.{ℕ, suc, _+_, _-_, _≤_, _<_}
+use Prim.Native.Nat.{ℕ, suc, _+_, _≤_, _<_}
 use native.Mathlib.Omega.{arith}
 use mathlib.Core.Bool.{Bool, true, false}
 use mathlib.Core.List.{List, [], _∷_, _++_}
@@ -26,9 +26,6 @@ use Rattle.building.specs.Built.{valueIs, FunctionBelow, placeAt, comeOf
 use Rattle.building.proofs.Pushes.{come-kept}
 
 -- ---- room
-pub room-more : (ws : List ℕ) (b : Building) → Sound ws b → b .relations < mostRelations → Room 1 1 ws (b .held)
-room-more ws b s h = record { size = s .size; edges = omega (arith, s .edges); entries = omega (arith, s .entries); clean = s .clean }
-
 pub room-none : (ws : List ℕ) (b : Building) → Sound ws b → Room 0 0 ws (b .held)
 room-none ws b s = record { size = s .size; edges = omega (arith, s .edges, s .relations); entries = omega (arith, s .entries, s .relations); clean = s .clean }
 
@@ -175,16 +172,3 @@ module _ (p from into : ℕ) (ws : List ℕ) (b : Building) (ws′ : List ℕ) (
   operand-waits t e h s = steps-as (operand-later (sym e ∙ h)) s
 
 -- ---- one step after the other
-pub steps-then : {F G : Built → Built} {d m n k d′ m′ n′ k′ : ℕ} {ws : List ℕ} {b : Building} {ws₁ : List ℕ} {b₁ : Building} {ws₂ : List ℕ} {b₂ : Building}
-    → Steps F d m n k ws b ws₁ b₁ → Steps G d′ m′ n′ k′ ws₁ b₁ ws₂ b₂ → Steps (λ (x : Built). G (F x)) (d + d′) (m + m′) (n + n′) (k + k′) ws b ws₂ b₂
-steps-then {F} {G} s t = record {
-  built = t .built ∙ ap G (s .built);
-  sound = t .sound;
-  relations = omega (arith, s .relations, t .relations);
-  mutations = omega (arith, s .mutations, t .mutations);
-  renders = omega (arith, s .renders, t .renders);
-  come = omega (arith, s .come, t .come);
-  low = t .low ∙ s .low;
-  high = t .high ∙ s .high;
-  same = t .same ∙ s .same;
-}

@@ -21,7 +21,7 @@ use Rattle.model.specs.Answer.{functionErrors, diagnosticWords, section, diagno
 use Rattle.model.proofs.Quiet.{quiet}
 use Rattle.model.proofs.Rendering.{rendered-handed}
 use Rattle.hir.specs.Words.{several, blockFrom}
-use Rattle.hir.proofs.WordLaws.{and-left}
+use Rattle.model.proofs.Either.{and-left}
 use Rattle.workspace.specs.Layout.{LEAST, HANDED, MUTATIONS}
 use Rattle.workspace.specs.Pending.{rendersOf}
 use Rattle.aliasing.specs.State.{stateOf}

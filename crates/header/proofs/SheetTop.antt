@@ -6,7 +6,7 @@ use mathlib.Core.List.{List, []}
 use lib.ListN.{length}
 use Rattle.model.specs.Limits.{mostIdentifiers, mostFunctions, mostParams, mostContext, returnsCount, mostBlocks}
 use Rattle.model.specs.Sheet.{Flags, Identifier, InnerFunction, Sheet}
-use Rattle.model.specs.Reading.{Position, got, Read, _>>=_, pure, count, fixed, times, numbered, counted}
+use Rattle.model.specs.Reading.{Position, got, Read, _>>=_, count, fixed, times, numbered, counted}
 use Rattle.model.specs.Sections.{flags, identifier, innerFunction, place, block, sheet}
 use Rattle.model.proofs.ReadLaws.{Reads, pure-reads, any-reads, bind-reads, times-length}
 use Rattle.header.specs.Read.{afterFunctions}

@@ -1,15 +1,14 @@
 -- The parts that the second reading gives, put together.
 use Prim.Native.Nat.{ℕ, _+_}
 use native.Mathlib.Omega.{arith}
-use mathlib.Core.Path.{_≡_, refl, ap, _∙_}
+use mathlib.Core.Path.{_≡_, ap, _∙_}
 use mathlib.Core.Bool.{Bool}
 use mathlib.Core.List.{List}
 use Rattle.model.specs.Sheet.{IdentifierType, Identifier, BlockId, Place, EffectKind, Effect, Operand}
 use Rattle.model.specs.Effects.{kindOf}
 use Rattle.model.specs.Reading.{Position}
-use Rattle.model.specs.Sections.{typeOf}
 use Rattle.hir.specs.Table.{TableRow, tableRow}
-use Rattle.hir.specs.Words.{wordAt, placeOf, placeAt, effectAt, operandAt, identifierAt}
+use Rattle.hir.specs.Words.{wordAt, placeOf, placeAt, effectAt, operandAt}
 
 abbrev placeBy : ℕ → ℕ → Bool → ℕ → Place
 placeBy i e r s = record { identifier = i; effect = e; reactive = r; span = s }

@@ -2,11 +2,7 @@ pub mod Table
 pub mod Answers
 pub mod EffectKinds
 pub mod Ranges
-pub mod TraitsLaws
-pub mod WordLaws
-pub mod RunLaws
 pub mod EffectTable
-pub mod LimitTable
 pub mod Standing
 pub mod AtLaws
 pub mod Widths

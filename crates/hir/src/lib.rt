@@ -8,7 +8,6 @@ pub mod effects;
 pub mod limits;
 pub mod parts;
 pub mod places;
-pub mod runs;
 pub mod words;
 
 // An identifier's number, below the count of identifiers.

@@ -17,7 +17,6 @@ use Rattle.model.specs.Answer.{answer, answerWords}
 use Rattle.model.specs.Call.{refusal, ended, read, IsSheet, fits, answered, admit, outcome}
 use Rattle.model.proofs.ReadLaws.{isGot}
 use Rattle.model.proofs.Either.{or-left, or-right}
-use Rattle.workspace.specs.Layout.{LEAST}
 use Rattle.reading.specs.Judging.{Told}
 use Rattle.reading.specs.Whole.{acceptance, judgementOf}
 use Rattle.reading.specs.Whole.{refusal as noSheet}

@@ -1,7 +1,7 @@
 -- A question only refuses: a part read with questions is what Sections reads, or refused with the number of a question. Where nothing is asked both are one.
 use Prim.Native.Nat.{ℕ, zero, suc}
-use mathlib.Core.Path.{_≡_, _∙_, refl, sym, ap}
-use mathlib.Core.Bool.{Bool, true, false, false≢true}
+use mathlib.Core.Path.{_≡_, refl}
+use mathlib.Core.Bool.{Bool, true, false}
 use mathlib.Core.List.{List, [], _∷_}
 use lib.ListN.{length}
 use Rattle.model.specs.Limits.{mostIdentifiers, mostFunctions, mostParams, mostContext, returnsCount, mostBlocks, mostCount, mostOrder, mostTerminal, mostKind}
@@ -11,7 +11,6 @@ use Rattle.model.specs.Effects.{kindOf}
 use Rattle.model.specs.Reading.{Position, Result, got, refused, Read, _>>=_, pure, count, fixed, atMost, below, newNumber, times, numbered, counted, timesFrom, numberedFrom, countedFrom}
 use Rattle.model.specs.Sections.{noQuestion, flags, identifier, placeAsking, place, effect, effects, operand, phi, instruction, terminalOf, terminal, block, sheetOf}
 use Rattle.model.specs.Asking as asking
-use Rattle.model.proofs.ReadLaws.{isGot}
 use Rattle.model.specs.Asking.{Asks, tellEffect, tellOperand, tellPhi, tellInstruction, tellBlock}
 
 -- the same answer, or refused with a number of P
@@ -142,11 +141,3 @@ never f g h ws c = go (h ws c)
     go : Holds (λ (k : ℕ). ⊥) (f ws c) (g ws c) → f ws c ≡ g ws c
     go (same e) = e
     go (stopped k e p) = absurd p
-
--- what was read with questions is what Sections reads
-pub read-anyway : {A : Type 0} (P : ℕ → Type 0) (f g : Read A) → Follows P f g → (ws : List ℕ) (c : Position) (x : A) (d : Position) → f ws c ≡ got x d → g ws c ≡ got x d
-read-anyway P f g h ws c x d q = go (h ws c)
-  where
-    go : Holds P (f ws c) (g ws c) → g ws c ≡ got x d
-    go (same e) = sym e ∙ q
-    go (stopped k e p) = absurd (false≢true (ap isGot (sym e ∙ q)))

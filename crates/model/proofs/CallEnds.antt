@@ -1,10 +1,10 @@
 -- The ends that an accepted call leaves in the answer buffer are those of demand 3's run of all mutations, in sheet order.
 use Prim.Native.Nat.{ℕ, zero, suc, _+_, _*_, _-_, _<_}
 use native.Mathlib.Omega.{arith}
-use mathlib.Core.Path.{_≡_, refl, sym, ap, subst, _∙_}
+use mathlib.Core.Path.{_≡_, refl, sym, ap, _∙_}
 use mathlib.Core.Bool.{Bool, true, false, true≢false}
 use mathlib.Core.List.{List, [], _∷_, _++_, map, append-assoc}
-use lib.ListN.{length, getD, take, replicate, length-map}
+use lib.ListN.{length, getD, replicate, length-map}
 use lib.Seq.{length-take-le, getD-take}
 use lib.Dec.{ltb}
 use Rattle.model.specs.Limits.{leastWorkspace}

@@ -3,16 +3,16 @@ use Prim.Native.Nat.{ℕ, _+_, _≤_, _<_}
 use native.Mathlib.Omega.{arith}
 use mathlib.Core.Path.{_≡_, refl, sym, ap, subst, _∙_}
 use mathlib.Core.Bool.{Bool, true, false}
-use mathlib.Core.List.{List, [], _∷_, _++_, map, append-nil}
-use lib.ListN.{length, drop}
-use lib.Dec.{leb, eqb}
+use mathlib.Core.List.{List, [], _∷_, _++_, append-nil}
+use lib.ListN.{length}
+use lib.Dec.{leb}
 use borrow.Author.Tests.{le-leb, lt-leb, le-ltb}
 use Rattle.model.specs.Limits.{flagCount, mostFlag, mostIdentifiers, mostRange, mostType, mostFunctions, mostInnerDiagnostics, mostDiagnostic, mostParams, mostContext, returnsCount, mostBlocks, mostCount, mostOrder, mostTerminal, mostTraits, mostKind, mostSheet}
 use Rattle.model.specs.Lists.{pick, gather, among, Every, oneIf}
 use Rattle.model.specs.Sheet.{Flags, Identifier, IdentifierType, other, primitive, jsx, Diagnostic, InnerFunction, Place, noPlace, EffectKind, Freeze, Mutate, MutateConditionally, MutateTransitive, MutateTransitiveConditionally, Capture, Alias, MaybeAlias, Assign, Create, CreateFrom, ImmutableCapture, Apply, CreateFunction, MutateFrozen, MutateGlobal, Impure, Render, Effect, EffectList, Operand, Phi, Instruction, Terminal, Other, Return, MaybeThrow, BlockId, Block, Sheet}
 use Rattle.model.specs.Traits.{reactiveTraits, effectOf, reactiveOf, traitsWord}
 use Rattle.model.specs.Effects.{kindOf, rowOf, isCreateFunction}
-use Rattle.model.specs.Reading.{Position, got, Read, _>>=_, pure, word, count, fixed, atMost, below, numbered, counted}
+use Rattle.model.specs.Reading.{got, Read, _>>=_, pure, word, count, fixed, atMost, below, numbered, counted}
 use Rattle.model.specs.Sections.{flag, flags, typeOf, identifier, diagnostic, innerFunction, place, unused, extra, effect, effects, operand, phi, instruction, terminalOf, terminal, block, sheet}
 use Rattle.model.specs.Answer.{placeWords, diagnosticWords, effectWords, section}
 use Rattle.model.specs.Totals.{totals, over, judged}

@@ -2,7 +2,7 @@
 use Prim.Native.Nat.{ℕ, zero, suc, _≤_, _<_}
 use native.Mathlib.Omega.{arith}
 use mathlib.Core.Path.{_≡_, sym, _∙_}
-use mathlib.Core.Bool.{Bool, true, false, true≢false}
+use mathlib.Core.Bool.{Bool, true, true≢false}
 use mathlib.Core.List.{List, []}
 use lib.ListN.{length}
 use lib.Dec.{leb}
@@ -10,7 +10,7 @@ use Rattle.model.specs.Limits.{mostIdentifiers, mostFunctions, mostParam
 use Rattle.model.specs.Lists.{pick, Every}
 use Rattle.model.specs.Sheet.{Identifier, InnerFunction, BlockId, Place, noPlace, EffectKind, Operand, Instruction, Other, Return, MaybeThrow}
 use Rattle.model.specs.Effects.{kindOf, rowOf, isCreateFunction}
-use Rattle.model.specs.Reading.{Read, _>>=_, pure, word, count, fixed, atMost, below, numbered, counted}
+use Rattle.model.specs.Reading.{word, count, fixed, atMost, below, numbered, counted}
 use Rattle.model.specs.Sections.{flags, identifier, innerFunction, place, unused, extra, effect, effects, operand, phi, instruction, terminalOf, terminal, block, sheet}
 use Rattle.model.specs.Ranges.{PlaceBelow, EffectBelow, PhiBelow, TerminalBelow, BlockBelow, SheetBelow}
 use Rattle.model.proofs.ReadLaws.{Reads, pure-reads, pick-reads, both-reads, bind-reads, then-reads, below-reads, numbered-reads, counted-reads, counted-length}

@@ -9,7 +9,7 @@ use lib.Dec.{leb, eqb}
 use Rattle.model.specs.Lists.{pick, gather}
 use Rattle.model.specs.Effects.{kindOf, Row, rowOf}
 use Rattle.model.specs.Totals.{Totals, over}
-use Rattle.model.specs.Small.{joined, place, flags, identifiers, functions}
+use Rattle.model.specs.Small.{place, flags, identifiers, functions}
 use Rattle.model.specs.Refusals.{Call, row}
 
 -- a sheet that ends with the word w, and the number that it is refused with

@@ -1,6 +1,5 @@
 -- Document 01, "Answers and refusals": the refusals have the numbers 1 to 9, and 3 to 6 come from the reading. So 0 stands for "not refused" wherever a number is told.
 use Prim.Native.Nat.{ℕ, _≤_}
-use mathlib.Core.List.{List}
 use Rattle.model.specs.Limits.{lastRefusal}
 use Rattle.model.specs.Call.{Outcome, refusal, accepted}
 

@@ -1,8 +1,7 @@
 -- A section of which only the length goes on: its count, if all of its parts are read.
-use Prim.Native.Nat.{ℕ, _-_}
+use Prim.Native.Nat.{ℕ}
 use mathlib.Core.Path.{_≡_, _∙_, refl, sym}
 use mathlib.Core.List.{List}
-use lib.ListN.{length}
 use Rattle.model.specs.Limits.{mostInnerDiagnostics}
 use Rattle.model.specs.Lists.{each}
 use Rattle.model.specs.Sheet.{Diagnostic, InnerFunction}

@@ -12,7 +12,7 @@ use Rattle.model.specs.Totals.{totals, over, judged}
 use Rattle.model.specs.Call.{ended}
 use Rattle.reading.specs.Judging.{Told, noTotals}
 use Rattle.reading.proofs.JudgeLaws.{got-judged, refused-judged}
-use Rattle.reading.specs.Whole.{judgedSheet, tellSheet, totalsOf, told, refusal, acceptance, judgementOf}
+use Rattle.reading.specs.Whole.{judgedSheet, tellSheet, totalsOf, refusal, acceptance, judgementOf}
 use Rattle.reading.proofs.WholeLaws.{sheet-judged}
 use Rattle.reading.proofs.TotalsLaws.{told-over, told-totals}
 

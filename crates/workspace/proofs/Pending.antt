@@ -1,5 +1,5 @@
 -- The pending mutations and renders: the next one, one more, and which words they are.
-use Prim.Native.Nat.{ℕ, _+_, _-_, _*_, _≤_, _<_}
+use Prim.Native.Nat.{ℕ, _+_, _*_, _≤_, _<_}
 use native.Mathlib.Omega.{arith}
 use native.Mathlib.Numerals.{add-one}
 use mathlib.Core.List.{List, [], _∷_, _++_}
@@ -20,14 +20,6 @@ mutations-next ws n i h = tab-drop n (mutationAt ws) i h
 pub mutations-end : (ws : List ℕ) (n i : ℕ) → n ≤ i → drop i (mutationsOf ws n) ≡ []
 unfolding mutationsOf
 mutations-end ws n i h = tab-end n (mutationAt ws) i h
-
-pub renders-next : (ws : List ℕ) (n i : ℕ) → i < n → drop i (rendersOf ws n) ≡ renderAt ws i ∷ drop (i + 1) (rendersOf ws n)
-unfolding rendersOf
-renders-next ws n i h = tab-drop n (renderAt ws) i h
-
-pub renders-end : (ws : List ℕ) (n i : ℕ) → n ≤ i → drop i (rendersOf ws n) ≡ []
-unfolding rendersOf
-renders-end ws n i h = tab-end n (renderAt ws) i h
 
 -- ---- they stay if their words stay
 mutation-same : (ws ws′ : List ℕ) (k : ℕ) → getD ws′ (MUTATIONS + 3 * k) 0 ≡ getD ws (MUTATIONS + 3 * k) 0 → getD ws′ (MUTATIONS + 3 * k + 1) 0 ≡ getD ws (MUTATIONS + 3 * k + 1) 0

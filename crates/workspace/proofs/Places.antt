@@ -73,11 +73,6 @@ pub tracked-first : (ws : List ℕ) (c : ℕ) → trackedFrom ws 0 c ≡ tracked
 unfolding trackedOf trackedFrom
 tracked-first ws c = tab-same c (λ (i : ℕ). trackedAt ws (0 + i)) (trackedAt ws) (λ i h. let e : 0 + i ≡ i = omega arith in ap (trackedAt ws) e)
 
--- one place
-pub tracked-one : (ws : List ℕ) (i : ℕ) → trackedFrom ws i 1 ≡ trackedAt ws i ∷ []
-unfolding trackedFrom tab
-tracked-one ws i = ap (λ (j : ℕ). trackedAt ws j ∷ []) (add-zero i)
-
 pub tracked-below : (ws : List ℕ) (i : ℕ) → trackedAt ws i .identifier < mostIdentifiers
 unfolding trackedAt
 tracked-below ws i = place-below (getD ws (TRACKED + 2 * i) 0) (getD ws (TRACKED + 2 * i + 1) 0)

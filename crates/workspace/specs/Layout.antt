@@ -93,7 +93,3 @@ SIMULATED = 14148
 -- the tracked places, parameters, context and the return, two words each, up to 129
 abbrev pub TRACKED : ℕ
 TRACKED = 14277
-
--- behind the last part
-abbrev pub AFTER : ℕ
-AFTER = 14535

@@ -1,5 +1,4 @@
 use Rattle.aliasing.proofs.PushLaws.{room-edges, room-created, room-aliases, room-captures, all-pushed}
-use Prim.Native.Nat.{_-_}
 use native.Mathlib.Omega.{arith}
 use mathlib.Core.Path.{_∙_}
 use Rattle.aliasing.proofs.PushLaws.{pushed-length}
