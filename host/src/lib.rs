@@ -39,6 +39,8 @@
 //! - [`text`]: a sheet as text that people read and write.
 //! - [`ffi`]: the library's functions as they are, for hosts that lend their own buffers.
 
+#![deny(missing_docs)]
+
 mod answer;
 mod builder;
 pub mod ffi;
@@ -48,6 +50,7 @@ mod reading;
 mod refusal;
 mod service;
 mod sheet;
+mod spelling;
 pub mod text;
 
 pub use answer::Answer;
