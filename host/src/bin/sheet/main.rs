@@ -122,11 +122,21 @@ fn to_words(file: &Path) -> Result<Vec<u8>, String> {
     Ok(sheet.words().iter().flat_map(|word| word.to_le_bytes()).collect())
 }
 
+/// The library is asked about the words as they are, faulty ones too.
 fn answered(file: &Path) -> Result<Vec<u8>, String> {
-    let (sheet, _) = either(file)?;
+    let words = match load::load(file)? {
+        Form::Text(text) => text::parse(&text).map_err(|e| e.to_string())?.0.words(),
+        Form::Words(words) => words,
+    };
     let mut service = Service::new();
-    let answer = service.infer(&sheet.words()).map_err(|refusal| why(&sheet, refusal))?;
-    Ok(answer.to_string().into_bytes())
+    match service.infer(&words) {
+        Ok(answer) => Ok(answer.to_string().into_bytes()),
+        Err(refusal) => Err(match Sheet::read(&words) {
+            Ok(sheet) => why(&sheet, refusal),
+            Err(error) if error.refusal() == refusal => error.to_string(),
+            Err(_) => refusal.to_string(),
+        }),
+    }
 }
 
 fn explained(file: &Path) -> Result<Vec<u8>, String> {
