@@ -177,8 +177,9 @@ fn refusals_of_the_whole() {
     let more =
         std::fs::read_to_string(&path).unwrap().replace(one, "instruction at 3\nApply\n") + one;
     let path = file("long.txt", more.as_bytes());
+    assert!(fault(&["answer", &path]).ends_with("at most 16384 words, this one 16386\n"));
     assert_eq!(
-        fault(&["answer", &path]),
+        fault(&["explain", &path]),
         format!("sheet: {path}: refused 2: the sheet has 16386 words, at most 16384\n")
     );
 }
