@@ -63,3 +63,8 @@ pub use reading::ReadError;
 pub use refusal::Refusal;
 pub use service::{Service, first_lent};
 pub use sheet::{Block, Instruction, Operand, Phi, Sheet, Terminal, Totals};
+
+/// The program of README.md is tried as a test.
+#[cfg(doctest)]
+#[doc = include_str!("../README.md")]
+struct Readme;
