@@ -5,9 +5,12 @@
  * A host keeps one struct ServiceState and lends it, a workspace and an answer buffer to every
  * call. The library keeps nothing, allocates nothing and returns for every sheet, whatever its
  * words are. Calls over different states and buffers may run at once.
+ *
+ * docs/FORMAT.md describes the words of a sheet and of an answer. Every macro and every constant
+ * here begins with SERVICE_.
  */
-#ifndef SERVICE_H
-#define SERVICE_H
+#ifndef SERVICE_MUTABLE_RANGES_H
+#define SERVICE_MUTABLE_RANGES_H
 
 #include <stddef.h>
 #include <stdint.h>
@@ -16,6 +19,126 @@
 extern "C" {
 #endif
 
+/* The version of this header and of the words that it speaks of: 10,000 times the first number
+ * and 100 times the second and the third; 100 is 0.1.0. */
+#define SERVICE_VERSION 100
+
+/* How many words a workspace has at least, and a sheet at most. */
+#define SERVICE_LEAST_WORKSPACE 16384
+#define SERVICE_MOST_SHEET 16384
+
+/* How many words an answer has at most, some 34 megabytes: with a buffer so long no call is refused
+ * 9. 16,384 words are enough for nearly every sheet. Where they are not, lend more and call again,
+ * 16 times as many each time until this number is reached: a refused call takes no serial and
+ * leaves nothing behind. Every word lent is cleared, so that a long buffer for every call would
+ * cost time. A host that wants no answer so long takes 9 as the last word. */
+#define SERVICE_MOST_ANSWER 8542223
+
+/* Why a call was refused. The lower number is checked first, but 3 to 6 come from one reading from
+ * left to right: the first faulty word decides. */
+enum ServiceRefusal {
+    SERVICE_ACCEPTED = 0,
+    /* The workspace has fewer than 16,384 words. */
+    SERVICE_REFUSED_SHORT_WORKSPACE = 1,
+    /* The sheet has more than 16,384 words. */
+    SERVICE_REFUSED_LONG_SHEET = 2,
+    /* The sheet ends where a word is due. */
+    SERVICE_REFUSED_SHEET_ENDS = 3,
+    /* A count is above its limit, or differs from a fixed count. */
+    SERVICE_REFUSED_COUNT = 4,
+    /* A word is outside its range. */
+    SERVICE_REFUSED_OUT_OF_RANGE = 5,
+    /* A block number is used a second time, or a phi names one predecessor twice. */
+    SERVICE_REFUSED_USED_TWICE = 6,
+    /* Words follow the last block. */
+    SERVICE_REFUSED_WORDS_FOLLOW = 7,
+    /* The sheet has over 1,024 relation effects, 512 mutations or 256 renders. */
+    SERVICE_REFUSED_TOTALS = 8,
+    /* The answer buffer is shorter than the answer: see SERVICE_MOST_ANSWER. */
+    SERVICE_REFUSED_SHORT_ANSWER = 9
+};
+
+/* An identifier's type. */
+enum ServiceType {
+    SERVICE_TYPE_OTHER = 0,
+    SERVICE_TYPE_PRIMITIVE = 1,
+    SERVICE_TYPE_JSX = 2
+};
+
+/* How a place uses its identifier. The traits word is one of these, plus SERVICE_REACTIVE if the
+ * place is reactive. */
+enum ServiceEffect {
+    SERVICE_EFFECT_UNKNOWN = 0,
+    SERVICE_EFFECT_FREEZE = 1,
+    SERVICE_EFFECT_READ = 2,
+    SERVICE_EFFECT_CAPTURE = 3,
+    SERVICE_EFFECT_CONDITIONALLY_MUTATE_ITERATOR = 4,
+    SERVICE_EFFECT_CONDITIONALLY_MUTATE = 5,
+    SERVICE_EFFECT_MUTATE = 6,
+    SERVICE_EFFECT_STORE = 7
+};
+
+#define SERVICE_REACTIVE 8
+
+/* The kind of an effect: its first word. Behind each its places and its extra word, the last. */
+enum ServiceKind {
+    SERVICE_KIND_FREEZE = 0,                          /* 1; a reason */
+    SERVICE_KIND_MUTATE = 1,                          /* 1; SERVICE_ASSIGN_CURRENT_PROPERTY or 0 */
+    SERVICE_KIND_MUTATE_CONDITIONALLY = 2,            /* 1; 0 */
+    SERVICE_KIND_MUTATE_TRANSITIVE = 3,               /* 1; 0 */
+    SERVICE_KIND_MUTATE_TRANSITIVE_CONDITIONALLY = 4, /* 1; 0 */
+    SERVICE_KIND_CAPTURE = 5,                         /* 2: from, into; 0 */
+    SERVICE_KIND_ALIAS = 6,                           /* 2: from, into; 0 */
+    SERVICE_KIND_MAYBE_ALIAS = 7,                     /* 2: from, into; 0 */
+    SERVICE_KIND_ASSIGN = 8,                          /* 2: from, into; 0 */
+    SERVICE_KIND_CREATE = 9,                          /* 1; SERVICE_CREATED(reason, value) */
+    SERVICE_KIND_CREATE_FROM = 10,                    /* 2: from, into; 0 */
+    SERVICE_KIND_IMMUTABLE_CAPTURE = 11,              /* 2: from, into; 0 */
+    SERVICE_KIND_APPLY = 12,                          /* 0; 0 */
+    SERVICE_KIND_CREATE_FUNCTION = 13,                /* 1; an inner function's number */
+    SERVICE_KIND_MUTATE_FROZEN = 14,                  /* 1; a diagnostic's number */
+    SERVICE_KIND_MUTATE_GLOBAL = 15,                  /* 1; a diagnostic's number */
+    SERVICE_KIND_IMPURE = 16,                         /* 1; a diagnostic's number */
+    SERVICE_KIND_RENDER = 17                          /* 1; 0 */
+};
+
+#define SERVICE_ASSIGN_CURRENT_PROPERTY 1
+
+/* Why a value is what it is: the extra word of Freeze, and a part of that of Create. */
+enum ServiceReason {
+    SERVICE_REASON_KNOWN_RETURN_SIGNATURE = 0,
+    SERVICE_REASON_STATE = 1,
+    SERVICE_REASON_REDUCER_STATE = 2,
+    SERVICE_REASON_CONTEXT = 3,
+    SERVICE_REASON_EFFECT = 4,
+    SERVICE_REASON_HOOK_CAPTURED = 5,
+    SERVICE_REASON_HOOK_RETURN = 6,
+    SERVICE_REASON_GLOBAL = 7,
+    SERVICE_REASON_JSX_CAPTURED = 8,
+    SERVICE_REASON_STORE_LOCAL = 9,
+    SERVICE_REASON_REACTIVE_FUNCTION_ARGUMENT = 10,
+    SERVICE_REASON_OTHER = 11
+};
+
+/* What a value is: the other part of Create's extra word. */
+enum ServiceValue {
+    SERVICE_VALUE_MUTABLE = 0,
+    SERVICE_VALUE_FROZEN = 1,
+    SERVICE_VALUE_PRIMITIVE = 2,
+    SERVICE_VALUE_MAYBE_FROZEN = 3,
+    SERVICE_VALUE_GLOBAL = 4,
+    SERVICE_VALUE_CONTEXT = 5
+};
+
+#define SERVICE_CREATED(reason, value) (6 * (reason) + (value))
+
+/* How a block ends. */
+enum ServiceTerminal {
+    SERVICE_TERMINAL_OTHER = 0,      /* an order */
+    SERVICE_TERMINAL_RETURN = 1,     /* an order, a place, a count of effects and the effects */
+    SERVICE_TERMINAL_MAYBE_THROW = 2 /* an order, a count of effects and the effects */
+};
+
 /* The next serial. Make it with service_new, or restore one that was kept. */
 struct ServiceState {
     uint32_t next;
@@ -23,18 +146,10 @@ struct ServiceState {
 
 /* What a call says. */
 struct Reply {
-    /* 0 if the call was accepted, else why it was not:
-     * 1  The workspace has fewer than 16,384 words.
-     * 2  The sheet has more than 16,384 words.
-     * 3  The sheet ends where a word is due.
-     * 4  A count is above its limit, or differs from a fixed count.
-     * 5  A word is outside its range.
-     * 6  A block number is used a second time, or a phi names one predecessor twice.
-     * 7  Words follow the last block.
-     * 8  The sheet has over 1,024 relation effects, 512 mutations or 256 renders.
-     * 9  The answer buffer is shorter than the answer. */
+    /* One of enum ServiceRefusal: 0 if the call was accepted. */
     uint32_t refusal;
-    /* The accepted call's serial: `next` as it was before. After 4,294,967,295 comes 0. */
+    /* The accepted call's serial: `next` as it was before. After 4,294,967,295 comes 0. It is 0 for
+     * a refusal. */
     uint32_t serial;
     /* How many words the answer has; 0 for a refusal. */
     size_t length;
@@ -48,8 +163,7 @@ struct Reply {
  * other, the sheet or the state.
  *
  * An answer has six sections, each a count and then so many records: ranges (2 words: start,
- * end), params and context (places of 3 words), diagnostics (1), effects (8), walks (1). 16,384
- * words are enough for most sheets; diagnostics can make an answer over 8 million words long. */
+ * end), params and context (places of 3 words), diagnostics (1), effects (8), walks (1). */
 struct Reply service_infer(struct ServiceState *state,
                            const uint32_t *sheet, size_t sheet_words,
                            uint32_t *workspace, size_t workspace_words,
@@ -58,10 +172,8 @@ struct Reply service_infer(struct ServiceState *state,
 /* A new state: its first serial is 0. */
 struct ServiceState service_new(void);
 
-/* How many words a workspace has at least: 16,384. */
+/* SERVICE_LEAST_WORKSPACE and SERVICE_MOST_SHEET of the library that is linked. */
 size_t service_least_workspace(void);
-
-/* How many words a sheet has at most: 16,384. */
 size_t service_most_sheet(void);
 
 /* The layout that the library was compiled for. */

@@ -6,20 +6,20 @@
 
 /* function panel(props) { const list = [props]; list.push(..); return list; } */
 static const uint32_t sheet[] = {
-    2, 0, 1,                         /* flags: no function expression, validations */
-    3, 0, 0, 0, 0, 0, 0, 0, 0, 0,    /* identifiers: 0 props, 1 list, 2 result */
-    0,                               /* inner functions */
-    1, 0, 0, 5,                      /* parameters: props, at span 5 */
-    0,                               /* context */
-    1, 2, 0, 0,                      /* returns: result */
-    1,                               /* blocks */
-    0, 0, 2,                         /* number 0, no phis, two instructions */
-    1, 2,                            /* at order 1, two effects */
-    9, 1, 0, 0, 0, 0, 0, 0,          /* Create list */
-    5, 0, 0, 0, 1, 0, 0, 0,          /* Capture props into list */
-    2, 1,                            /* at order 2, one effect */
-    3, 1, 0, 7, 0, 0, 0, 0,          /* MutateTransitive list, at span 7 */
-    1, 3, 1, 0, 0, 0,                /* Return list at order 3, no effects */
+    2, 0, 1,                                             /* flags: no function expression, validations */
+    3, 0, 0, 0, 0, 0, 0, 0, 0, 0,                        /* identifiers: 0 props, 1 list, 2 result */
+    0,                                                   /* inner functions */
+    1, 0, 0, 5,                                          /* parameters: props, at span 5 */
+    0,                                                   /* context */
+    1, 2, 0, 0,                                          /* returns: result */
+    1,                                                   /* blocks */
+    0, 0, 2,                                             /* number 0, no phis, two instructions */
+    1, 2,                                                /* at order 1, two effects */
+    SERVICE_KIND_CREATE, 1, 0, 0, 0, 0, 0, 0,            /* list */
+    SERVICE_KIND_CAPTURE, 0, 0, 0, 1, 0, 0, 0,           /* props into list */
+    2, 1,                                                /* at order 2, one effect */
+    SERVICE_KIND_MUTATE_TRANSITIVE, 1, 0, 7, 0, 0, 0, 0, /* list, at span 7 */
+    SERVICE_TERMINAL_RETURN, 3, 1, 0, 0, 0,              /* at order 3, list, no effects */
 };
 
 static const struct {
@@ -32,16 +32,13 @@ static const struct {
 #define COUNT(array) (sizeof(array) / sizeof((array)[0]))
 
 int main(void) {
-    static uint32_t workspace[16384];
+    static uint32_t workspace[SERVICE_LEAST_WORKSPACE];
     static uint32_t answer[16384];
 
-    if (COUNT(workspace) < service_least_workspace()) {
-        return 2;
-    }
     struct ServiceState state = service_new();
     struct Reply reply = service_infer(&state, sheet, COUNT(sheet), workspace, COUNT(workspace),
                                        answer, COUNT(answer));
-    if (reply.refusal != 0) {
+    if (reply.refusal != SERVICE_ACCEPTED) {
         printf("refused %" PRIu32 "\n", reply.refusal);
         return 1;
     }

@@ -14,19 +14,46 @@ use crate::sheet::{Block, Instruction, Operand, Phi, Sheet, Terminal};
 #[non_exhaustive]
 pub enum PartError {
     /// One more than a sheet, a block, a phi or a list may have.
-    TooMany { what: &'static str, most: usize },
+    TooMany {
+        /// What there is too much of.
+        what: &'static str,
+        /// How many there may be.
+        most: usize,
+    },
     /// A number above its limit.
-    TooLarge { what: &'static str, number: u32, most: u32 },
-    /// The sheet has, so far, only `count` identifiers.
-    NoIdentifier { identifier: IdentifierId, count: usize },
-    /// The sheet has, so far, only `count` inner functions.
-    NoFunction { function: FunctionId, count: usize },
+    TooLarge {
+        /// What the number is.
+        what: &'static str,
+        /// The number.
+        number: u32,
+        /// The limit.
+        most: u32,
+    },
+    /// The sheet has no such identifier so far.
+    NoIdentifier {
+        /// The identifier.
+        identifier: IdentifierId,
+        /// How many the sheet has so far.
+        count: usize,
+    },
+    /// The sheet has no such inner function so far.
+    NoFunction {
+        /// The inner function.
+        function: FunctionId,
+        /// How many the sheet has so far.
+        count: usize,
+    },
     /// The number was given to a block before.
     BlockAgain(BlockId),
     /// The phi names this predecessor already.
     PredecessorAgain(BlockId),
     /// The part cannot follow the one before it.
-    OutOfPlace { what: &'static str, follows: &'static str },
+    OutOfPlace {
+        /// The part.
+        what: &'static str,
+        /// What it can follow.
+        follows: &'static str,
+    },
     /// The block has no terminal yet.
     BlockNotEnded(BlockId),
 }
@@ -36,7 +63,7 @@ impl fmt::Display for PartError {
         match self {
             PartError::TooMany { what, most } => write!(f, "more than {most} {what}"),
             PartError::TooLarge { what, number, most } => {
-                write!(f, "{what} is at most {most}, not {number}")
+                write!(f, "{number} is too large for {what}, which is at most {most}")
             }
             PartError::NoIdentifier { identifier, count } => {
                 write!(f, "identifier {} is not one of the sheet's {count}", identifier.0)

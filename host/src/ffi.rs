@@ -7,6 +7,7 @@ use std::mem::{align_of, offset_of, size_of};
 #[repr(C)]
 #[derive(Debug, Clone, Copy, PartialEq, Eq)]
 pub struct ServiceState {
+    /// The serial that the next accepted call takes.
     pub next: u32,
 }
 

@@ -39,6 +39,8 @@
 //! - [`text`]: a sheet as text that people read and write.
 //! - [`ffi`]: the library's functions as they are, for hosts that lend their own buffers.
 
+#![deny(missing_docs)]
+
 mod answer;
 mod builder;
 pub mod ffi;
@@ -48,6 +50,7 @@ mod reading;
 mod refusal;
 mod service;
 mod sheet;
+mod spelling;
 pub mod text;
 
 pub use answer::Answer;
@@ -60,3 +63,8 @@ pub use reading::ReadError;
 pub use refusal::Refusal;
 pub use service::{Service, first_lent};
 pub use sheet::{Block, Instruction, Operand, Phi, Sheet, Terminal, Totals};
+
+/// The program of README.md is tried as a test.
+#[cfg(doctest)]
+#[doc = include_str!("../README.md")]
+struct Readme;

@@ -1,23 +1,48 @@
-//! The limits of a sheet.
+//! The limits of a sheet and of an answer. `docs/FORMAT.md` of the repository has them all.
 
+/// Of words of a sheet.
 pub const WORDS: usize = 16_384;
 
+/// Of identifiers.
 pub const IDENTIFIERS: usize = 512;
+/// Of inner functions.
 pub const FUNCTIONS: usize = 64;
+/// Of diagnostics of an inner function.
 pub const FUNCTION_DIAGNOSTICS: usize = 64;
 /// Of parameters, and of context variables.
 pub const PLACES: usize = 64;
+/// Of blocks.
 pub const BLOCKS: usize = 256;
 /// Of phis in a block, operands in a phi, instructions in a block, and effects in a list.
 pub const COUNT: usize = 1_024;
 
 /// Of a range's start and of its end.
 pub const RANGE: u32 = 1_000_000;
+/// Of the order of an instruction or a terminal.
 pub const ORDER: u32 = 999_999;
+/// Of a block's number.
 pub const BLOCK_NUMBER: u32 = 65_535;
+/// Of a diagnostic's number.
 pub const DIAGNOSTIC: u32 = 65_535;
 
-/// In the whole sheet; see [`Totals`](crate::Totals).
+/// Of relation effects, phi operands and Return values in the whole sheet; see
+/// [`Totals`](crate::Totals).
 pub const RELATIONS: usize = 1_024;
+/// Of mutations in the whole sheet.
 pub const MUTATIONS: usize = 512;
+/// Of renders in the whole sheet.
 pub const RENDERS: usize = 256;
+
+/// Of words of an answer: no sheet has a longer one. Six counts and the records of each section,
+/// every section as long as it can be alone.
+pub const ANSWER: usize = 6
+    + 2 * IDENTIFIERS
+    + 3 * TRACKED
+    + (EFFECTS + IDENTIFIERS * RENDERS * FUNCTION_DIAGNOSTICS)
+    + 8 * (EFFECTS + 2 * TRACKED + 1 + TRACKED * TRACKED)
+    + (MUTATIONS + TRACKED + 1);
+
+/// Of parameters and context variables together.
+const TRACKED: usize = 2 * PLACES;
+/// More than the effects of a sheet can be: each takes eight words.
+const EFFECTS: usize = WORDS / 8;

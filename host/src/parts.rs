@@ -16,21 +16,25 @@ macro_rules! numbered {
             /// All, in the order of their numbers.
             pub const ALL: &'static [$name] = &[$($name::$case),+];
 
+            /// The names, in the same order.
+            pub const NAMES: &'static [&'static str] = &[$(stringify!($case)),+];
+
             /// The position, from 0: the word that stands for it.
             pub const fn number(self) -> u32 {
                 self as u32
             }
 
+            /// The case of a word; none if it stands for none.
             pub fn from_number(number: u32) -> Option<$name> {
                 $name::ALL.get(number as usize).copied()
             }
 
+            /// The name, as in the original.
             pub const fn name(self) -> &'static str {
-                match self {
-                    $($name::$case => stringify!($case)),+
-                }
+                $name::NAMES[self as usize]
             }
 
+            /// The case of this name; none if there is none.
             pub fn from_name(name: &str) -> Option<$name> {
                 $name::ALL.iter().copied().find(|case| case.name() == name)
             }
@@ -69,22 +73,32 @@ impl EvaluationOrder {
     pub const UNSET: EvaluationOrder = EvaluationOrder(0);
 }
 
-/// From where to where a value may change; the end is the first order at which it no longer does.
+/// From where to where a value may change: half-open, `start..end`. `0..0` is unset.
 #[derive(Debug, Clone, Copy, PartialEq, Eq, Hash, Default)]
 pub struct MutableRange {
+    /// The first order at which the value may change.
     pub start: EvaluationOrder,
+    /// The first order at which it no longer does.
     pub end: EvaluationOrder,
 }
 
 numbered! {
     /// An identifier's type, as far as the pass looks at it.
-    Type: Other, Primitive, Jsx
+    Type:
+    /// Neither of the others, or not known.
+    Other,
+    /// A number, a string or the like.
+    Primitive,
+    /// An element made by JSX.
+    Jsx,
 }
 
 /// An identifier of a sheet: its range as known so far, and its type.
 #[derive(Debug, Clone, Copy, PartialEq, Eq, Hash)]
 pub struct Identifier {
+    /// The range as known so far; the answer has the start as it is and moves the end.
     pub range: MutableRange,
+    /// The type, which decides what Create says of the value returned.
     pub type_: Type,
 }
 
@@ -98,23 +112,34 @@ impl Default for Identifier {
 numbered! {
     /// How a place uses its identifier.
     Effect:
+    /// Nothing is said.
     Unknown,
+    /// It is frozen.
     Freeze,
+    /// It is read.
     Read,
+    /// It is captured; in an answer, of a parameter or context variable: the function changes it.
     Capture,
+    /// An iterator that may be advanced.
     ConditionallyMutateIterator,
+    /// It is changed if it can be.
     ConditionallyMutate,
+    /// It is changed.
     Mutate,
+    /// Something is stored in it.
     Store,
 }
 
 /// A use of an identifier.
 #[derive(Debug, Clone, Copy, PartialEq, Eq, Hash)]
 pub struct Place {
+    /// The identifier.
     pub identifier: IdentifierId,
+    /// How it is used.
     pub effect: Effect,
+    /// Whether it can change from one render to the next.
     pub reactive: bool,
-    /// 0 for none.
+    /// Where it stands in the source text, in the host's own numbers; 0 for none.
     pub span: u32,
 }
 
@@ -149,51 +174,95 @@ impl Place {
 
 numbered! {
     /// What a value is known to be.
-    ValueKind: Mutable, Frozen, Primitive, MaybeFrozen, Global, Context
+    ValueKind:
+    /// It can be changed.
+    Mutable,
+    /// It must not be changed.
+    Frozen,
+    /// It cannot be changed.
+    Primitive,
+    /// One of the first two.
+    MaybeFrozen,
+    /// It belongs to no function.
+    Global,
+    /// It belongs to a function around this one.
+    Context,
 }
 
 numbered! {
     /// Why a value is what it is.
     ValueReason:
+    /// The signature of the function that returned it says so.
     KnownReturnSignature,
+    /// It is state (`useState`).
     State,
+    /// It is a reducer's state (`useReducer`).
     ReducerState,
+    /// It comes from a context (`useContext`).
     Context,
+    /// It was given to an effect hook.
     Effect,
+    /// A hook has captured it.
     HookCaptured,
+    /// A hook returned it.
     HookReturn,
+    /// It belongs to no function.
     Global,
+    /// JSX has captured it.
     JsxCaptured,
+    /// It was stored in a local variable.
     StoreLocal,
+    /// It is an argument of a component or hook.
     ReactiveFunctionArgument,
+    /// None of these.
     Other,
 }
 
 numbered! {
     /// The reason that a mutation can give. Its word is 1, since 0 stands for none.
-    MutationReason: AssignCurrentProperty
+    MutationReason:
+    /// The property `current` is assigned.
+    AssignCurrentProperty
 }
 
 numbered! {
     /// The cases of [`AliasingEffect`], without what they hold.
     EffectKind:
+    /// Of [`AliasingEffect::Freeze`].
     Freeze,
+    /// Of [`AliasingEffect::Mutate`].
     Mutate,
+    /// Of [`AliasingEffect::MutateConditionally`].
     MutateConditionally,
+    /// Of [`AliasingEffect::MutateTransitive`].
     MutateTransitive,
+    /// Of [`AliasingEffect::MutateTransitiveConditionally`].
     MutateTransitiveConditionally,
+    /// Of [`AliasingEffect::Capture`].
     Capture,
+    /// Of [`AliasingEffect::Alias`].
     Alias,
+    /// Of [`AliasingEffect::MaybeAlias`].
     MaybeAlias,
+    /// Of [`AliasingEffect::Assign`].
     Assign,
+    /// Of [`AliasingEffect::Create`].
     Create,
+    /// Of [`AliasingEffect::CreateFrom`].
     CreateFrom,
+    /// Of [`AliasingEffect::ImmutableCapture`].
     ImmutableCapture,
+    /// Of [`AliasingEffect::Apply`].
     Apply,
+    /// Of [`AliasingEffect::CreateFunction`].
     CreateFunction,
+    /// Of [`AliasingEffect::MutateFrozen`].
     MutateFrozen,
+    /// Of [`AliasingEffect::MutateGlobal`].
     MutateGlobal,
+    /// Of [`AliasingEffect::Impure`].
     Impure,
+    /// Of [`AliasingEffect::Render`].
     Render,
 }
 
@@ -240,24 +309,121 @@ impl EffectKind {
 /// What an instruction or a terminal does to values.
 #[derive(Debug, Clone, Copy, PartialEq, Eq, Hash)]
 pub enum AliasingEffect {
-    Freeze { value: Place, reason: ValueReason },
-    Mutate { value: Place, reason: Option<MutationReason> },
-    MutateConditionally { value: Place },
-    MutateTransitive { value: Place },
-    MutateTransitiveConditionally { value: Place },
-    Capture { from: Place, into: Place },
-    Alias { from: Place, into: Place },
-    MaybeAlias { from: Place, into: Place },
-    Assign { from: Place, into: Place },
-    Create { into: Place, value: ValueKind, reason: ValueReason },
-    CreateFrom { from: Place, into: Place },
-    ImmutableCapture { from: Place, into: Place },
+    /// The value is frozen: it must not be changed from here on.
+    Freeze {
+        /// What is frozen.
+        value: Place,
+        /// Why.
+        reason: ValueReason,
+    },
+    /// The value is changed, but nothing that it has captured.
+    Mutate {
+        /// What is changed.
+        value: Place,
+        /// What is done to it, where that matters.
+        reason: Option<MutationReason>,
+    },
+    /// The same, if the value can be changed.
+    MutateConditionally {
+        /// What is changed.
+        value: Place,
+    },
+    /// The value is changed, and all that it has captured.
+    MutateTransitive {
+        /// What is changed.
+        value: Place,
+    },
+    /// The same, of what can be changed.
+    MutateTransitiveConditionally {
+        /// What is changed.
+        value: Place,
+    },
+    /// `into` holds `from`: changing `into` with all that it has captured changes `from`.
+    Capture {
+        /// What is there before.
+        from: Place,
+        /// What it goes into.
+        into: Place,
+    },
+    /// `into` and `from` are one value, or parts of one: changing one changes the other.
+    Alias {
+        /// What is there before.
+        from: Place,
+        /// What it goes into.
+        into: Place,
+    },
+    /// They may be one value: changing one may change the other.
+    MaybeAlias {
+        /// What is there before.
+        from: Place,
+        /// What it goes into.
+        into: Place,
+    },
+    /// `into` is a name for the value that `from` names.
+    Assign {
+        /// What is there before.
+        from: Place,
+        /// What it goes into.
+        into: Place,
+    },
+    /// A new value.
+    Create {
+        /// The value.
+        into: Place,
+        /// What it is.
+        value: ValueKind,
+        /// Why.
+        reason: ValueReason,
+    },
+    /// A new value that is a part of `from`: changing `into` changes `from`.
+    CreateFrom {
+        /// What is there before.
+        from: Place,
+        /// What it goes into.
+        into: Place,
+    },
+    /// `into` holds `from` and cannot change it. Does nothing in this pass.
+    ImmutableCapture {
+        /// What is there before.
+        from: Place,
+        /// What it goes into.
+        into: Place,
+    },
+    /// A call whose effects are not known. Does nothing in this pass.
     Apply,
-    CreateFunction { into: Place, function_id: FunctionId },
-    MutateFrozen { place: Place, error: DiagnosticId },
-    MutateGlobal { place: Place, error: DiagnosticId },
-    Impure { place: Place, error: DiagnosticId },
-    Render { place: Place },
+    /// A new value that is an inner function.
+    CreateFunction {
+        /// The value.
+        into: Place,
+        /// The inner function.
+        function_id: FunctionId,
+    },
+    /// A frozen value is changed: an error.
+    MutateFrozen {
+        /// What it is about.
+        place: Place,
+        /// The diagnostic that is recorded.
+        error: DiagnosticId,
+    },
+    /// A global value is changed: an error.
+    MutateGlobal {
+        /// What it is about.
+        place: Place,
+        /// The diagnostic that is recorded.
+        error: DiagnosticId,
+    },
+    /// Something impure is done: an error.
+    Impure {
+        /// What it is about.
+        place: Place,
+        /// The diagnostic that is recorded.
+        error: DiagnosticId,
+    },
+    /// The value is used while rendering.
+    Render {
+        /// What is used.
+        place: Place,
+    },
 }
 
 impl AliasingEffect {
@@ -271,6 +437,7 @@ impl AliasingEffect {
         }
     }
 
+    /// The case, without what it holds.
     pub const fn kind(&self) -> EffectKind {
         match self {
             AliasingEffect::Freeze { .. } => EffectKind::Freeze,

@@ -4,20 +4,32 @@ use std::fmt;
 
 /// Why a call was refused. The lower number is checked first, but 3 to 6 come from one reading
 /// left to right: the first faulty word decides.
+///
+/// The library says no more than the number. Which word is faulty and what was expected there says
+/// [`Sheet::read`](crate::Sheet::read) of the same words; how many relation effects, mutations and
+/// renders a sheet has says [`Sheet::totals`](crate::Sheet::totals).
 #[derive(Debug, Clone, Copy, PartialEq, Eq, Hash)]
 #[repr(u32)]
 #[non_exhaustive]
 pub enum Refusal {
-    /// Cannot come from [`Service`](crate::Service), which lends enough.
+    /// The workspace has fewer than 16,384 words. Cannot come from [`Service`](crate::Service),
+    /// which lends enough.
     ShortWorkspace = 1,
+    /// The sheet has more than 16,384 words.
     LongSheet = 2,
+    /// The sheet ends where a word is due.
     SheetEnds = 3,
+    /// A count is above its limit, or differs from a fixed count.
     Count = 4,
+    /// A word is outside its range.
     OutOfRange = 5,
+    /// A block number is used a second time, or a phi names one predecessor twice.
     UsedTwice = 6,
+    /// Words follow the last block.
     WordsFollow = 7,
+    /// The sheet has over 1,024 relation effects, 512 mutations or 256 renders.
     Totals = 8,
-    /// Comes from [`Service`](crate::Service) only where it was given a longest answer.
+    /// The answer buffer is shorter than the answer. Comes from [`Service`](crate::Service) only where it was given a longest answer.
     ShortAnswer = 9,
 }
 
@@ -35,15 +47,17 @@ impl Refusal {
         Refusal::ShortAnswer,
     ];
 
+    /// The number, 1 to 9.
     pub fn number(self) -> u32 {
         self as u32
     }
 
+    /// The refusal of a number; none for 0, which stands for no refusal, and above 9.
     pub fn from_number(number: u32) -> Option<Refusal> {
         Refusal::ALL.into_iter().find(|r| r.number() == number)
     }
 
-    /// The sentence of document 01.
+    /// What the number stands for, in one sentence.
     pub fn sentence(self) -> &'static str {
         match self {
             Refusal::ShortWorkspace => "The workspace has fewer than 16,384 words.",

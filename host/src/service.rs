@@ -5,9 +5,6 @@ use crate::ffi::{self, Reply, ServiceState};
 use crate::limits;
 use crate::refusal::Refusal;
 
-/// More words than any answer has.
-const MOST_ANSWER: usize = 1 << 24;
-
 /// Words of the answer buffer that stay allocated between calls.
 const KEPT_ANSWER: usize = 1 << 16;
 
@@ -45,14 +42,14 @@ impl Service {
             state: ServiceState { next: next_serial },
             workspace: vec![0; ffi::least_workspace()].into(),
             answer: Vec::new(),
-            most_answer: MOST_ANSWER,
+            most_answer: limits::ANSWER,
         }
     }
 
     /// Answers of more words than this are refused 9. Without it every answer is given, at most
     /// some 34 megabytes.
     pub fn most_answer(mut self, words: usize) -> Service {
-        self.most_answer = words.min(MOST_ANSWER);
+        self.most_answer = words.min(limits::ANSWER);
         self
     }
 

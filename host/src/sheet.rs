@@ -21,44 +21,72 @@ pub struct Sheet {
     pub(crate) blocks: Vec<Block>,
 }
 
+/// A block: what is done one after another, and how it ends.
 #[derive(Debug, Clone, PartialEq, Eq)]
 pub struct Block {
+    /// The number, by which phis name it.
     pub number: BlockId,
+    /// The phis, which come before the instructions.
     pub phis: Vec<Phi>,
+    /// The instructions, in order.
     pub instructions: Vec<Instruction>,
+    /// How it ends.
     pub terminal: Terminal,
-    /// None where the terminal is `Other`.
+    /// What the terminal does to values. None where the terminal is `Other`.
     pub terminal_effects: Vec<AliasingEffect>,
 }
 
 /// A value that comes from the predecessor by which its block was entered.
 #[derive(Debug, Clone, PartialEq, Eq)]
 pub struct Phi {
+    /// The value.
     pub place: Place,
+    /// Where it comes from, for each predecessor.
     pub operands: Vec<Operand>,
 }
 
+/// What a phi is where its block was entered from this predecessor.
 #[derive(Debug, Clone, Copy, PartialEq, Eq)]
 pub struct Operand {
+    /// The block, which need not be one of the sheet.
     pub predecessor: BlockId,
+    /// The value there.
     pub place: Place,
 }
 
+/// An instruction: when it comes and what it does to values.
 #[derive(Debug, Clone, PartialEq, Eq)]
 pub struct Instruction {
+    /// When it comes.
     pub order: EvaluationOrder,
+    /// What it does to values, in order.
     pub effects: Vec<AliasingEffect>,
 }
 
 /// How a block ends. Only `Return` and `MaybeThrow` can have effects.
 #[derive(Debug, Clone, Copy, PartialEq, Eq)]
 pub enum Terminal {
-    Other { order: EvaluationOrder },
-    Return { order: EvaluationOrder, value: Place },
-    MaybeThrow { order: EvaluationOrder },
+    /// In another way than the two below, without effects.
+    Other {
+        /// When it comes.
+        order: EvaluationOrder,
+    },
+    /// The function returns.
+    Return {
+        /// When it comes.
+        order: EvaluationOrder,
+        /// What is returned.
+        value: Place,
+    },
+    /// The function goes on, or throws.
+    MaybeThrow {
+        /// When it comes.
+        order: EvaluationOrder,
+    },
 }
 
 impl Terminal {
+    /// When it comes.
     pub fn order(&self) -> EvaluationOrder {
         match *self {
             Terminal::Other { order }
@@ -71,46 +99,72 @@ impl Terminal {
 /// The totals that refusal 8 is about.
 #[derive(Debug, Clone, Copy, PartialEq, Eq, Default)]
 pub struct Totals {
+    /// Effects of instructions that relate two values, Alias in terminals, phi operands and Return
+    /// values.
     pub relations: usize,
+    /// Mutations in instructions.
     pub mutations: usize,
+    /// Renders in instructions.
     pub renders: usize,
 }
 
+impl Totals {
+    /// Those that are over their limit: what is counted, how many there are, and how many there
+    /// may be.
+    pub fn over(self) -> impl Iterator<Item = (&'static str, usize, usize)> {
+        let relations = "relation effects, phi operands and Return values";
+        let totals = [
+            (relations, self.relations, limits::RELATIONS),
+            ("mutations", self.mutations, limits::MUTATIONS),
+            ("renders", self.renders, limits::RENDERS),
+        ];
+        totals.into_iter().filter(|&(_, total, most)| total > most)
+    }
+}
+
 impl Sheet {
-    /// The sheet that these words are, or the first fault in them.
+    /// The sheet that these words are, or the first fault in them: which word it is, in which part
+    /// of the sheet, and what was expected there.
     pub fn read(words: &[u32]) -> Result<Sheet, ReadError> {
         reading::read(words)
     }
 
+    /// Whether the function is a function expression, whose errors are not recorded.
     pub fn function_expression(&self) -> bool {
         self.function_expression
     }
 
+    /// Whether errors are recorded.
     pub fn validations(&self) -> bool {
         self.validations
     }
 
+    /// The identifiers; the position is the number.
     pub fn identifiers(&self) -> &[Identifier] {
         &self.identifiers
     }
 
-    /// The diagnostics of each inner function.
+    /// The diagnostics of each inner function; the position is the number.
     pub fn functions(&self) -> &[Vec<DiagnosticId>] {
         &self.functions
     }
 
+    /// The parameters.
     pub fn params(&self) -> &[Place] {
         &self.params
     }
 
+    /// The context variables: what is used from around the function.
     pub fn context(&self) -> &[Place] {
         &self.context
     }
 
+    /// The place that the function returns.
     pub fn returns(&self) -> Place {
         self.returns
     }
 
+    /// The blocks, in order.
     pub fn blocks(&self) -> &[Block] {
         &self.blocks
     }
@@ -120,6 +174,7 @@ impl Sheet {
         (0..self.identifiers.len()).map(|i| IdentifierId(i as u32))
     }
 
+    /// What refusal 8 counts.
     pub fn totals(&self) -> Totals {
         let mut totals = Totals::default();
         for block in &self.blocks {
@@ -138,16 +193,10 @@ impl Sheet {
 
     /// Refusal 2 or 8, if the service will give it: they are about the sheet as a whole.
     pub fn refusal(&self) -> Option<Refusal> {
-        let totals = self.totals();
         if self.words().len() > limits::WORDS {
             Some(Refusal::LongSheet)
-        } else if totals.relations > limits::RELATIONS
-            || totals.mutations > limits::MUTATIONS
-            || totals.renders > limits::RENDERS
-        {
-            Some(Refusal::Totals)
         } else {
-            None
+            self.totals().over().next().map(|_| Refusal::Totals)
         }
     }
 

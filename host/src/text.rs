@@ -30,6 +30,7 @@ use crate::parts::{
     Identifier, IdentifierId, MutableRange, MutationReason, Place, Type, ValueKind, ValueReason,
 };
 use crate::sheet::{Sheet, Terminal};
+use crate::spelling::nearest;
 
 /// The names that a text gives to identifiers and inner functions. A sheet's words have none.
 #[derive(Debug, Clone, PartialEq, Eq, Default)]
@@ -249,7 +250,18 @@ impl<'t> Words<'t> {
     }
 
     fn expected<T>(&mut self, what: &str) -> Parsed<T> {
-        Err(format!("expected {what}, found {}", self.found()))
+        self.expected_name(what, [])
+    }
+
+    /// The same where one of these names could have stood: the word may be one of them misspelt.
+    fn expected_name<'n, T>(
+        &mut self,
+        what: &str,
+        names: impl IntoIterator<Item = &'n str>,
+    ) -> Parsed<T> {
+        let near = self.rest.peek().and_then(|word| nearest(word, names));
+        let hint = near.map_or(String::new(), |name| format!("; did you mean `{name}`?"));
+        Err(format!("expected {what}, found {}{hint}", self.found()))
     }
 
     /// Takes the next word if it is this one.
@@ -262,13 +274,15 @@ impl<'t> Words<'t> {
     }
 
     fn number(&mut self, what: &str) -> Parsed<u32> {
-        match self.rest.peek().and_then(|word| word.parse().ok()) {
-            Some(number) => {
-                self.rest.next();
-                Ok(number)
-            }
-            None => self.expected(&format!("{what} (a number)")),
+        let word = self.rest.peek().copied().unwrap_or_default();
+        if let Ok(number) = word.parse() {
+            self.rest.next();
+            return Ok(number);
         }
+        if !word.is_empty() && word.bytes().all(|byte| byte.is_ascii_digit()) {
+            return Err(format!("{word} is too large for {what}"));
+        }
+        self.expected(&format!("{what} (a number)"))
     }
 
     /// Takes the next word if it names one of these.
@@ -280,30 +294,53 @@ impl<'t> Words<'t> {
         named
     }
 
-    fn named<T: Copy + fmt::Display>(
+    fn named<T: Copy>(
         &mut self,
         what: &str,
         from_name: impl Fn(&str) -> Option<T>,
-        all: &[T],
+        names: &[&str],
     ) -> Parsed<T> {
         match self.take_named(from_name) {
             Some(named) => Ok(named),
-            None => self.expected(&format!("{what} ({})", listed(all))),
+            None => {
+                self.expected_name(&format!("{what} ({})", names.join(", ")), names.iter().copied())
+            }
         }
     }
 
-    /// Fails unless the line ends here. `or` says what else could have stood here.
-    fn end(&mut self, or: &str) -> Parsed {
-        match (self.rest.peek(), or) {
-            (None, _) => Ok(()),
-            (_, "") => self.expected("the end of the line"),
-            _ => self.expected(&format!("{or} or the end of the line")),
+    /// Fails unless the line ends here.
+    fn end(&mut self) -> Parsed {
+        self.end_or(&[])
+    }
+
+    /// Fails unless the line ends here. Each of `or`, a word and what follows it, could also have
+    /// stood here.
+    fn end_or(&mut self, or: &[&str]) -> Parsed {
+        if self.rest.peek().is_none() {
+            return Ok(());
         }
+        let mut what = or.iter().map(|form| format!("`{form}`")).collect::<Vec<_>>().join(", ");
+        if !what.is_empty() {
+            what += " or ";
+        }
+        what += "the end of the line";
+        self.expected_name(&what, or.iter().map(|form| first_word(form)))
+    }
+
+    /// Fails unless the line ends here, behind a place or what the kind of effect has behind it.
+    fn end_of_place(&mut self, or: &[&str]) -> Parsed {
+        if self.rest.peek().is_none() {
+            return Ok(());
+        }
+        let more: String = or.iter().map(|form| format!(", `{form}`")).collect();
+        let what = format!("{MORE_OF_PLACE}{more} or the end of the line");
+        self.expected_name(&what, more_of_place(or))
     }
 }
 
-fn listed<T: fmt::Display>(all: &[T]) -> String {
-    all.iter().map(T::to_string).collect::<Vec<_>>().join(", ")
+/// What the form of a part of a line begins with.
+fn first_word(form: &str) -> &str {
+    form.split(' ').next().unwrap_or_default()
 }
 
 /// A name begins with a letter, `_` or `$`, and goes on with these, digits, `.` and `-`.
@@ -315,6 +352,27 @@ fn is_name(word: &str) -> bool {
 
 /// What a place's line can go on with.
 const MORE_OF_PLACE: &str = "an effect, `reactive`, `span NUMBER`";
+
+/// The words that this can be, and those that the other forms begin with.
+fn more_of_place<'n>(or: &[&'n str]) -> impl Iterator<Item = &'n str> {
+    let others = or.iter().map(|form| first_word(form));
+    Effect::NAMES.iter().copied().chain(["reactive", "span"]).chain(others)
+}
+
+/// What a line can begin with, effects aside.
+const LINES: [&str; 11] = [
+    "flags",
+    "identifier",
+    "function",
+    "param",
+    "context",
+    "returns",
+    "block",
+    "phi",
+    "operand",
+    "instruction",
+    "terminal",
+];
 
 #[derive(Default)]
 struct Parser {
@@ -347,11 +405,12 @@ impl Parser {
             "instruction" => Parser::instruction,
             "terminal" => Parser::terminal,
             _ => {
-                return words.expected(&format!(
-                    "a line that begins with flags, identifier, function, param, context, \
-                     returns, block, phi, operand, instruction, terminal or an effect ({})",
-                    listed(EffectKind::ALL)
-                ));
+                let (lines, effects) = (LINES.join(", "), EffectKind::NAMES.join(", "));
+                let names = LINES.iter().chain(EffectKind::NAMES).copied();
+                return words.expected_name(
+                    &format!("a line that begins with {lines} or an effect ({effects})"),
+                    names,
+                );
             }
         };
         words.rest.next();
@@ -364,11 +423,11 @@ impl Parser {
         }
         self.flags = true;
         if words.take("none") {
-            return words.end("");
+            return words.end();
         }
         self.builder.function_expression(words.take("function-expression"));
         self.builder.validations(words.take("validations"));
-        words.end("`function-expression`, `validations`, `none`")
+        words.end_or(&["function-expression", "validations", "none"])
     }
 
     fn name(&self, words: &mut Words, what: &str) -> Parsed<String> {
@@ -390,9 +449,9 @@ impl Parser {
         }
         let mut type_ = Type::Other;
         if words.take("type") {
-            type_ = words.named("a type", Type::from_name, Type::ALL)?;
+            type_ = words.named("a type", Type::from_name, Type::NAMES)?;
         }
-        words.end("`range START END`, `type TYPE`")?;
+        words.end_or(&["range START END", "type TYPE"])?;
         let id = self.builder.identifier(Identifier { range, type_ }).map_err(|e| e.to_string())?;
         self.names.identifiers.push(name.clone());
         self.identifiers.insert(name, id);
@@ -410,7 +469,7 @@ impl Parser {
                 diagnostics.push(DiagnosticId(words.number("a diagnostic number")?));
             }
         }
-        words.end("`diagnostics NUMBER ..`")?;
+        words.end_or(&["diagnostics NUMBER .."])?;
         let id = self.builder.function(&diagnostics).map_err(|e| e.to_string())?;
         self.names.functions.push(name.clone());
         self.functions.insert(name, id);
@@ -420,7 +479,8 @@ impl Parser {
     fn place(&self, words: &mut Words) -> Parsed<Place> {
         let known = words.rest.peek().and_then(|name| self.identifiers.get(*name));
         let Some(&identifier) = known else {
-            return words.expected("the name of an identifier declared above");
+            let names = self.names.identifiers.iter().map(String::as_str);
+            return words.expected_name("the name of an identifier declared above", names);
         };
         words.rest.next();
         let effect = words.take_named(Effect::from_name).unwrap_or(Effect::Unknown);
@@ -432,7 +492,7 @@ impl Parser {
     /// A place that ends its line.
     fn last_place(&self, words: &mut Words) -> Parsed<Place> {
         let place = self.place(words)?;
-        words.end(MORE_OF_PLACE)?;
+        words.end_of_place(&[])?;
         Ok(place)
     }
 
@@ -440,7 +500,8 @@ impl Parser {
     fn place_then(&self, words: &mut Words, then: &str) -> Parsed<Place> {
         let place = self.place(words)?;
         if !words.take(then) {
-            return words.expected(&format!("{MORE_OF_PLACE} or `{then}`"));
+            let what = format!("{MORE_OF_PLACE} or `{then}`");
+            return words.expected_name(&what, more_of_place(&[then]));
         }
         Ok(place)
     }
@@ -465,7 +526,7 @@ impl Parser {
 
     fn block(&mut self, words: &mut Words) -> Parsed {
         let number = BlockId(words.number("a block's number")?);
-        words.end("")?;
+        words.end()?;
         self.builder.block(number).map_err(|e| e.to_string())
     }
 
@@ -477,14 +538,14 @@ impl Parser {
     fn operand(&mut self, words: &mut Words) -> Parsed {
         let place = self.place_then(words, "from")?;
         let predecessor = BlockId(words.number("the number of a block")?);
-        words.end("")?;
+        words.end()?;
         self.builder.operand(predecessor, place).map_err(|e| e.to_string())
     }
 
     fn instruction(&mut self, words: &mut Words) -> Parsed {
         words.keyword("at")?;
         let order = EvaluationOrder(words.number("an order")?);
-        words.end("")?;
+        words.end()?;
         self.builder.instruction(order).map_err(|e| e.to_string())
     }
 
@@ -493,12 +554,13 @@ impl Parser {
         let throws = value.is_none() && words.take("MaybeThrow");
         if value.is_none() {
             if !throws && !words.take("Other") {
-                return words.expected("`Return`, `MaybeThrow` or `Other`");
+                let names = ["Return", "MaybeThrow", "Other"];
+                return words.expected_name("`Return`, `MaybeThrow` or `Other`", names);
             }
             words.keyword("at")?;
         }
         let order = EvaluationOrder(words.number("an order")?);
-        words.end("")?;
+        words.end()?;
         let terminal = match value {
             Some(value) => Terminal::Return { order, value },
             None if throws => Terminal::MaybeThrow { order },
@@ -527,7 +589,7 @@ impl Parser {
     fn extra(&self, kind: EffectKind, words: &mut Words) -> Parsed<u32> {
         let reason = |words: &mut Words| {
             if words.take("reason") {
-                words.named("a reason", ValueReason::from_name, ValueReason::ALL)
+                words.named("a reason", ValueReason::from_name, ValueReason::NAMES)
             } else {
                 Ok(ValueReason::KnownReturnSignature)
             }
@@ -535,55 +597,59 @@ impl Parser {
         match kind {
             EffectKind::Freeze => {
                 let reason = reason(words)?;
-                words.end(&format!("{MORE_OF_PLACE}, `reason REASON`"))?;
+                words.end_of_place(&["reason REASON"])?;
                 Ok(reason.number())
             }
             EffectKind::Mutate => {
                 let given = words.take("reason");
                 if given {
-                    let all = MutationReason::ALL;
-                    words.named("a reason", MutationReason::from_name, all)?;
+                    let names = MutationReason::NAMES;
+                    words.named("a reason", MutationReason::from_name, names)?;
                 }
-                words.end(&format!("{MORE_OF_PLACE}, `reason REASON`"))?;
+                words.end_of_place(&["reason REASON"])?;
                 Ok(given as u32)
             }
             EffectKind::Create => {
                 let mut value = ValueKind::Mutable;
                 if words.take("value") {
-                    value = words.named("a value kind", ValueKind::from_name, ValueKind::ALL)?;
+                    value = words.named("a value kind", ValueKind::from_name, ValueKind::NAMES)?;
                 }
                 let reason = reason(words)?;
-                words.end(&format!("{MORE_OF_PLACE}, `value KIND`, `reason REASON`"))?;
+                words.end_of_place(&["value KIND", "reason REASON"])?;
                 Ok(6 * reason.number() + value.number())
             }
             EffectKind::CreateFunction => {
                 if !words.take("function") {
-                    return words.expected(&format!("{MORE_OF_PLACE} or `function NAME`"));
+                    let what = format!("{MORE_OF_PLACE} or `function NAME`");
+                    return words.expected_name(&what, more_of_place(&["function"]));
                 }
                 let known = words.rest.peek().and_then(|name| self.functions.get(*name));
                 let Some(&function) = known else {
-                    return words.expected("the name of an inner function declared above");
+                    let names = self.names.functions.iter().map(String::as_str);
+                    let what = "the name of an inner function declared above";
+                    return words.expected_name(what, names);
                 };
                 words.rest.next();
-                words.end("")?;
+                words.end()?;
                 Ok(function.0)
             }
             EffectKind::MutateFrozen | EffectKind::MutateGlobal | EffectKind::Impure => {
                 if !words.take("diagnostic") {
-                    return words.expected(&format!("{MORE_OF_PLACE} or `diagnostic NUMBER`"));
+                    let what = format!("{MORE_OF_PLACE} or `diagnostic NUMBER`");
+                    return words.expected_name(&what, more_of_place(&["diagnostic"]));
                 }
                 let number = words.number("a diagnostic number")?;
-                words.end("")?;
+                words.end()?;
                 at_most("a diagnostic number", number, limits::DIAGNOSTIC)
                     .map_err(|e| e.to_string())?;
                 Ok(number)
             }
             EffectKind::Apply => {
-                words.end("")?;
+                words.end()?;
                 Ok(0)
             }
             _ => {
-                words.end(MORE_OF_PLACE)?;
+                words.end_of_place(&[])?;
                 Ok(0)
             }
         }

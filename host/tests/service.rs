@@ -10,7 +10,7 @@ use oracle::random::Random;
 use service_host::ffi::{self, Reply, ServiceState};
 use service_host::{
     AliasingEffect, DiagnosticId, Effect, EvaluationOrder, Identifier, IdentifierId, MutableRange,
-    Place, Refusal, Service, SheetBuilder,
+    Place, Refusal, Service, SheetBuilder, limits,
 };
 
 fn place(identifier: u32) -> Place {
@@ -228,7 +228,8 @@ fn answers_of_any_length() {
     let mut service = Service::new();
     let answer = service.infer(&sheet).unwrap();
     assert_eq!(answer.serial(), 0, "attempts with too short a buffer take no serial");
-    assert_eq!(answer.diagnostics().len(), 8_388_608);
+    assert_eq!((sheet.len(), answer.diagnostics().len()), (11_854, 8_388_608));
+    assert!(answer.words().len() <= limits::ANSWER);
     assert!(answer.diagnostics().zip((0..64).cycle()).all(|(d, i)| d.0 == 1_000 + i));
     // The next call is a small one again.
     let answer = service.infer(&case_1()).unwrap();
@@ -241,6 +242,27 @@ fn answers_of_any_length() {
     assert_eq!(tight.infer(&case_1()).unwrap().words().len(), 42);
     let mut short = Service::new().most_answer(41);
     assert_eq!(short.infer(&case_1()).unwrap_err(), Refusal::ShortAnswer);
+}
+
+/// 64 parameters and 64 context variables, each of which flows into each other one and into what
+/// is returned: as many such effects as `limits::ANSWER` counts.
+#[test]
+fn most_effects() {
+    let mut sheet = SheetBuilder::new();
+    let ids: Vec<_> = (0..129).map(|_| sheet.identifier(Identifier::default()).unwrap()).collect();
+    ids[..64].iter().for_each(|&id| sheet.param(Place::of(id)).unwrap());
+    ids[64..128].iter().for_each(|&id| sheet.context(Place::of(id)).unwrap());
+    sheet.block(service_host::BlockId(0)).unwrap();
+    sheet.instruction(EvaluationOrder(1)).unwrap();
+    for pair in ids.windows(2) {
+        let (from, into) = (Place::of(pair[0]), Place::of(pair[1]));
+        sheet.effect(AliasingEffect::Alias { from, into }).unwrap();
+    }
+    let order = EvaluationOrder(2);
+    sheet.terminal(service_host::Terminal::Other { order }).unwrap();
+    let sheet = sheet.finish(place(128)).unwrap().words();
+    let mut service = Service::new();
+    assert_eq!(service.infer(&sheet).unwrap().effects().len(), 1 + 128 * 128);
 }
 
 /// Good and damaged sheets, in one service, against the plain implementation and the original.
@@ -287,7 +309,7 @@ fn answers_are_the_oracles() {
 #[test]
 fn sizes() {
     assert_eq!(ffi::least_workspace(), 16_384);
-    assert_eq!(ffi::most_sheet(), service_host::limits::WORDS);
+    assert_eq!(ffi::most_sheet(), limits::WORDS);
     assert_eq!(ffi::new_state(), ServiceState { next: 0 });
 }
 

@@ -382,7 +382,11 @@ fn faults_in_text_name_the_line_and_what_was_expected() {
     );
     assert_eq!(
         error("identifier c range 4 1000001"),
-        "line 5: a range's end is at most 1000000, not 1000001"
+        "line 5: 1000001 is too large for a range's end, which is at most 1000000"
+    );
+    assert_eq!(
+        error("identifier c range 4294967296 0"),
+        "line 5: 4294967296 is too large for the range's start"
     );
     assert_eq!(
         error("identifier c type Array"),
@@ -394,7 +398,8 @@ fn faults_in_text_name_the_line_and_what_was_expected() {
     );
     assert_eq!(
         error("param a Reads"),
-        "line 5: expected an effect, `reactive`, `span NUMBER` or the end of the line, found `Reads`"
+        "line 5: expected an effect, `reactive`, `span NUMBER` or the end of the line, \
+         found `Reads`; did you mean `Read`?"
     );
     assert_eq!(error("param a span many"), "line 5: expected a span (a number), found `many`");
     assert_eq!(error("block x"), "line 5: expected a block's number (a number), found `x`");
@@ -423,7 +428,7 @@ fn faults_in_text_name_the_line_and_what_was_expected() {
     );
     assert_eq!(
         block("terminal Other at 1000000"),
-        "line 6: a terminal's order is at most 999999, not 1000000"
+        "line 6: 1000000 is too large for a terminal's order, which is at most 999999"
     );
     let effect = |line: &str| block(&format!("instruction at 1\n{line}"));
     assert_eq!(
@@ -436,7 +441,7 @@ fn faults_in_text_name_the_line_and_what_was_expected() {
     );
     assert_eq!(
         effect("Impure a diagnostic 65536"),
-        "line 7: a diagnostic number is at most 65535, not 65536"
+        "line 7: 65536 is too large for a diagnostic number, which is at most 65535"
     );
     assert!(
         effect("Freeze a reason Frost")
@@ -445,8 +450,60 @@ fn faults_in_text_name_the_line_and_what_was_expected() {
     assert_eq!(effect("Apply a"), "line 7: expected the end of the line, found `a`");
     assert_eq!(
         error("flags validation"),
-        "line 5: expected `function-expression`, `validations`, `none` or the end of the line, found `validation`"
+        "line 5: expected `function-expression`, `validations`, `none` or the end of the line, \
+         found `validation`; did you mean `validations`?"
     );
+}
+
+/// The name that a misspelt word is nearest to is proposed, of those that could stand there.
+#[test]
+fn misspelt_words() {
+    let head = "identifier props\nidentifier b\nfunction click\nreturns b\nblock 0\n";
+    let meant = |lines: &str| {
+        let error = text::parse(&format!("{head}{lines}")).unwrap_err().to_string();
+        error
+            .split_once("; did you mean `")
+            .map(|(_, name)| name.trim_end_matches("`?").to_string())
+    };
+    let effect = |line: &str| meant(&format!("instruction at 1\n{line}"));
+    assert_eq!(meant("instuction at 1").as_deref(), Some("instruction"));
+    assert_eq!(meant("terminal return b at 1").as_deref(), Some("Return"));
+    assert_eq!(meant("parm b").as_deref(), Some("param"));
+    assert_eq!(meant("phi prop").as_deref(), Some("props"));
+    assert_eq!(meant("phi props\noperand b frm 1").as_deref(), Some("from"));
+    assert_eq!(effect("MutateTransitve b").as_deref(), Some("MutateTransitive"));
+    assert_eq!(effect("Cpature b into props").as_deref(), Some("Capture"));
+    assert_eq!(effect("maybealias b into props").as_deref(), Some("MaybeAlias"));
+    assert_eq!(effect("Alias b int props").as_deref(), Some("into"));
+    assert_eq!(effect("Render b reactiv").as_deref(), Some("reactive"));
+    assert_eq!(effect("Create b valu Frozen").as_deref(), Some("value"));
+    assert_eq!(effect("Create b value Frosen").as_deref(), Some("Frozen"));
+    assert_eq!(effect("Freeze b reason JSXCaptured").as_deref(), Some("JsxCaptured"));
+    assert_eq!(effect("CreateFunction b function clik").as_deref(), Some("click"));
+    assert_eq!(effect("CreateFunction b funktion click").as_deref(), Some("function"));
+    assert_eq!(effect("Impure b diagnostics 1").as_deref(), Some("diagnostic"));
+    assert_eq!(effect("Draw b"), None);
+    assert_eq!(effect("Render c"), None);
+}
+
+/// Every total over its limit is named.
+#[test]
+fn totals_over_their_limits() {
+    let mut b = builder(2);
+    b.block(BlockId(0)).unwrap();
+    b.phi(place(0)).unwrap();
+    for number in 0..1_024 {
+        b.operand(BlockId(number), place(1)).unwrap();
+    }
+    b.instruction(order(1)).unwrap();
+    for _ in 0..257 {
+        b.effect(AliasingEffect::Render { place: place(0) }).unwrap();
+    }
+    b.terminal(Terminal::Return { order: order(2), value: place(1) }).unwrap();
+    let totals = b.finish(place(0)).unwrap().totals();
+    let relations = "relation effects, phi operands and Return values";
+    let over: Vec<_> = totals.over().collect();
+    assert_eq!(over, [(relations, 1_025, 1_024), ("renders", 257, 256)]);
 }
 
 /// Words of texts cut, moved and changed: an error or a sheet, and the sheet is never refused

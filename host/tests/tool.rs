@@ -63,20 +63,144 @@ fn explained() {
 }
 
 #[test]
+fn answered() {
+    let lines = "ranges 3 0 3 0 3 0 0\n\
+                 params 1 0 3 5\n\
+                 context 0\n\
+                 diagnostics 0\n\
+                 effects 3 3 0 0 7 0 0 0 0 9 2 0 0 0 0 0 0 6 0 3 5 2 0 0 0\n\
+                 walks 3 3 5 5\n";
+    assert_eq!(String::from_utf8(out(&["answer", "case1.sheet"])).unwrap(), lines);
+    assert_eq!(String::from_utf8(out(&["answer", "case1.txt"])).unwrap(), lines);
+    let copy = file("answer.txt", b"");
+    assert!(out(&["answer", "-o", &copy, "case1.txt"]).is_empty());
+    assert_eq!(std::fs::read_to_string(&copy).unwrap(), lines);
+}
+
+#[test]
+fn help_and_version() {
+    let version = concat!("sheet ", env!("CARGO_PKG_VERSION"), "\n");
+    for flag in ["--version", "-V"] {
+        assert_eq!(String::from_utf8(out(&[flag])).unwrap(), version);
+    }
+    for args in [&["--help"][..], &["-h"], &["text", "case1.sheet", "--help"]] {
+        let text = String::from_utf8(out(args)).unwrap();
+        assert!(text.starts_with("usage: sheet text FILE"), "{text}");
+        for command in ["words", "answer", "explain", "--help", "--version"] {
+            assert!(text.contains(&format!("\n       sheet {command}")), "{command}");
+        }
+    }
+}
+
+/// A faulty command is answered by what is wrong with it, and the usage.
+#[test]
+fn faulty_commands() {
+    for (args, message) in [
+        (&[][..], "expected a command"),
+        (&["draw", "case1.txt"], "unknown command `draw`"),
+        (&["text"], "expected a FILE after `text`"),
+        (&["text", "case1.sheet", "case1.txt"], "expected one FILE, found `case1.txt` too"),
+        (&["text", "--quiet", "case1.sheet"], "unknown flag `--quiet`"),
+        (&["text", "case1.sheet", "-x"], "unknown flag `-x`"),
+        (&["text", "case1.sheet", "-o"], "expected a file name after -o"),
+        (&["text", "case1.sheet", "-o", "a", "-o", "b"], "-o is given twice"),
+    ] {
+        let output = sheet(args);
+        assert_eq!(output.status.code(), Some(2), "{args:?}");
+        assert!(output.stdout.is_empty(), "{args:?}");
+        let text = String::from_utf8(output.stderr).unwrap();
+        assert!(text.starts_with(&format!("sheet: {message}\n\nusage: sheet ")), "{text}");
+    }
+}
+
+/// Text in another encoding is named as such, whatever is asked for.
+#[test]
+fn other_encodings() {
+    let text = "flags none\nidentifier a\nreturns a\n";
+    let marked = [b"\xef\xbb\xbf", text.as_bytes()].concat();
+    let wide = |order: fn(u16) -> [u8; 2], mark: &str| -> Vec<u8> {
+        format!("{mark}{text}").encode_utf16().flat_map(order).collect()
+    };
+    let utf16 = "UTF-16 (save the text as UTF-8)";
+    let utf16_mark = "the byte order mark of UTF-16 (save the text as UTF-8)";
+    for (name, bytes, found) in [
+        ("mark.txt", marked, "a byte order mark (save the text without one)"),
+        ("low.txt", wide(u16::to_le_bytes, ""), utf16),
+        ("high.txt", wide(u16::to_be_bytes, ""), utf16),
+        ("low-mark.txt", wide(u16::to_le_bytes, "\u{feff}"), utf16_mark),
+        ("high-mark.txt", wide(u16::to_be_bytes, "\u{feff}"), utf16_mark),
+    ] {
+        let path = file(name, &bytes);
+        for command in ["text", "words", "answer", "explain"] {
+            let message = format!("expected words or text in UTF-8, found {found}\n");
+            assert_eq!(fault(&[command, &path]), format!("sheet: {path}: {message}"));
+        }
+    }
+    let latin = file("latin.txt", b"identifier a\n# caf\xe9\nreturns a\n");
+    assert_eq!(
+        fault(&["words", &latin]),
+        format!("sheet: {latin}: line 2: expected text in UTF-8, found the byte 0xe9\n")
+    );
+}
+
+/// Refusals about the sheet as a whole come with the numbers behind them.
+#[test]
+fn refusals_of_the_whole() {
+    let head = "identifier a\nreturns a\nblock 0\ninstruction at 1\n";
+    let text = |line: &str, times: usize| head.to_string() + &format!("{line}\n").repeat(times);
+    let one = "terminal Other at 2\n";
+    let totals = [
+        (text("Mutate a", 513) + one, "513 mutations, at most 512"),
+        (text("Render a", 257) + one, "257 renders, at most 256"),
+        (
+            text("Alias a into a", 1_024) + "terminal Return a at 2\n",
+            "1025 relation effects, phi operands and Return values, at most 1024",
+        ),
+    ];
+    for (text, message) in &totals {
+        let path = file("totals.txt", text.as_bytes());
+        let message = format!("sheet: {path}: refused 8: the sheet has {message}\n");
+        assert_eq!(fault(&["answer", &path]), message);
+        assert_eq!(fault(&["explain", &path]), message);
+        // Its words can be had all the same, and read again.
+        let output = sheet(&["words", &path]);
+        assert!(output.status.success());
+        assert_eq!(String::from_utf8(output.stderr).unwrap(), message);
+        let words = file("totals.sheet", &output.stdout);
+        assert_eq!(fault(&["answer", &words]), message.replace("totals.txt", "totals.sheet"));
+    }
+    let long = text("Apply", 1_020) + "instruction at 2\n";
+    let path = file("long.txt", (long + &"Apply\n".repeat(1_024) + one).as_bytes());
+    let words = 3 + 4 + 1 + 1 + 1 + 4 + 1 + 2 + 1 + 2 + 2 + 8 * 2_044 + 2;
+    assert_eq!(words, 16_376);
+    assert!(sheet(&["answer", &path]).status.success());
+    let more =
+        std::fs::read_to_string(&path).unwrap().replace(one, "instruction at 3\nApply\n") + one;
+    let path = file("long.txt", more.as_bytes());
+    assert!(fault(&["answer", &path]).ends_with("at most 16384 words, this one 16386\n"));
+    assert_eq!(
+        fault(&["explain", &path]),
+        format!("sheet: {path}: refused 2: the sheet has 16386 words, at most 16384\n")
+    );
+}
+
+#[test]
 fn faults() {
-    assert_eq!(sheet(&[]).status.code(), Some(2));
-    assert_eq!(sheet(&["draw", "case1.txt"]).status.code(), Some(2));
     assert!(fault(&["text", "nothing.sheet"]).starts_with("sheet: nothing.sheet: No such file"));
     assert_eq!(fault(&["text", "case1.txt"]), "sheet: case1.txt: expected words, found text\n");
     assert_eq!(
         fault(&["words", "case1.sheet"]),
         "sheet: case1.sheet: expected text, found words\n"
     );
-    let misspelled = file("misspelled.txt", b"identifier a\nparam a\nreturn a\n");
-    assert!(
-        fault(&["explain", &misspelled]).contains(
-            "misspelled.txt: line 3: expected a line that begins with flags, identifier, "
-        )
+    let misspelt = file("misspelt.txt", b"identifier a\nparam a\nreturn a\n");
+    let message = fault(&["explain", &misspelt]);
+    let start = "misspelt.txt: line 3: expected a line that begins with flags, identifier, ";
+    assert!(message.contains(start), "{message}");
+    assert!(message.ends_with(", found `return`; did you mean `returns`?\n"), "{message}");
+    let large = file("large.txt", b"identifier a range 0 4294967296\nreturns a\n");
+    assert_eq!(
+        fault(&["words", &large]),
+        format!("sheet: {large}: line 1: 4294967296 is too large for the range's end\n")
     );
     let faulty = file("faulty.sheet", &[2, 0, 0, 0, 7, 0, 0, 0]);
     assert!(fault(&["explain", &faulty]).ends_with(

@@ -1,5 +1,6 @@
-//! The oracle: the original pass, a plain implementation of document 01, and
-//! sheets to hold them against each other.
+//! The oracle: the original pass, a plain implementation of document 01 (the customer's
+//! paper on the sheet and the answer, which docs/FORMAT.md and crates/model/specs
+//! restate), and sheets to hold them against each other.
 
 pub mod boundaries;
 pub mod cases;

@@ -1,5 +1,5 @@
-//! The alias graph of a sheet, as document 01 builds it ("Building"), where each relation also
-//! knows from which part of the sheet it comes.
+//! The alias graph of a sheet, as document 01 builds it ("Building"; docs/FORMAT.md says what
+//! document 01 is), where each relation also knows from which part of the sheet it comes.
 
 use service_host::{
     AliasingEffect, BlockId, EffectKind, EvaluationOrder, IdentifierId, Sheet, Terminal,

@@ -1,43 +1,99 @@
-//! Sheets for people: words to text, text to words, and why each end is where it is.
+//! Sheets for people: words to text, text to words, the library's answer, and why each end is
+//! where it is.
 
 mod explain;
 mod graph;
+mod load;
 mod walks;
 
-use std::io::{Read, Write};
+use std::ffi::OsString;
+use std::io::Write;
+use std::path::{Path, PathBuf};
 use std::process::ExitCode;
 
+use load::Form;
 use service_host::text::{self, Names};
-use service_host::{Service, Sheet};
+use service_host::{Refusal, Service, Sheet, limits};
 
 const USAGE: &str = "\
 usage: sheet text FILE [-o OUT]      a file of words as text
        sheet words FILE [-o OUT]     text as a file of words
-       sheet explain FILE            each identifier's range before and after, and why: either form
+       sheet answer FILE [-o OUT]    the answer, a line for each section: either form
+       sheet explain FILE [-o OUT]   each identifier's range before and after, and why: either form
+       sheet --help
+       sheet --version
 
-A word is four bytes, lowest first. FILE - is standard input. The text form is described in
-docs/TEXT.md.";
+A word is four bytes, lowest first; a cut last word is filled up with zeros. FILE - is standard
+input. Of a sheet that is refused, the faulty word is named. The repository describes the text form
+in docs/TEXT.md and the words in docs/FORMAT.md.
+
+Exit status: 0 done; 1 the file or its sheet is faulty; 2 the command is.";
+
+/// What the arguments ask for.
+enum Request {
+    Say(&'static str),
+    Run { command: Command, file: PathBuf, out: Option<PathBuf> },
+}
+
+type Command = fn(&Path) -> Result<Vec<u8>, String>;
+
+const VERSION: &str = concat!("sheet ", env!("CARGO_PKG_VERSION"));
+
+fn request(args: impl Iterator<Item = OsString>) -> Result<Request, String> {
+    let mut args = args;
+    let mut words = Vec::new();
+    let mut out = None;
+    while let Some(arg) = args.next() {
+        match arg.to_str() {
+            Some("--help" | "-h") => return Ok(Request::Say(USAGE)),
+            Some("--version" | "-V") => return Ok(Request::Say(VERSION)),
+            Some("-o") if out.is_some() => return Err("-o is given twice".to_string()),
+            Some("-o") => match args.next() {
+                Some(name) => out = Some(PathBuf::from(name)),
+                None => return Err("expected a file name after -o".to_string()),
+            },
+            Some(flag) if flag.starts_with('-') && flag != "-" => {
+                return Err(format!("unknown flag `{flag}`"));
+            }
+            _ => words.push(arg),
+        }
+    }
+    let mut words = words.into_iter();
+    let Some(name) = words.next() else {
+        return Err("expected a command".to_string());
+    };
+    let command: Command = match name.to_str() {
+        Some("text") => to_text,
+        Some("words") => to_words,
+        Some("answer") => answered,
+        Some("explain") => explained,
+        _ => return Err(format!("unknown command `{}`", name.display())),
+    };
+    let Some(file) = words.next().map(PathBuf::from) else {
+        return Err(format!("expected a FILE after `{}`", name.display()));
+    };
+    match words.next() {
+        None => Ok(Request::Run { command, file, out }),
+        Some(more) => Err(format!("expected one FILE, found `{}` too", more.display())),
+    }
+}
 
 fn main() -> ExitCode {
-    let args: Vec<String> = std::env::args().skip(1).collect();
-    let args: Vec<&str> = args.iter().map(String::as_str).collect();
-    let (command, file, out) = match args[..] {
-        [command, file] => (command, file, None),
-        [command, file, "-o", out] | [command, "-o", out, file] => (command, file, Some(out)),
-        _ => ("", "", None),
-    };
-    let output = match (command, out) {
-        ("text", _) => to_text(file),
-        ("words", _) => to_words(file),
-        ("explain", None) => explained(file),
-        _ => {
-            eprintln!("{USAGE}");
+    let (command, file, out) = match request(std::env::args_os().skip(1)) {
+        Ok(Request::Run { command, file, out }) => (command, file, out),
+        Ok(Request::Say(text)) => {
+            println!("{text}");
+            return ExitCode::SUCCESS;
+        }
+        Err(message) => {
+            eprintln!("sheet: {message}\n\n{USAGE}");
             return ExitCode::from(2);
         }
     };
+    let output = command(&file).map_err(|message| format!("{}: {message}", file.display()));
     let done = output.and_then(|bytes| match out {
         None => std::io::stdout().write_all(&bytes).map_err(|e| format!("standard output: {e}")),
-        Some(out) => std::fs::write(out, &bytes).map_err(|e| format!("{out}: {e}")),
+        Some(out) => std::fs::write(&out, &bytes).map_err(|e| format!("{}: {e}", out.display())),
     });
     match done {
         Ok(()) => ExitCode::SUCCESS,
@@ -48,74 +104,46 @@ fn main() -> ExitCode {
     }
 }
 
-/// A file in one of its two forms. Only words have a byte 0, and every sheet's words have one.
-enum Form {
-    Words(Vec<u32>),
-    Text(String),
-}
-
-fn load(file: &str) -> Result<Form, String> {
-    let mut bytes = Vec::new();
-    let read = if file == "-" {
-        std::io::stdin().read_to_end(&mut bytes)
-    } else {
-        std::fs::File::open(file).and_then(|mut f| f.read_to_end(&mut bytes))
+fn to_text(file: &Path) -> Result<Vec<u8>, String> {
+    let Form::Words(words) = load::load(file)? else {
+        return Err("expected words, found text".to_string());
     };
-    read.map_err(|e| format!("{file}: {e}"))?;
-    if bytes.is_empty() {
-        return Err(format!("{file}: expected a sheet, found nothing"));
-    }
-    match String::from_utf8(bytes) {
-        Ok(text) if !text.contains('\0') => Ok(Form::Text(text)),
-        Ok(text) => Ok(Form::Words(words(&text.into_bytes()))),
-        Err(error) => Ok(Form::Words(words(error.as_bytes()))),
-    }
-}
-
-/// A cut last word is filled up with zeros.
-fn words(bytes: &[u8]) -> Vec<u32> {
-    let word = |part: &[u8]| {
-        let mut four = [0; 4];
-        four[..part.len()].copy_from_slice(part);
-        u32::from_le_bytes(four)
-    };
-    bytes.chunks(4).map(word).collect()
-}
-
-fn to_text(file: &str) -> Result<Vec<u8>, String> {
-    let Form::Words(words) = load(file)? else {
-        return Err(format!("{file}: expected words, found text"));
-    };
-    let sheet = Sheet::read(&words).map_err(|e| format!("{file}: {e}"))?;
-    if let Some(refusal) = sheet.refusal() {
-        eprintln!("sheet: {file}: {refusal}");
-    }
+    let sheet = Sheet::read(&words).map_err(|e| e.to_string())?;
+    warn(file, &sheet);
     Ok(text::write(&sheet, &Names::numbered(&sheet)).into_bytes())
 }
 
-fn to_words(file: &str) -> Result<Vec<u8>, String> {
-    let Form::Text(text) = load(file)? else {
-        return Err(format!("{file}: expected text, found words"));
+fn to_words(file: &Path) -> Result<Vec<u8>, String> {
+    let Form::Text(text) = load::load(file)? else {
+        return Err("expected text, found words".to_string());
     };
-    let (sheet, _) = text::parse(&text).map_err(|e| format!("{file}: {e}"))?;
-    if let Some(refusal) = sheet.refusal() {
-        eprintln!("sheet: {file}: {refusal}");
-    }
+    let (sheet, _) = text::parse(&text).map_err(|e| e.to_string())?;
+    warn(file, &sheet);
     Ok(sheet.words().iter().flat_map(|word| word.to_le_bytes()).collect())
 }
 
-fn explained(file: &str) -> Result<Vec<u8>, String> {
-    let (sheet, names) = match load(file)? {
-        Form::Text(text) => text::parse(&text).map_err(|e| format!("{file}: {e}"))?,
-        Form::Words(words) => {
-            let sheet = Sheet::read(&words).map_err(|e| format!("{file}: {e}"))?;
-            let names = Names::numbered(&sheet);
-            (sheet, names)
-        }
+/// The library is asked about the words as they are, faulty ones too.
+fn answered(file: &Path) -> Result<Vec<u8>, String> {
+    let words = match load::load(file)? {
+        Form::Text(text) => text::parse(&text).map_err(|e| e.to_string())?.0.words(),
+        Form::Words(words) => words,
     };
     let mut service = Service::new();
-    let answer = service.infer(&sheet.words()).map_err(|e| format!("{file}: {e}"))?;
-    let all = explain::explain(&sheet, &answer).map_err(|e| format!("{file}: {e}"))?;
+    match service.infer(&words) {
+        Ok(answer) => Ok(answer.to_string().into_bytes()),
+        Err(refusal) => Err(match Sheet::read(&words) {
+            Ok(sheet) => why(&sheet, refusal),
+            Err(error) if error.refusal() == refusal => error.to_string(),
+            Err(_) => refusal.to_string(),
+        }),
+    }
+}
+
+fn explained(file: &Path) -> Result<Vec<u8>, String> {
+    let (sheet, names) = either(file)?;
+    let mut service = Service::new();
+    let answer = service.infer(&sheet.words()).map_err(|refusal| why(&sheet, refusal))?;
+    let all = explain::explain(&sheet, &answer)?;
     let moved = all.iter().filter(|m| m.by.is_some()).count();
     let mut text = explain::write(&all, &names);
     text += &format!(
@@ -123,4 +151,38 @@ fn explained(file: &str) -> Result<Vec<u8>, String> {
         all.len()
     );
     Ok(text.into_bytes())
+}
+
+/// The sheet of a file of either form.
+fn either(file: &Path) -> Result<(Sheet, Names), String> {
+    match load::load(file)? {
+        Form::Text(text) => text::parse(&text).map_err(|e| e.to_string()),
+        Form::Words(words) => {
+            let sheet = Sheet::read(&words).map_err(|e| e.to_string())?;
+            let names = Names::numbered(&sheet);
+            Ok((sheet, names))
+        }
+    }
+}
+
+/// A refusal that is about a sheet as a whole, with the numbers behind it.
+fn why(sheet: &Sheet, refusal: Refusal) -> String {
+    let faults: Vec<_> = match refusal {
+        Refusal::LongSheet => {
+            vec![format!("{} words, at most {}", sheet.words().len(), limits::WORDS)]
+        }
+        Refusal::Totals => {
+            let over = sheet.totals().over();
+            over.map(|(what, total, most)| format!("{total} {what}, at most {most}")).collect()
+        }
+        _ => return refusal.to_string(),
+    };
+    format!("refused {}: the sheet has {}", refusal.number(), faults.join("; "))
+}
+
+/// Says that the sheet will be refused; it can be written in its other form all the same.
+fn warn(file: &Path, sheet: &Sheet) {
+    if let Some(refusal) = sheet.refusal() {
+        eprintln!("sheet: {}: {}", file.display(), why(sheet, refusal));
+    }
 }

@@ -1,0 +1,561 @@
+#!/usr/bin/env python3
+"""Sheets written by docs/FORMAT.md alone, in plain Python, and what is answered.
+
+    host/format_test.py SHEET [RANGES]    SHEET is the tool `sheet`, RANGES the program `ranges`
+    host/format_test.py --write FILE      only write the sheet with every part to a file
+
+The numbers are read from the tables of the page, so that a wrong one there fails here. host/test
+runs this.
+"""
+import os
+import re
+import struct
+import subprocess
+import sys
+
+ROOT = os.path.join(os.path.dirname(os.path.abspath(__file__)), "..")
+with open(os.path.join(ROOT, "docs/FORMAT.md"), encoding="utf8") as page:
+    PAGE = page.read().splitlines()
+
+
+# ---- the page's tables
+
+def cells(line):
+    return [cell.strip() for cell in line.strip("|").split("|")]
+
+
+def table(*head):
+    """The rows of the table whose head begins with these cells."""
+    tables = [i for i, line in enumerate(PAGE) if line.startswith("|") and cells(line)[:len(head)] == list(head)]
+    assert len(tables) == 1, f"docs/FORMAT.md has {len(tables)} tables {head}"
+    rows = []
+    for line in PAGE[tables[0] + 2:]:
+        if not line.startswith("|"):
+            return rows
+        rows.append(cells(line))
+    return rows
+
+
+def number(text):
+    return int(text.replace(",", ""))
+
+
+def numbers_by_name(head):
+    rows = table(head, "name")
+    assert [number(row[0]) for row in rows] == list(range(len(rows))), head
+    return {row[1]: number(row[0]) for row in rows}
+
+
+TYPE = numbers_by_name("type")
+EFFECT = numbers_by_name("effect")
+TERMINAL = numbers_by_name("terminal")
+KIND = numbers_by_name("kind")
+REASON = numbers_by_name("reason")
+VALUE = numbers_by_name("value kind")
+PLACES = {row[1]: number(row[2]) for row in table("kind", "name")}
+MOST_EXTRA = {row[1]: number(row[3]) for row in table("kind", "name")}
+MOST = {row[0]: row[1] for row in table("word", "at most")}
+TOTAL = {row[0]: number(row[1]) for row in table("total", "at most")}
+# Both the sheet and the answer have a table that begins so; the sheet's is the first.
+COUNT = {}
+for row in (cells(line) for line in PAGE[PAGE.index("| section | count | a part |") + 2:]):
+    if len(row) < 3:
+        break
+    COUNT[row[0]] = number(row[1].replace("at most ", ""))
+TEXT = " ".join(PAGE)
+
+
+def said_once(pattern):
+    """The number that the page has at this place of its text."""
+    found = re.findall(pattern, TEXT)
+    assert len(found) == 1, f"docs/FORMAT.md has {found} for {pattern}"
+    return number(found[0])
+
+
+REACTIVE = said_once(r"plus ([\d,]+) if the place is reactive")
+CREATE = said_once(r"\| ([\d,]+) × reason \+ value kind")
+ASSIGN_CURRENT_PROPERTY = said_once(r"\| ([\d,]+) is AssignCurrentProperty")
+FUNCTION_DIAGNOSTICS = said_once(r"a count, at most ([\d,]+), and so many diagnostic numbers")
+LIST = said_once(r"A \*\*list of effects\*\* is a count, at most ([\d,]+),")
+for part in ("phis", "operands", "instructions"):
+    assert LIST == said_once(rf"[Aa] count of {part}, at most ([\d,]+),"), part
+
+
+# ---- the words of each part
+
+def place(identifier, effect="Unknown", reactive=False, span=0):
+    return [identifier, EFFECT[effect] + (REACTIVE if reactive else 0), span]
+
+
+def effect(kind, *places, extra=0):
+    assert len(places) == PLACES[kind] and extra <= MOST_EXTRA[kind]
+    words = [KIND[kind]] + sum(places, [])
+    return words + [0] * (7 - len(words)) + [extra]
+
+
+def create(into, value, reason):
+    return effect("Create", into, extra=CREATE * REASON[reason] + VALUE[value])
+
+
+def counted(parts):
+    """A count and the parts behind it."""
+    return [len(parts)] + sum(parts, [])
+
+
+def phi(place, *operands):
+    """The operands are pairs: the predecessor's number and a place."""
+    return place + counted([[predecessor] + operand for predecessor, operand in operands])
+
+
+def instruction(order, *effects):
+    return [order] + counted(effects)
+
+
+def other(order):
+    return [TERMINAL["Other"], order]
+
+
+def returned(order, value, *effects):
+    return [TERMINAL["Return"], order] + value + counted(effects)
+
+
+def maybe_throw(order, *effects):
+    return [TERMINAL["MaybeThrow"], order] + counted(effects)
+
+
+def block(number, phis, instructions, terminal):
+    return [number] + counted(phis) + counted(instructions) + terminal
+
+
+def sheet(identifiers, returns, blocks=(), functions=(), params=(), context=(), flags=(0, 1)):
+    """Identifiers are (start, end, type), functions lists of diagnostic numbers."""
+    return (
+        counted([[flag] for flag in flags])
+        + counted([[start, end, TYPE[kind]] for start, end, kind in identifiers])
+        + counted([counted([[diagnostic] for diagnostic in function]) for function in functions])
+        + counted(params)
+        + counted(context)
+        + counted([returns])
+        + counted(blocks)
+    )
+
+
+# ---- running
+
+TOOL = RANGES = None
+
+
+def run(program, data):
+    return subprocess.run(program, input=data, capture_output=True, check=False)
+
+
+def answer_of_bytes(data):
+    """The six lines, or the refusal's number."""
+    done = run([TOOL, "answer", "-"], data)
+    if done.returncode == 0:
+        assert done.stderr == b"", done.stderr
+        said = done.stdout.decode()
+    else:
+        said = "refused " + re.match(r"sheet: -: refused (\d): ", done.stderr.decode())[1] + "\n"
+    if RANGES:
+        ranges = run([RANGES], data).stdout.decode()
+        # The program lends 16,384 words.
+        assert ranges == said or ranges == "refused 9\n" and len(said.split()) - 6 > 16_384, (ranges, said)
+    return said.splitlines() if done.returncode == 0 else int(said.split()[1])
+
+
+def bytes_of(words):
+    return struct.pack(f"<{len(words)}I", *words)
+
+
+def answer(words):
+    return answer_of_bytes(bytes_of(words))
+
+
+def check(said, expected, what):
+    if said != expected:
+        sys.exit(f"format: {what}:\n  said     {said}\n  expected {expected}")
+
+
+# ---- a sheet with every part
+
+# Identifiers.
+PROPS, THEME, LIST_, SHOWN, PICKED, LABEL, RESULT, CHANGED, ITEM, REST = range(10)
+# Inner functions, by position.
+F0, F1 = range(2)
+
+EVERY_PART = sheet(
+    flags=(0, 1),
+    identifiers=[
+        (0, 0, "Other"),  # props
+        (0, 0, "Other"),  # theme
+        (1, 3, "Other"),  # list
+        (0, 0, "Other"),  # shown
+        (0, 0, "Other"),  # picked
+        (5, 6, "Primitive"),  # label
+        (0, 0, "Jsx"),  # result
+        (0, 0, "Other"),  # changed
+        (0, 0, "Other"),  # item
+        (0, 1_000_000, "Other"),  # rest
+    ],
+    functions=[[500, 501], [600]],
+    params=[place(PROPS, "Read", reactive=True, span=11), place(REST, "Store", span=12)],
+    context=[place(THEME, "ConditionallyMutate", span=13)],
+    returns=place(RESULT, "Freeze", reactive=True, span=14),
+    blocks=[
+        block(
+            10,
+            [],
+            [
+                instruction(
+                    1,
+                    create(place(LIST_), "Mutable", "KnownReturnSignature"),
+                    effect("Capture", place(PROPS), place(LIST_, "Store")),  # index 0
+                ),
+                instruction(
+                    2,
+                    effect("CreateFunction", place(SHOWN), extra=F0),
+                    effect("CreateFunction", place(CHANGED), extra=F1),
+                    effect("Capture", place(CHANGED), place(LIST_)),  # 1
+                ),
+                instruction(
+                    3,
+                    effect("CreateFrom", place(THEME), place(ITEM)),  # 2
+                    effect("MutateConditionally", place(ITEM, "ConditionallyMutate", span=70)),  # 3
+                ),
+            ],
+            other(4),
+        ),
+        block(
+            20,
+            [
+                phi(
+                    place(PICKED, span=4_294_967_295),
+                    (10, place(PROPS, "Read", reactive=True)),  # 4
+                    (30, place(LIST_, "Capture")),  # 5, stored at the end of block 30
+                )
+            ],
+            [
+                instruction(
+                    5,
+                    create(place(LABEL), "Primitive", "StoreLocal"),
+                    effect("Impure", place(LABEL, "Read", span=75), extra=700),
+                ),
+                instruction(6, effect("MutateTransitive", place(PICKED, "Mutate", span=77))),  # 6
+            ],
+            maybe_throw(
+                7,
+                effect("Alias", place(CHANGED), place(SHOWN)),  # 7
+                effect("Freeze", place(LABEL), extra=REASON["JsxCaptured"]),
+            ),
+        ),
+        block(
+            30,
+            [],
+            [
+                instruction(
+                    8,
+                    effect("Render", place(SHOWN, "Read", reactive=True, span=88)),  # 8
+                    effect("Mutate", place(REST, "Mutate", span=99), extra=ASSIGN_CURRENT_PROPERTY),  # 9
+                )
+            ],
+            returned(
+                9,
+                place(PICKED, "Freeze"),  # 10
+                effect("Alias", place(LABEL), place(RESULT)),  # 11
+            ),
+        ),
+    ],
+)
+
+# Its answer, by hand. Relation effects, mutations and renders take the indices that stand behind
+# them. Each relation is a forward edge at "from" and an entry at "into"; edges and entries are
+# written with their index:
+#
+#   node     edges                    entries
+#   props    list 0, picked 4
+#   theme    item 2
+#   list     picked 5                 captures props 0, changed 1
+#   shown                             aliases changed 7
+#   picked   result 10                aliases props 4, list 5     (a phi)
+#   label    result 11
+#   result                            aliases picked 10, label 11
+#   changed  list 1, shown 7
+#   item                              created from theme 2
+#
+# A walk takes the entry pushed last, and a node once for each kind. It follows what has a lower
+# index than its mutation. `-` marks an entry that is skipped.
+#
+# Mutation 3 (conditional, item, order 3, span 70): item pushes theme, from which it was created,
+#   now transitive; theme pushes item; item-. 3 entries. Ends of item and theme: 4.
+# Mutation 6 (transitive, picked, order 6, span 77): picked pushes props, list (not result, 10);
+#   list pushes picked, props, changed; changed hands over its diagnostic 600 and pushes list (not
+#   shown, 7); list-, props pushes list, picked; picked-, list-, picked-, props-. 9 entries. Ends of
+#   picked, list, changed and props: 7.
+# Mutation 9 (rest, order 8, span 99, AssignCurrentProperty): 1 entry. The end of rest stays
+#   1,000,000, which is more than 9.
+# Render 8 (shown): has no record, hands over 500 and 501, and pushes changed, which has a record and
+#   is passed by.
+#
+# Then the simulated walks, which follow all relations.
+# props (index 12): props pushes list, picked; picked, a phi arrived at forwards, pushes result;
+#   result pushes picked, label; label pushes result; result-, picked-, list pushes picked, props,
+#   changed; changed pushes list, shown; shown pushes changed; changed-, list-, props-, picked-.
+#   13 entries. Neither rest nor theme was met.
+# rest (13): 1 entry.
+# theme (14): theme, item, theme-. 3 entries.
+# result (15): result pushes picked, label; label pushes result; result-, picked, arrived at
+#   backwards, pushes result, props, list; list pushes picked, props, changed; changed pushes list,
+#   shown; shown pushes changed; changed-, list-, props pushes list, picked; picked-, list-,
+#   picked-, props-, result-. 15 entries. props was met: Alias from props into result.
+EVERY_PART_ANSWER = [
+    "ranges 10 0 7 0 4 1 7 0 0 0 7 5 6 0 0 0 7 0 4 0 1000000",
+    # Capture is 3: props stays reactive (8 more).
+    "params 2 0 11 11 9 3 12",
+    "context 1 1 3 13",
+    # Impure's while building, then those handed over by the mutation, then by the render.
+    "diagnostics 4 700 600 500 501",
+    " ".join(
+        [
+            "effects 7",
+            "16 5 2 75 0 0 0 700",  # Impure label
+            "17 3 10 88 0 0 0 0",  # Render shown
+            # Context first, then parameters: the sheet's traits, the mutation's span.
+            "4 1 5 70 0 0 0 0",  # MutateTransitiveConditionally theme
+            "3 0 10 77 0 0 0 0",  # MutateTransitive props
+            "1 9 7 99 0 0 0 1",  # Mutate rest, AssignCurrentProperty
+            "9 6 9 14 0 0 0 1",  # Create result: JSX is Frozen
+            "6 0 11 11 6 9 14 0",  # Alias props, as marked, into result
+        ]
+    ),
+    "walks 7 3 9 1 13 1 3 15",
+]
+
+
+def every_part():
+    check(answer(EVERY_PART), EVERY_PART_ANSWER, "the sheet with every part")
+
+
+# ---- the page's own sheet
+
+def page_example():
+    def words(head):
+        column = (row[0].strip("`").split() for row in table(head))
+        return [int(word) for row in column for word in row]
+
+    example = words("words of the sheet")
+    with open(os.path.join(ROOT, "examples/case1.sheet"), "rb") as file:
+        check(bytes_of(example), file.read(), "the page's sheet")
+    said = answer(example)
+    check([int(w) for line in said for w in line.split()[1:]], words("words of the answer"), "the page's answer")
+    # A cut last word, of which the bytes that are missing are 0; and one that ends with a flag 1.
+    check(answer_of_bytes(bytes_of(example)[:-3]), said, "a cut last word")
+    check(answer_of_bytes(b"\2\0\0\0\1"), answer([2, 1]), "a word of one byte")
+
+
+# ---- every name: the tool writes a sheet's words as text
+
+def names():
+    lines, effects = [], []
+
+    def add(line, words):
+        lines.append(line)
+        effects.append(words)
+
+    def unless_first(word, name, numbers):
+        return f" {word} {name}" if numbers[name] else ""
+
+    for name in EFFECT:
+        for reactive in (False, True):
+            text = f"Render x0{'' if name == 'Unknown' else ' ' + name}{' reactive' if reactive else ''}"
+            add(text, effect("Render", place(0, name, reactive)))
+    for name in KIND:
+        behind = {"CreateFunction": " function f0"}.get(name, " diagnostic 0" if MOST_EXTRA[name] > 100 else "")
+        places = ["", " x0", " x0 into x1"][PLACES[name]]
+        add(name + places + behind, effect(name, *[place(0), place(1)][:PLACES[name]]))
+    for name in REASON:
+        add("Freeze x0" + unless_first("reason", name, REASON), effect("Freeze", place(0), extra=REASON[name]))
+        for value in VALUE:
+            text = unless_first("value", value, VALUE) + unless_first("reason", name, REASON)
+            add("Create x0" + text, create(place(0), value, name))
+    add("Mutate x0 reason AssignCurrentProperty", effect("Mutate", place(0), extra=ASSIGN_CURRENT_PROPERTY))
+    identifiers = [(0, 0, name) for name in TYPE]
+    terminals = [other(2), returned(3, place(0)), maybe_throw(4)]
+    blocks = [block(i, [], [], terminal) for i, terminal in enumerate(terminals, 1)]
+    words = sheet(identifiers, place(0), [block(0, [], [instruction(1, *effects)], other(2))] + blocks, [[]])
+    done = run([TOOL, "text", "-"], bytes_of(words))
+    check(done.stderr, b"", "the tool on a sheet with every name")
+    text = [line.strip() for line in done.stdout.decode().splitlines()]
+    expected = ["flags validations"]
+    expected += [f"identifier x{i}" + unless_first("type", name, TYPE) for i, name in enumerate(TYPE)]
+    expected += ["function f0", "returns x0", "block 0", "instruction at 1"] + lines + ["terminal Other at 2"]
+    expected += ["block 1", "terminal Other at 2", "block 2", "terminal Return x0 at 3"]
+    expected += ["block 3", "terminal MaybeThrow at 4"]
+    check(text, expected, "the names of a sheet's parts")
+
+
+# ---- every limit, met and passed by one; a sheet that ends with a good word is refused 3
+
+def limits():
+    def most(name):
+        return number(MOST[name])
+
+    def word(what, before, at_most, refusal, met=3):
+        check(answer(before + [at_most]), met, f"{what} {at_most}")
+        if at_most < 4_294_967_295:
+            check(answer(before + [at_most + 1]), refusal, f"{what} {at_most + 1}")
+
+    def fixed(what, before, count):
+        check(answer(before + [count]), 3, f"count of {what}")
+        for wrong in (count - 1, count + 1):
+            check(answer(before + [wrong]), 4, f"count of {what}")
+
+    def cut(words, count):
+        return words[:len(words) - count]
+
+    fixed("flags", [], COUNT["flags"])
+    word("flag", [2], most("flag"), 5)
+    word("flag", [2, 0], most("flag"), 5)
+    head = [2, 0, 1]
+    word("identifiers", head, COUNT["identifiers"], 4)
+    word("range start", head + [1], most("range start"), 5)
+    word("range end", head + [1, 0], most("range end"), 5)
+    word("type", head + [1, 0, 0], most("type"), 5)
+    check(most("type"), len(TYPE) - 1, "types")
+    head += [2, 0, 0, 0, 0, 0, 0]
+    word("inner functions", head, COUNT["inner functions"], 4)
+    word("an inner function's diagnostics", head + [1], FUNCTION_DIAGNOSTICS, 4)
+    word("diagnostic number", head + [1, 1], most("diagnostic number"), 5)
+    head += [1, 0]
+    word("parameters", head, COUNT["parameters"], 4)
+    check(MOST["a place's identifier"], "N - 1", "a place's identifier")
+    word("a place's identifier", head + [1], 1, 5)
+    word("traits", head + [1, 0], most("traits"), 5)
+    check(most("traits"), len(EFFECT) - 1 + REACTIVE, "traits")
+    word("span", head + [1, 0, 0], most("span"), 5)
+    head += [0]
+    word("context", head, COUNT["context"], 4)
+    head += [0]
+    fixed("returns", head, COUNT["returns"])
+    head += [1, 0, 0, 0]
+    word("blocks", head, COUNT["blocks"], 4)
+    head += [1]
+    word("block number", head, most("block number"), 5)
+    head += [7]
+    word("phis", head, LIST, 4)
+    word("operands", head + [1, 0, 0, 0], LIST, 4)
+    word("predecessor's number", head + [1, 0, 0, 0, 1], most("predecessor's number"), 5)
+    head += [0]
+    word("instructions", head, LIST, 4)
+    word("order", head + [1], most("order"), 5)
+    word("effects", head + [1, 0], LIST, 4)
+    word("effect kind", head + [1, 0, 1], most("effect kind"), 5)
+    check(most("effect kind"), len(KIND) - 1, "effect kinds")
+    for kind in KIND:
+        words = head + [1, 0, 1] + effect(kind, *[place(0), place(0)][:PLACES[kind]])
+        for at in range(3 * PLACES[kind], 6):
+            word(f"word of a place that {kind} does not use", cut(words, 7 - at), 0, 5)
+        word(f"extra word of {kind}", cut(words, 1), 0 if kind == "CreateFunction" else MOST_EXTRA[kind], 5)
+    many = sheet([(0, 0, "Other")], place(0), [[7] + counted([]) + [1, 0, 1]], [[]] * COUNT["inner functions"])
+    word("extra word of CreateFunction", many + [KIND["CreateFunction"]] + [0] * 6, MOST_EXTRA["CreateFunction"], 5)
+    head += [0]
+    word("terminal kind", head, most("terminal kind"), 5)
+    check(most("terminal kind"), len(TERMINAL) - 1, "terminals")
+    for kind, at_end in ((0, True), (1, False), (2, False)):
+        check(isinstance(answer(head + [kind, most("order")]), list), at_end, f"terminal {kind}")
+        check(answer(head + [kind, most("order") + 1]), 5, f"the order of terminal {kind}")
+    word("effects of Return", head + [1, 0, 0, 0, 0], LIST, 4)
+    word("effects of MaybeThrow", head + [2, 0], LIST, 4)
+
+
+# ---- refusals 2, 6, 7 and 8, and which comes first
+
+def refusals():
+    check([row[0] for row in table("refusal", "what is wrong")], list("123456789"), "the refusals")
+
+    def blocks(*all_):
+        return sheet([(0, 0, "Other")], place(0), all_)
+
+    def in_one(*effects):
+        lists = [instruction(1, *effects[at:at + LIST]) for at in range(0, len(effects), LIST)]
+        return blocks(block(0, [], lists, other(2)))
+
+    empty = block(7, [], [], other(1))
+    phi_twice = block(7, [phi(place(0), (9, place(0)), (9, place(0)))], [], other(1))
+    check(answer(blocks(empty, block(8, [], [], other(1))))[0], "ranges 1 0 0", "two blocks")
+    check(answer(blocks(empty, empty)), 6, "a block number used twice")
+    check(answer(blocks(phi_twice)), 6, "a predecessor named twice")
+    check(answer(blocks(empty) + [0]), 7, "a word behind the last block")
+    render, mutate, alias = (
+        effect("Render", place(0)), effect("Mutate", place(0)), effect("Alias", place(0), place(0)))
+    for total, one in (("renders", render), ("mutations", mutate), ("relation effects", alias)):
+        check(isinstance(answer(in_one(*[one] * TOTAL[total])), list), True, f"as many {total} as there may be")
+        check(answer(in_one(*[one] * (TOTAL[total] + 1))), 8, f"too many {total}")
+    # Which kinds are counted, in instructions and in terminals.
+    counted_kinds = {row[0]: row[2] for row in table("total", "at most")}
+    relations, in_terminals, mutations, renders = (
+        re.search(pattern, counted_kinds[total])[1] for total, pattern in (
+            ("relation effects", r"kinds ([\d, and]+) in instructions"),
+            ("relation effects", r"kind (\d+) in terminals"),
+            ("mutations", r"kinds ([\d to]+) in instructions"),
+            ("renders", r"kind (\d+) in instructions")))
+    first, last = map(int, mutations.split(" to "))
+    most = {int(kind): TOTAL["relation effects"] for kind in re.findall(r"\d+", relations)}
+    most |= {kind: TOTAL["mutations"] for kind in range(first, last + 1)} | {int(renders): TOTAL["renders"]}
+    for name, kind in KIND.items():
+        one = effect(name, *[place(0), place(0)][:PLACES[name]])
+        functions = [[]] if name == "CreateFunction" else []
+        times = most.get(kind, max(TOTAL.values())) + 1
+        lists = [instruction(1, *[one] * count) for count in (times // 2, times - times // 2)]
+        words = sheet([(0, 0, "Other")], place(0), [block(0, [], lists, other(2))], functions)
+        check(answer(words) == 8, kind in most, f"{times} effects {name}")
+        ends = [block(i, [], [], maybe_throw(1, *[one] * 513)) for i in range(2)]
+        words = sheet([(0, 0, "Other")], place(0), ends, functions)
+        check(answer(words) == 8, kind == int(in_terminals), f"1,026 effects {name} in terminals")
+    # Relation effects in all four places, one too many.
+    operands = [(i, place(0)) for i in range(1_000)]
+    mixed = [[phi(place(0), *operands)], [instruction(1, *[alias] * 21)], returned(2, place(0), alias, alias, mutate)]
+    check(isinstance(answer(blocks(block(0, *mixed))), list), True, "1,024 relation effects")
+    check(answer(blocks(block(0, *mixed), block(1, [], [], maybe_throw(3, alias)))), 8, "1,025 relation effects")
+    check(answer(blocks(block(0, *mixed)) + [0]), 7, "7 before 8")
+    apply = [effect("Apply")] * 2_044
+    full = in_one(*apply)
+    check((len(full), isinstance(answer(full), list)), (16_376, True), "a long sheet")
+    check(answer(full + [0] * 8), 7, "16,384 words")
+    check(answer(full + [0] * 9), 2, "16,385 words")
+    # From the page.
+    check(answer([2, 7]), 5, "a sheet that is cut behind a flag 7")
+    large = block(65_536, [], [], other(1))
+    check(answer(blocks(large, large)), 5, "a block number above its limit, twice")
+
+
+# ---- the longest answers
+
+def longest():
+    ids = range(COUNT["identifiers"])
+    effects = [effect("CreateFunction", place(i), extra=0) for i in ids]
+    effects += [effect("Capture", place(i + 1), place(i)) for i in ids[:-1]]
+    effects += [effect("Render", place(0))] * TOTAL["renders"]
+    lists = [instruction(1, *effects[at:at + LIST]) for at in range(0, len(effects), LIST)]
+    words = sheet([(0, 0, "Other")] * len(ids), place(0), [block(0, [], lists, other(2))], [[9] * FUNCTION_DIAGNOSTICS])
+    said = answer(words)
+    counts = f"a sheet of {len(words):,} words", f"with {int(said[3].split()[1]):,} diagnostics"
+    for count in counts:
+        check(count in TEXT, True, f"the page has `{count}`")
+    places, effects = COUNT["parameters"] + COUNT["context"], 16_384 // 8
+    most = 6 + 2 * len(ids) + 3 * places + effects + len(ids) * TOTAL["renders"] * FUNCTION_DIAGNOSTICS
+    most += 8 * (effects + 2 * places + 1 + places * places) + TOTAL["mutations"] + places + 1
+    check(f"No answer has more than {most:,} words" in TEXT, True, f"the longest answer is {most:,} words")
+
+
+if __name__ == "__main__":
+    if sys.argv[1:2] == ["--write"] and len(sys.argv) == 3:
+        with open(sys.argv[2], "wb") as out:
+            out.write(bytes_of(EVERY_PART))
+        sys.exit()
+    if len(sys.argv) not in (2, 3):
+        sys.exit(__doc__)
+    TOOL, RANGES = (sys.argv[1:] + [None])[:2]
+    for test in (page_example, every_part, names, limits, refusals, longest):
+        test()
+    print(f"format: passed, with the tool{' and the program' if RANGES else ''}")
