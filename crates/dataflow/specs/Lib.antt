@@ -1,3 +1,4 @@
 pub mod Cost
 pub mod Ranges
 pub mod Whole
+pub mod Function

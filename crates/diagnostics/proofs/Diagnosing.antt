@@ -35,9 +35,9 @@ use Rattle.copies.specs.declared.effect_lists.Section.the-variants.{Diagnostics
 use Rattle.copies.proofs.Errors.{functions-are, handed-room}
 use Rattle.copies.proofs.Gathers.{gather-append}
 use Rattle.copies.proofs.Sections.{recorded-words, recorded-none, section-patched, diagnostics-count}
-use Rattle.function.specs.declared.HirFunction.{HirFunction}
-use Rattle.function.specs.Function.{Describes, Stands}
-use Rattle.function.proofs.Described.{blocks-stand}
+use Rattle.dataflow.specs.declared.function.HirFunction.{HirFunction}
+use Rattle.dataflow.specs.Function.{Describes, Stands}
+use Rattle.dataflow.proofs.Described.{blocks-stand}
 use Rattle.diagnostics.specs.Diagnosed.{mostHanded, mostDiagnosed, RendersPut, RecordedPut, DiagnosticsPut}
 use Rattle.diagnostics.proofs.Rendering.{unmoved-none, handed-words, rendered-words}
 

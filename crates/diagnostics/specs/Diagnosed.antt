@@ -16,8 +16,8 @@ use Rattle.aliasing.specs.State.{stateOf}
 use Rattle.renders.specs.Renders.{Unmoved}
 use Rattle.writing.specs.Wrote.{Wrote}
 use Rattle.copies.specs.Functions.{functionsOf}
-use Rattle.function.specs.declared.HirFunction.{HirFunction}
-use Rattle.function.specs.Function.{Describes, Stands}
+use Rattle.dataflow.specs.declared.function.HirFunction.{HirFunction}
+use Rattle.dataflow.specs.Function.{Describes, Stands}
 
 -- the words that the functions handed over by all mutations, or by one render, can leave
 abbrev pub mostHanded : ℕ

@@ -40,9 +40,9 @@ use Rattle.workspace.specs.Tracked.{trackedFrom}
 use Rattle.summary.specs.Sections.{Marked, simulatedOf}
 use Rattle.summary.proofs.Whole.{params-tracked, context-tracked}
 use Rattle.summary.proofs.Rooms.{ranges-next, marked-next}
-use Rattle.function.specs.declared.HirFunction.{HirFunction}
-use Rattle.function.specs.Function.{Limited, Describes, Stands}
-use Rattle.function.proofs.Standing.{stands-kept}
+use Rattle.dataflow.specs.declared.function.HirFunction.{HirFunction}
+use Rattle.dataflow.specs.Function.{Limited, Describes, Stands}
+use Rattle.dataflow.proofs.Standing.{stands-kept}
 use Rattle.inference.specs.Whole.{Prepared, PlacesPut}
 
 -- ---- ranges, params, context

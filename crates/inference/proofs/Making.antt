@@ -29,8 +29,8 @@ use Rattle.dataflow.specs.Cost.{blockCost}
 use Rattle.dataflow.specs.Ranges.{BlockInRange}
 use Rattle.dataflow.specs.Whole.{Whole}
 use Rattle.dataflow.proofs.Sheet.{blocks-ready, blocks-whole}
-use Rattle.function.specs.declared.HirFunction.{HirFunction}
-use Rattle.function.specs.Function.{Limited, Describes}
+use Rattle.dataflow.specs.declared.function.HirFunction.{HirFunction}
+use Rattle.dataflow.specs.Function.{Limited, Describes}
 use Rattle.parameters.specs.declared.FunctionStep.{FunctionStep}
 use Rattle.parameters.specs.declared.FunctionStep.the-variants.{Got, Refused}
 use Rattle.parameters.specs.Function.{FunctionRead, functionIs, ReadsFunction}

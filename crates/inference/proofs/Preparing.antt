@@ -31,9 +31,9 @@ use Rattle.aliasing.proofs.New.{state-new}
 use Rattle.aliasing.proofs.Parts.{rows-above}
 use Rattle.aliasing.proofs.Walks.{indexed-after}
 use Rattle.dataflow.specs.Whole.{Whole}
-use Rattle.function.specs.declared.HirFunction.{HirFunction}
-use Rattle.function.specs.Function.{Limited, Describes, Stands}
-use Rattle.function.proofs.Standing.{stands-kept}
+use Rattle.dataflow.specs.declared.function.HirFunction.{HirFunction}
+use Rattle.dataflow.specs.Function.{Limited, Describes, Stands}
+use Rattle.dataflow.proofs.Standing.{stands-kept}
 use Rattle.inference.specs.Whole.{Keeps, Prepared}
 use Rattle.inference.proofs.Orders.{orders}
 

@@ -13,7 +13,7 @@ use Rattle.aliasing.specs.Pending.{takenOf, Processed}
 use Rattle.renders.specs.Renders.{Unmoved}
 use Rattle.writing.specs.Wrote.{Wrote}
 use Rattle.summary.specs.Sections.{simulatedOf}
-use Rattle.function.specs.declared.HirFunction.{HirFunction}
+use Rattle.dataflow.specs.declared.function.HirFunction.{HirFunction}
 use Rattle.diagnostics.specs.Diagnosed.{DiagnosticsPut}
 use Rattle.simulation.specs.Simulates.{Before, EffectsPut}
 use Rattle.inference.specs.Whole.{Prepared, PlacesPut, AnswerPut}

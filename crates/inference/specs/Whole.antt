@@ -22,8 +22,8 @@ use Rattle.aliasing.specs.State.{nodesOf, endAt, endsOf, stateOf}
 use Rattle.aliasing.specs.Pending.{Pending}
 use Rattle.writing.specs.Wrote.{Wrote}
 use Rattle.summary.specs.Records.{Holds}
-use Rattle.function.specs.declared.HirFunction.{HirFunction}
-use Rattle.function.specs.Function.{Limited, Describes, Stands}
+use Rattle.dataflow.specs.declared.function.HirFunction.{HirFunction}
+use Rattle.dataflow.specs.Function.{Limited, Describes, Stands}
 use Rattle.parameters.specs.declared.FunctionStep.{FunctionStep}
 use Rattle.parameters.specs.declared.FunctionStep.the-variants.{Got, Refused}
 use Rattle.inference.specs.declared.Outcome.{Outcome}

@@ -29,8 +29,8 @@ use Rattle.header.specs.declared.TopStep.the-variants.{Got as GotTop, Refused a
 use Rattle.header.proofs.Within.{count-within}
 use Rattle.header.specs.Read.{Tops, topIs, topFew, Topped}
 use Rattle.workspace.specs.Tracked.{trackedOf}
-use Rattle.function.specs.declared.HirFunction.{HirFunction}
-use Rattle.function.specs.Function.{Limited, Describes, Stands}
+use Rattle.dataflow.specs.declared.function.HirFunction.{HirFunction}
+use Rattle.dataflow.specs.Function.{Limited, Describes, Stands}
 use Rattle.parameters.specs.declared.Tracked.{Tracked}
 use Rattle.parameters.specs.declared.TrackedStep.{TrackedStep}
 use Rattle.parameters.specs.declared.TrackedStep.the-variants.{Got as GotTracked, Refused as NoTracked}

@@ -10,8 +10,8 @@ use Rattle.model.specs.Sections.{sheet as sheetReader}
 use Rattle.workspace.specs.Layout.{END, SEEN}
 use Rattle.building.specs.declared.Building.{Building}
 use Rattle.dataflow.specs.Whole.{First}
-use Rattle.function.specs.declared.HirFunction.{HirFunction}
-use Rattle.function.specs.Function.{Limited, Describes, Stands}
+use Rattle.dataflow.specs.declared.function.HirFunction.{HirFunction}
+use Rattle.dataflow.specs.Function.{Limited, Describes, Stands}
 use Rattle.parameters.specs.declared.FunctionStep.{FunctionStep}
 use Rattle.parameters.specs.declared.FunctionStep.the-variants.{Got, Refused}
 

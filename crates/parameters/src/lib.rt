@@ -10,7 +10,7 @@ ghost use Rattle.parameters.specs.Function.{ReadsFunction};
 ghost use Rattle.parameters.specs.Places.{ReadsPlaces, ReadsList, ReadsTracked};
 use building::Building;
 use building::NodeValue;
-use function::HirFunction;
+use dataflow::function::HirFunction;
 use header::TopStep;
 use header::read_top;
 use hir::Cursor;

@@ -31,9 +31,9 @@ use Rattle.summary.specs.Tracked.{Marks}
 use Rattle.summary.proofs.Held.{holds-state}
 use Rattle.summary.proofs.Rooms.{collected-next}
 use Rattle.summary.proofs.Whole.{params-tracked, context-tracked, marks-tracked}
-use Rattle.function.specs.declared.HirFunction.{HirFunction}
-use Rattle.function.specs.Function.{Limited}
-use Rattle.function.proofs.Described.{blocks-stand, returns-create}
+use Rattle.dataflow.specs.declared.function.HirFunction.{HirFunction}
+use Rattle.dataflow.specs.Function.{Limited}
+use Rattle.dataflow.proofs.Described.{blocks-stand, returns-create}
 use Rattle.simulation.specs.Simulates.{mostFlows, mostEffects, Marked, Simulates, CopiedPut, Before, EffectsPut}
 
 -- the words hold the records that the walks and renders left

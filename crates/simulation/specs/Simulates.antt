@@ -19,8 +19,8 @@ use Rattle.aliasing.specs.State.{stateOf}
 use Rattle.writing.specs.Wrote.{Wrote}
 use Rattle.workspace.specs.Tracked.{mostTracked, trackedOf}
 use Rattle.summary.specs.Sections.{simulatedOf}
-use Rattle.function.specs.declared.HirFunction.{HirFunction}
-use Rattle.function.specs.Function.{Describes, Stands}
+use Rattle.dataflow.specs.declared.function.HirFunction.{HirFunction}
+use Rattle.dataflow.specs.Function.{Describes, Stands}
 
 -- the words that the simulated walks can leave: an effect for each two places
 abbrev pub mostFlows : ℕ

@@ -1,5 +1,5 @@
 use Rattle.copies.proofs.Errors.{functions-again, handed-room}
-use Rattle.function.proofs.Described.{blocks-inside}
+use Rattle.dataflow.proofs.Described.{blocks-inside}
 use Rattle.diagnostics.proofs.Diagnosing.{HandedPut, handed-put, handed-not, handed-as, count-least, section-few, diagnostics-put}
 use native.Mathlib.Omega.{arith}
 use mathlib.Core.Logic.{⊎-elim}

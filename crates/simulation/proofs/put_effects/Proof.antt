@@ -1,6 +1,6 @@
 use native.Mathlib.Omega.{arith}
 use mathlib.Core.Path.{_∙_}
-use Rattle.function.proofs.Described.{blocks-inside, returns-inside}
+use Rattle.dataflow.proofs.Described.{blocks-inside, returns-inside}
 use Rattle.simulation.proofs.Written.{indexed-after, after-context, after-params, after-returns, some-marked, after-walks, rises, effects-put}
 use borrow.Author.Needs.{needs}
 use Rattle.simulation.proofs.put_effects.Statement.{statement}

@@ -9,7 +9,7 @@ use Rattle.workspace.specs.Layout.{FUNCTIONS, TRACKED}
 use Rattle.workspace.proofs.Parts.{drop-more, drop-word}
 use Rattle.workspace.proofs.Places.{tracked-kept}
 use Rattle.copies.proofs.Errors.{functions-kept}
-use Rattle.function.specs.Function.{Stands}
+use Rattle.dataflow.specs.Function.{Stands}
 
 -- so it stays if those words stay
 pub stands-kept : (s : Sheet) (sheet : List ℕ) {ws ws′ : List ℕ} → drop FUNCTIONS ws′ ≡ drop FUNCTIONS ws → length ws′ ≡ length ws → Stands s sheet ws → Stands s sheet ws′

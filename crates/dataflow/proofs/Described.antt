@@ -11,8 +11,8 @@ use Rattle.hir.specs.Words.{identifierWidth, identifierAt, several, blockFrom}
 use Rattle.copies.specs.Returns.{identifierFrom, createOf}
 use Rattle.copies.proofs.Accepted.{identifiers-are, blocks-are, blocks-end}
 use Rattle.copies.proofs.Creates.{returns-created}
-use Rattle.function.specs.declared.HirFunction.{HirFunction}
-use Rattle.function.specs.Function.{Limited, Describes}
+use Rattle.dataflow.specs.declared.function.HirFunction.{HirFunction}
+use Rattle.dataflow.specs.Function.{Limited, Describes}
 
 module _ {s : Sheet} {sheet : List ℕ} {f : HirFunction} (d : Describes s sheet f) where
   -- its blocks stand in the sheet

@@ -13,7 +13,7 @@ use Rattle.hir.specs.Says.{placeIs}
 use Rattle.workspace.specs.Layout.{LEAST}
 use Rattle.copies.specs.Functions.{Functions}
 use Rattle.workspace.specs.Tracked.{trackedOf}
-use Rattle.function.specs.declared.HirFunction.{HirFunction}
+use Rattle.dataflow.specs.declared.function.HirFunction.{HirFunction}
 
 -- no count is above its limit, and returns has an identifier
 pub record Limited (f : HirFunction) : Type 0 where
