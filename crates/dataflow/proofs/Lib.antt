@@ -4,3 +4,10 @@ pub mod Block
 pub mod Sheet
 pub mod Standing
 pub mod Described
+pub mod Turns
+pub mod InPlace
+pub mod Ends
+pub mod Within
+pub mod Functions
+pub mod SheetTop
+pub mod TopRead

@@ -2,3 +2,4 @@ pub mod Cost
 pub mod Ranges
 pub mod Whole
 pub mod Function
+pub mod Read

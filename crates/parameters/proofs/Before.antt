@@ -23,11 +23,11 @@ use Rattle.building.specs.declared.Building.{Building}
 use Rattle.building.specs.Built.{Starts}
 use Rattle.dataflow.specs.Whole.{createdFor, First}
 use Rattle.dataflow.proofs.Sheet.{sheet-sections, first-nodes}
-use Rattle.header.specs.declared.Top.{Top}
-use Rattle.header.specs.declared.TopStep.{TopStep}
-use Rattle.header.specs.declared.TopStep.the-variants.{Got as GotTop, Refused as NoTop}
-use Rattle.header.proofs.Within.{count-within}
-use Rattle.header.specs.Read.{Tops, topIs, topFew, Topped}
+use Rattle.dataflow.specs.declared.header.Top.{Top}
+use Rattle.dataflow.specs.declared.header.TopStep.{TopStep}
+use Rattle.dataflow.specs.declared.header.TopStep.the-variants.{Got as GotTop, Refused as NoTop}
+use Rattle.dataflow.proofs.Within.{count-within}
+use Rattle.dataflow.specs.Read.{Tops, topIs, topFew, Topped}
 use Rattle.workspace.specs.Tracked.{trackedOf}
 use Rattle.dataflow.specs.declared.function.HirFunction.{HirFunction}
 use Rattle.dataflow.specs.Function.{Limited, Describes, Stands}

@@ -19,7 +19,7 @@ use Rattle.hir.specs.Says.{placeIs}
 use Rattle.building.specs.declared.Building.{Building}
 use Rattle.building.specs.Built.{Steps}
 use Rattle.hir.proofs.Standing.{in-two}
-use Rattle.header.specs.Read.{afterFunctions}
+use Rattle.dataflow.specs.Read.{afterFunctions}
 use Rattle.workspace.specs.Tracked.{Tracks}
 use Rattle.parameters.specs.declared.ListStep.{ListStep}
 use Rattle.parameters.specs.declared.ListStep.the-variants.{Refused as NoList}

@@ -15,7 +15,7 @@ use Rattle.workspace.specs.Layout.{SEEN, FUNCTIONS, TRACKED}
 use Rattle.building.specs.declared.Building.{Building}
 use Rattle.building.specs.Built.{builtOf, Sound}
 use Rattle.dataflow.specs.Whole.{createdFor}
-use Rattle.header.specs.Read.{afterFunctions}
+use Rattle.dataflow.specs.Read.{afterFunctions}
 use Rattle.workspace.specs.Tracked.{trackedOf}
 use Rattle.parameters.specs.declared.PlacesStep.{PlacesStep}
 use Rattle.parameters.specs.declared.PlacesStep.the-variants.{Got, Refused}

@@ -11,8 +11,8 @@ ghost use Rattle.parameters.specs.Places.{ReadsPlaces, ReadsList, ReadsT
 use building::Building;
 use building::NodeValue;
 use dataflow::function::HirFunction;
-use header::TopStep;
-use header::read_top;
+use dataflow::header::TopStep;
+use dataflow::header::read_top;
 use hir::Cursor;
 use hir::Place;
 use hir::PlaceStep;

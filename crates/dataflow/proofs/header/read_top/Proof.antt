@@ -2,11 +2,11 @@ use native.Mathlib.Omega.{arith}
 use Rattle.model.proofs.ReadLaws.{count-reads}
 use Rattle.hir.specs.Says.{wordSays, flagsSays}
 use Rattle.hir.proofs.Answers.{says}
-use Rattle.header.proofs.Within.{count-within}
-use Rattle.header.proofs.TopRead.{tops, no-flags, no-identifiers, no-ends, no-functions, no-list, ends-as, functions-as}
+use Rattle.dataflow.proofs.Within.{count-within}
+use Rattle.dataflow.proofs.TopRead.{tops, no-flags, no-identifiers, no-ends, no-functions, no-list, ends-as, functions-as}
 use borrow.Author.Needs.{needs}
-use Rattle.header.proofs.read_top.Statement.{statement}
-use Rattle.header.proofs.read_top.Tie as tie
+use Rattle.dataflow.proofs.header.read_top.Statement.{statement}
+use Rattle.dataflow.proofs.header.read_top.Tie as tie
 
 flags-requires : tie.Need-flags-requires
 flags-requires c κs = search needs

@@ -11,7 +11,7 @@ ghost use Prim.Native.Nat.{_+_, _≤_, _<_};
 ghost use lib.ListN.{length};
 ghost use Rattle.model.specs.Reading.{times};
 ghost use Rattle.model.specs.Sections.{diagnostic, innerFunction};
-ghost use Rattle.header.specs.Read.{Ends, Skipped, Functions, Topped};
+ghost use Rattle.dataflow.specs.Read.{Ends, Skipped, Functions, Topped};
 
 // The next position, or a refusal, which no accepted sheet gives.
 pub enum Next {

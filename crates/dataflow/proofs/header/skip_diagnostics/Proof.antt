@@ -1,9 +1,9 @@
 use native.Mathlib.Omega.{arith}
 use Rattle.model.specs.Sections.{diagnostic}
-use Rattle.header.proofs.InPlace.{diagnostic-takes, times-none, times-short, diagnostics-next}
+use Rattle.dataflow.proofs.InPlace.{diagnostic-takes, times-none, times-short, diagnostics-next}
 use borrow.Author.Needs.{needs}
-use Rattle.header.proofs.skip_diagnostics.Statement.{statement}
-use Rattle.header.proofs.skip_diagnostics.Tie as tie
+use Rattle.dataflow.proofs.header.skip_diagnostics.Statement.{statement}
+use Rattle.dataflow.proofs.header.skip_diagnostics.Tie as tie
 
 returns : tie.Need-returns
 returns c = record { read = λ l d e. times-none diagnostic _ (c .if1 .taken) _ _ l d e }

@@ -14,8 +14,8 @@ use Rattle.model.specs.Reading.{Position, got, pure, count, times, counted}
 use Rattle.model.specs.Sections.{diagnostic, innerFunction}
 use Rattle.workspace.specs.Layout.{FUNCTIONS, SIMULATED}
 use Rattle.model.proofs.Got.{got-value, got-next, bind-got}
-use Rattle.header.proofs.Turns.{left-step, left-done}
-use Rattle.header.proofs.Within.{function-stays}
+use Rattle.dataflow.proofs.Turns.{left-step, left-done}
+use Rattle.dataflow.proofs.Within.{function-stays}
 
 -- its count, and its diagnostics
 pub record Listed (sheet : List ℕ) (c : Position) (f : InnerFunction) (d : Position) : Type 0 where

@@ -9,7 +9,7 @@ use Rattle.model.specs.Sheet.{Flags, Identifier, InnerFunction, Sheet}
 use Rattle.model.specs.Reading.{Position, got, Read, _>>=_, count, fixed, times, numbered, counted}
 use Rattle.model.specs.Sections.{flags, identifier, innerFunction, place, block, sheet}
 use Rattle.model.proofs.ReadLaws.{Reads, pure-reads, any-reads, bind-reads, times-length}
-use Rattle.header.specs.Read.{afterFunctions}
+use Rattle.dataflow.specs.Read.{afterFunctions}
 use Rattle.model.proofs.Got.{bind-got}
 
 -- a section's count, and its parts

@@ -11,11 +11,11 @@ use Rattle.model.specs.Sections.{identifier, innerFunction, place, block}
 use Rattle.model.specs.Sections.{sheet as sheetReader}
 use Rattle.model.specs.Summary.{errors}
 use Rattle.workspace.specs.Layout.{END, FUNCTIONS, SIMULATED}
-use Rattle.header.specs.declared.Next.{Next}
-use Rattle.header.specs.declared.Top.{Top}
-use Rattle.header.specs.declared.TopStep.{TopStep}
-use Rattle.header.specs.declared.TopStep.the-variants.{Got as GotTop, Refused as NoTop}
-use Rattle.header.specs.declared.Next.the-variants.{At, Refused}
+use Rattle.dataflow.specs.declared.header.Next.{Next}
+use Rattle.dataflow.specs.declared.header.Top.{Top}
+use Rattle.dataflow.specs.declared.header.TopStep.{TopStep}
+use Rattle.dataflow.specs.declared.header.TopStep.the-variants.{Got as GotTop, Refused as NoTop}
+use Rattle.dataflow.specs.declared.header.Next.the-variants.{At, Refused}
 
 -- the position after what was read; a refusal says nothing
 abbrev pub nextIs : Next → Position → Type 0

@@ -2,10 +2,10 @@ use Prim.Native.Nat.{_-_}
 use native.Mathlib.Omega.{arith}
 use mathlib.Core.Path.{refl}
 use Rattle.model.specs.Sections.{identifier}
-use Rattle.header.proofs.InPlace.{identifier-takes, times-short}
-use Rattle.header.proofs.Ends.{EndsInv, ends-none, ends-start, ends-turn, ends-done}
-use Rattle.header.proofs.read_ends.Statement.{statement}
-use Rattle.header.proofs.read_ends.Tie as tie
+use Rattle.dataflow.proofs.InPlace.{identifier-takes, times-short}
+use Rattle.dataflow.proofs.Ends.{EndsInv, ends-none, ends-start, ends-turn, ends-done}
+use Rattle.dataflow.proofs.header.read_ends.Statement.{statement}
+use Rattle.dataflow.proofs.header.read_ends.Tie as tie
 
 abbrev Inv-loop : tie.InvT-loop
 Inv-loop sheet ws₀ n at len i₀ ws i = EndsInv n sheet ws₀ at ws i

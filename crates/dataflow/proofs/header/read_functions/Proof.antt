@@ -2,10 +2,10 @@ use Prim.Native.Nat.{_-_}
 use mathlib.Core.Path.{subst}
 use native.Mathlib.Omega.{arith}
 use borrow.Author.Needs.{needs}
-use Rattle.header.specs.Read.{nextIs}
-use Rattle.header.proofs.Functions.{FunctionsInv, functions-start, functions-turn, functions-refused, functions-done}
-use Rattle.header.proofs.read_functions.Statement.{statement}
-use Rattle.header.proofs.read_functions.Tie as tie
+use Rattle.dataflow.specs.Read.{nextIs}
+use Rattle.dataflow.proofs.Functions.{FunctionsInv, functions-start, functions-turn, functions-refused, functions-done}
+use Rattle.dataflow.proofs.header.read_functions.Statement.{statement}
+use Rattle.dataflow.proofs.header.read_functions.Tie as tie
 
 abbrev Inv-loop : tie.InvT-loop
 Inv-loop sheet ws₀ m at₀ i₀ ws at i = FunctionsInv m sheet ws₀ (at₀ .at) ws (at .at) i

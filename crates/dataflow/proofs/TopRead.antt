@@ -13,11 +13,11 @@ use Rattle.model.proofs.ReadLaws.{count-reads}
 use Rattle.hir.specs.declared.Cursor.{Cursor}
 use Rattle.workspace.specs.Layout.{END, FUNCTIONS, SIMULATED}
 use Rattle.workspace.proofs.Parts.{drop-sets}
-use Rattle.header.specs.Read.{Ends, Functions, afterFunctions, Tops}
-use Rattle.header.specs.declared.Next.{Next}
-use Rattle.header.specs.declared.Next.the-variants.{At, Refused}
+use Rattle.dataflow.specs.Read.{Ends, Functions, afterFunctions, Tops}
+use Rattle.dataflow.specs.declared.header.Next.{Next}
+use Rattle.dataflow.specs.declared.header.Next.the-variants.{At, Refused}
 use Rattle.model.proofs.Got.{got-value, got-next, not-both}
-use Rattle.header.proofs.SheetTop.{Counted, top-got}
+use Rattle.dataflow.proofs.SheetTop.{Counted, top-got}
 
 -- the count and the parts of a section, where the count was read before
 counted-at : {A : Type 0} {most : ℕ} {f : _} {ws : List ℕ} {a b : Position} {l : List A} {d : Position} {n : ℕ} {c : Position} → Counted most f ws a l d → a ≡ b → count most ws b ≡ got n c

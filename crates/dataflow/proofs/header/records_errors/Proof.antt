@@ -1,6 +1,6 @@
-use Rattle.header.proofs.SheetTop.{no-errors, some-errors}
-use Rattle.header.proofs.records_errors.Statement.{statement}
-use Rattle.header.proofs.records_errors.Tie as tie
+use Rattle.dataflow.proofs.SheetTop.{no-errors, some-errors}
+use Rattle.dataflow.proofs.header.records_errors.Statement.{statement}
+use Rattle.dataflow.proofs.header.records_errors.Tie as tie
 
 returns : tie.Need-returns
 returns c = no-errors (c .before .args .flags .validations) _ (c .if1 .taken)

@@ -10,8 +10,8 @@ use Rattle.model.specs.Reading.{Position, got, times}
 use Rattle.model.specs.Sections.{identifier}
 use Rattle.workspace.specs.Layout.{END}
 use Rattle.model.proofs.Got.{times-done}
-use Rattle.header.proofs.Turns.{left-step, left-done}
-use Rattle.header.proofs.InPlace.{identifier-end, identifier-takes}
+use Rattle.dataflow.proofs.Turns.{left-step, left-done}
+use Rattle.dataflow.proofs.InPlace.{identifier-end, identifier-takes}
 
 -- the ends of identifiers
 abbrev pub endsIn : List Identifier → List ℕ

@@ -1,10 +1,10 @@
 use Rattle.hir.specs.Says.{wordSays}
 use Rattle.hir.proofs.Answers.{says}
 use Rattle.model.proofs.Got.{not-both}
-use Rattle.header.proofs.Functions.{function-got, skip-reads}
+use Rattle.dataflow.proofs.Functions.{function-got, skip-reads}
 use borrow.Author.Needs.{needs}
-use Rattle.header.proofs.skip_function.Statement.{statement}
-use Rattle.header.proofs.skip_function.Tie as tie
+use Rattle.dataflow.proofs.header.skip_function.Statement.{statement}
+use Rattle.dataflow.proofs.header.skip_function.Tie as tie
 
 count-requires : tie.Need-count-requires
 count-requires c κs = search needs
