@@ -11,3 +11,9 @@ pub mod Within
 pub mod Functions
 pub mod SheetTop
 pub mod TopRead
+pub mod Gots
+pub mod Staying
+pub mod Tracking
+pub mod Listing
+pub mod Following
+pub mod Before

@@ -3,3 +3,5 @@ pub mod Ranges
 pub mod Whole
 pub mod Function
 pub mod Read
+pub mod ReadFunction
+pub mod Places

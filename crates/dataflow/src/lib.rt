@@ -17,6 +17,7 @@ ghost use Rattle.instructions.specs.Builds.{Ready, Builds};
 ghost use Rattle.dataflow.specs.Cost.{blockCost};
 ghost use Rattle.dataflow.specs.Ranges.{BlockInRange};
 
+pub mod parameters;
 pub mod header;
 pub mod function;
 mod phis;

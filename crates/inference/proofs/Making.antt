@@ -31,9 +31,9 @@ use Rattle.dataflow.specs.Whole.{Whole}
 use Rattle.dataflow.proofs.Sheet.{blocks-ready, blocks-whole}
 use Rattle.dataflow.specs.declared.function.HirFunction.{HirFunction}
 use Rattle.dataflow.specs.Function.{Limited, Describes}
-use Rattle.parameters.specs.declared.FunctionStep.{FunctionStep}
-use Rattle.parameters.specs.declared.FunctionStep.the-variants.{Got, Refused}
-use Rattle.parameters.specs.Function.{FunctionRead, functionIs, ReadsFunction}
+use Rattle.dataflow.specs.declared.parameters.FunctionStep.{FunctionStep}
+use Rattle.dataflow.specs.declared.parameters.FunctionStep.the-variants.{Got, Refused}
+use Rattle.dataflow.specs.ReadFunction.{FunctionRead, functionIs, ReadsFunction}
 use Rattle.inference.specs.declared.Outcome.{Outcome}
 use Rattle.inference.specs.Whole.{NoneUnless, Keeps, Prepared, preparedIs, Prepares, Answers}
 use Rattle.inference.proofs.Preparing.{prepared}

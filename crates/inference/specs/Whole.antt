@@ -24,8 +24,8 @@ use Rattle.writing.specs.Wrote.{Wrote}
 use Rattle.summary.specs.Records.{Holds}
 use Rattle.dataflow.specs.declared.function.HirFunction.{HirFunction}
 use Rattle.dataflow.specs.Function.{Limited, Describes, Stands}
-use Rattle.parameters.specs.declared.FunctionStep.{FunctionStep}
-use Rattle.parameters.specs.declared.FunctionStep.the-variants.{Got, Refused}
+use Rattle.dataflow.specs.declared.parameters.FunctionStep.{FunctionStep}
+use Rattle.dataflow.specs.declared.parameters.FunctionStep.the-variants.{Got, Refused}
 use Rattle.inference.specs.declared.Outcome.{Outcome}
 use Rattle.inference.specs.Outcome.{Came}
 

@@ -21,22 +21,22 @@ use Rattle.workspace.specs.Graph.{tab}
 use Rattle.workspace.proofs.Parts.{take-less, drop-word, slice-at}
 use Rattle.building.specs.declared.Building.{Building}
 use Rattle.building.specs.Built.{Starts}
 use Rattle.dataflow.specs.Whole.{createdFor, First}
 use Rattle.dataflow.proofs.Sheet.{sheet-sections, first-nodes}
 use Rattle.dataflow.specs.declared.header.Top.{Top}
 use Rattle.dataflow.specs.declared.header.TopStep.{TopStep}
 use Rattle.dataflow.specs.declared.header.TopStep.the-variants.{Got as GotTop, Refused as NoTop}
 use Rattle.dataflow.proofs.Within.{count-within}
 use Rattle.dataflow.specs.Read.{Tops, topIs, topFew, Topped}
 use Rattle.workspace.specs.Tracked.{trackedOf}
 use Rattle.dataflow.specs.declared.function.HirFunction.{HirFunction}
 use Rattle.dataflow.specs.Function.{Limited, Describes, Stands}
-use Rattle.parameters.specs.declared.Tracked.{Tracked}
-use Rattle.parameters.specs.declared.TrackedStep.{TrackedStep}
-use Rattle.parameters.specs.declared.TrackedStep.the-variants.{Got as GotTracked, Refused as NoTracked}
-use Rattle.parameters.specs.declared.FunctionStep.the-variants.{Got, Refused}
-use Rattle.parameters.specs.Places.{TrackedRead, trackedIs, ReadsTracked}
-use Rattle.parameters.specs.Function.{FunctionRead, ReadsFunction}
+use Rattle.dataflow.specs.declared.parameters.Tracked.{Tracked}
+use Rattle.dataflow.specs.declared.parameters.TrackedStep.{TrackedStep}
+use Rattle.dataflow.specs.declared.parameters.TrackedStep.the-variants.{Got as GotTracked, Refused as NoTracked}
+use Rattle.dataflow.specs.declared.parameters.FunctionStep.the-variants.{Got, Refused}
+use Rattle.dataflow.specs.Places.{TrackedRead, trackedIs, ReadsTracked}
+use Rattle.dataflow.specs.ReadFunction.{FunctionRead, ReadsFunction}
 
 -- a sheet's inner functions
 few-functions : (sheet : List ℕ) (s : Sheet) (d : Position) → sheetReader sheet 0 ≡ got s d → length (s .functions) ≤ mostFunctions

@@ -2,9 +2,9 @@ use borrow.Author.Needs.{needs}
 use Rattle.model.proofs.ReadLaws.{count-reads as counts}
 use Rattle.hir.specs.Says.{wordSays}
 use Rattle.hir.proofs.Answers.{says}
-use Rattle.parameters.proofs.Listing.{list-uncounted, list-refused, list-got}
-use Rattle.parameters.proofs.read_list.Statement.{statement}
-use Rattle.parameters.proofs.read_list.Tie as tie
+use Rattle.dataflow.proofs.Listing.{list-uncounted, list-refused, list-got}
+use Rattle.dataflow.proofs.parameters.read_list.Statement.{statement}
+use Rattle.dataflow.proofs.parameters.read_list.Tie as tie
 
 count-requires : tie.Need-count-requires
 count-requires c κs = search needs

@@ -16,14 +16,14 @@ use Rattle.workspace.specs.Layout.{SEEN, FUNCTIONS, TRACKED}
 use Rattle.workspace.proofs.Parts.{take-less, drop-more, slice-take, slice-drop}
 use Rattle.building.specs.declared.Building.{Building}
 use Rattle.building.specs.Built.{builtOf, Sound, Steps}
 use Rattle.dataflow.specs.Whole.{createdFor}
-use Rattle.parameters.proofs.Gots.{joined, times-joined, times-none}
+use Rattle.dataflow.proofs.Gots.{joined, times-joined, times-none}
 use Rattle.hir.specs.declared.Cursor.{Cursor}
 use Rattle.workspace.specs.Tracked.{trackedOf, Tracks}
 use Rattle.workspace.proofs.Places.{tracked-kept}
-use Rattle.parameters.specs.declared.PlacesStep.the-variants.{Got, Refused}
-use Rattle.parameters.specs.Places.{Places, ReadsPlaces}
-use Rattle.parameters.proofs.Staying.{built-stays, sound-stays}
+use Rattle.dataflow.specs.declared.parameters.PlacesStep.the-variants.{Got, Refused}
+use Rattle.dataflow.specs.Places.{Places, ReadsPlaces}
+use Rattle.dataflow.proofs.Staying.{built-stays, sound-stays}
 
 each-append : (l m : List Place) (b : Built) → each createdFor (l ++ m) b ≡ each createdFor m (each createdFor l b)
 each-append [] m b = refl

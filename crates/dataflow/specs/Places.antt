@@ -14,16 +14,16 @@ use Rattle.hir.specs.Says.{placeIs}
 use Rattle.workspace.specs.Layout.{SEEN, FUNCTIONS, TRACKED}
 use Rattle.building.specs.declared.Building.{Building}
 use Rattle.building.specs.Built.{builtOf, Sound}
 use Rattle.dataflow.specs.Whole.{createdFor}
 use Rattle.dataflow.specs.Read.{afterFunctions}
 use Rattle.workspace.specs.Tracked.{trackedOf}
-use Rattle.parameters.specs.declared.PlacesStep.{PlacesStep}
-use Rattle.parameters.specs.declared.PlacesStep.the-variants.{Got, Refused}
-use Rattle.parameters.specs.declared.ListStep.{ListStep}
-use Rattle.parameters.specs.declared.ListStep.the-variants.{Got as GotList, Refused as NoList}
-use Rattle.parameters.specs.declared.Tracked.{Tracked}
-use Rattle.parameters.specs.declared.TrackedStep.{TrackedStep}
-use Rattle.parameters.specs.declared.TrackedStep.the-variants.{Got as GotTracked, Refused as NoTracked}
+use Rattle.dataflow.specs.declared.parameters.PlacesStep.{PlacesStep}
+use Rattle.dataflow.specs.declared.parameters.PlacesStep.the-variants.{Got, Refused}
+use Rattle.dataflow.specs.declared.parameters.ListStep.{ListStep}
+use Rattle.dataflow.specs.declared.parameters.ListStep.the-variants.{Got as GotList, Refused as NoList}
+use Rattle.dataflow.specs.declared.parameters.Tracked.{Tracked}
+use Rattle.dataflow.specs.declared.parameters.TrackedStep.{TrackedStep}
+use Rattle.dataflow.specs.declared.parameters.TrackedStep.the-variants.{Got as GotTracked, Refused as NoTracked}
 
 -- the places ps were tracked from number `first` on, and each got a node
 pub record Places (ps : List Place) (first : ℕ) (ws : List ℕ) (b : Building) (ws′ : List ℕ) (r : Building) : Type 0 where

@@ -19,14 +19,14 @@ use Rattle.hir.specs.Says.{placeIs}
 use Rattle.building.specs.declared.Building.{Building}
 use Rattle.building.specs.Built.{Steps}
 use Rattle.hir.proofs.Standing.{in-two}
 use Rattle.dataflow.specs.Read.{afterFunctions}
 use Rattle.workspace.specs.Tracked.{Tracks}
-use Rattle.parameters.specs.declared.ListStep.{ListStep}
-use Rattle.parameters.specs.declared.ListStep.the-variants.{Refused as NoList}
-use Rattle.parameters.specs.declared.TrackedStep.the-variants.{Got as GotTracked, Refused as NoTracked}
-use Rattle.parameters.specs.Places.{Places, listIs, ReadsList, ReadsTracked}
-use Rattle.parameters.proofs.Tracking.{places-then, places-one}
-use Rattle.parameters.proofs.Listing.{Listed}
+use Rattle.dataflow.specs.declared.parameters.ListStep.{ListStep}
+use Rattle.dataflow.specs.declared.parameters.ListStep.the-variants.{Refused as NoList}
+use Rattle.dataflow.specs.declared.parameters.TrackedStep.the-variants.{Got as GotTracked, Refused as NoTracked}
+use Rattle.dataflow.specs.Places.{Places, listIs, ReadsList, ReadsTracked}
+use Rattle.dataflow.proofs.Tracking.{places-then, places-one}
+use Rattle.dataflow.proofs.Listing.{Listed}
 
 -- where each part stands
 pub record Follows (n : ℕ) (sheet : List ℕ) (c : Position) (s : Sheet) (d : Position) : Type 0 where

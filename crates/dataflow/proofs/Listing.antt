@@ -12,12 +12,12 @@ use Rattle.model.proofs.Got.{not-both}
 use Rattle.model.proofs.ReadLaws.{times-length, counted-length}
 use Rattle.hir.specs.declared.Cursor.{Cursor}
 use Rattle.building.specs.declared.Building.{Building}
-use Rattle.parameters.proofs.Gots.{counted-is, counted-refused}
-use Rattle.parameters.specs.declared.PlacesStep.{PlacesStep}
-use Rattle.parameters.specs.declared.PlacesStep.the-variants.{Got, Refused}
-use Rattle.parameters.specs.declared.ListStep.{ListStep}
-use Rattle.parameters.specs.declared.ListStep.the-variants.{Got as GotList, Refused as NoList}
-use Rattle.parameters.specs.Places.{Places, placesAre, ReadsPlaces, ReadsList}
+use Rattle.dataflow.proofs.Gots.{counted-is, counted-refused}
+use Rattle.dataflow.specs.declared.parameters.PlacesStep.{PlacesStep}
+use Rattle.dataflow.specs.declared.parameters.PlacesStep.the-variants.{Got, Refused}
+use Rattle.dataflow.specs.declared.parameters.ListStep.{ListStep}
+use Rattle.dataflow.specs.declared.parameters.ListStep.the-variants.{Got as GotList, Refused as NoList}
+use Rattle.dataflow.specs.Places.{Places, placesAre, ReadsPlaces, ReadsList}
 
 module _ (n : ℕ) (sheet : List ℕ) (c : Position) {first : ℕ} {ws : List ℕ} {b : Building} {ws′ : List ℕ} where
   pub list-uncounted : {k : ℕ} → count mostParams sheet c ≡ refused k → ReadsList (counted mostParams (place n) sheet c) first ws b ws′ NoList

@@ -1,8 +1,8 @@
 use mathlib.Core.Path.{_∙_}
 use borrow.Author.Needs.{needs}
-use Rattle.parameters.proofs.Before.{no-top, few-identifiers, no-tracked, function-read}
-use Rattle.parameters.proofs.read_function.Statement.{statement}
-use Rattle.parameters.proofs.read_function.Tie as tie
+use Rattle.dataflow.proofs.Before.{no-top, few-identifiers, no-tracked, function-read}
+use Rattle.dataflow.proofs.parameters.read_function.Statement.{statement}
+use Rattle.dataflow.proofs.parameters.read_function.Tie as tie
 
 read-top-requires : tie.Need-read-top-requires
 read-top-requires c κs = search needs

@@ -3,9 +3,9 @@ use borrow.Author.Needs.{needs}
 use Rattle.hir.specs.Says.{placeSays}
 use Rattle.hir.proofs.Answers.{says}
 use Rattle.instructions.proofs.Ranges.{place-known}
-use Rattle.parameters.proofs.Tracking.{PlacesInv, tracks-sound, places-start, places-turn, places-refused, places-done}
-use Rattle.parameters.proofs.read_places.Statement.{statement}
-use Rattle.parameters.proofs.read_places.Tie as tie
+use Rattle.dataflow.proofs.Tracking.{PlacesInv, tracks-sound, places-start, places-turn, places-refused, places-done}
+use Rattle.dataflow.proofs.parameters.read_places.Statement.{statement}
+use Rattle.dataflow.proofs.parameters.read_places.Tie as tie
 
 abbrev Inv-loop : tie.InvT-loop
 Inv-loop sheet ws₀ n first count built₀ at₀ left₀ i₀ ws built at left i = PlacesInv sheet n count first ws₀ built₀ (at₀ .at) ws built (at .at) left i

@@ -4,11 +4,11 @@ use borrow.Author.Needs.{needs}
 use Rattle.hir.specs.Says.{wordSays, placeSays}
 use Rattle.hir.proofs.Answers.{says}
 use Rattle.instructions.proofs.Ranges.{place-known}
-use Rattle.parameters.proofs.Tracking.{tracks-sound}
-use Rattle.parameters.proofs.Listing.{list-listed}
-use Rattle.parameters.proofs.Following.{no-params, no-context, no-one, no-returns, no-count, tracked-read}
-use Rattle.parameters.proofs.read_tracked.Statement.{statement}
-use Rattle.parameters.proofs.read_tracked.Tie as tie
+use Rattle.dataflow.proofs.Tracking.{tracks-sound}
+use Rattle.dataflow.proofs.Listing.{list-listed}
+use Rattle.dataflow.proofs.Following.{no-params, no-context, no-one, no-returns, no-count, tracked-read}
+use Rattle.dataflow.proofs.parameters.read_tracked.Statement.{statement}
+use Rattle.dataflow.proofs.parameters.read_tracked.Tie as tie
 
 read-list-requires : tie.Need-read-list-requires
 read-list-requires c κs = search needs

@@ -9,11 +9,11 @@ use Rattle.model.specs.Reading.{Position, got}
 use Rattle.model.specs.Sections.{sheet as sheetReader}
 use Rattle.workspace.specs.Layout.{END, SEEN}
 use Rattle.building.specs.declared.Building.{Building}
 use Rattle.dataflow.specs.Whole.{First}
 use Rattle.dataflow.specs.declared.function.HirFunction.{HirFunction}
 use Rattle.dataflow.specs.Function.{Limited, Describes, Stands}
-use Rattle.parameters.specs.declared.FunctionStep.{FunctionStep}
-use Rattle.parameters.specs.declared.FunctionStep.the-variants.{Got, Refused}
+use Rattle.dataflow.specs.declared.parameters.FunctionStep.{FunctionStep}
+use Rattle.dataflow.specs.declared.parameters.FunctionStep.the-variants.{Got, Refused}
 
 -- the sections before the blocks of the sheet s were read
 pub record FunctionRead (s : Sheet) (sheet ws ws′ : List ℕ) (f : HirFunction) (b : Building) : Type 0 where

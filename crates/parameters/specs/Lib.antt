@@ -1,2 +1,0 @@
-pub mod Function
-pub mod Places
