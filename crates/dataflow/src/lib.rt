@@ -17,9 +17,9 @@ ghost use Rattle.instructions.specs.Builds.{Ready, Builds};
 ghost use Rattle.dataflow.specs.Cost.{blockCost};
 ghost use Rattle.dataflow.specs.Ranges.{BlockInRange};
 
-pub mod parameters;
-pub mod header;
 pub mod function;
+pub mod header;
+pub mod parameters;
 mod phis;
 
 // A block: its phis, then it has come; its instructions, what waits for it, its terminal.

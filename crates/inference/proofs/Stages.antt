@@ -15,7 +15,7 @@ use Rattle.writing.specs.Wrote.{Wrote}
 use Rattle.summary.specs.Sections.{simulatedOf}
 use Rattle.dataflow.specs.declared.function.HirFunction.{HirFunction}
 use Rattle.diagnostics.specs.Diagnosed.{DiagnosticsPut}
-use Rattle.simulation.specs.Simulates.{Before, EffectsPut}
+use Rattle.summary.specs.Simulates.{Before, EffectsPut}
 use Rattle.inference.specs.Whole.{Prepared, PlacesPut, AnswerPut}
 use Rattle.inference.proofs.Answering.{real-state, real-renders, real-stands, next-stands, next-state, answer-put}
 

@@ -11,13 +11,13 @@ ghost use Rattle.inference.specs.Whole.{NoneUnless, Keeps, Prepared, Pre
 use aliasing::process_mutations;
 use building::Building;
 use dataflow::build_blocks;
-use diagnostics::put_diagnostics;
 use dataflow::function::HirFunction;
 use dataflow::parameters::FunctionStep;
 use dataflow::parameters::read_function;
+use diagnostics::put_diagnostics;
 use reading::Verdict;
-use simulation::put_effects;
 use summary::ranges::put_ranges;
+use summary::simulation::put_effects;
 use summary::tracked::put_marked;
 use summary::walks::put_walks;
 use workspace::END;

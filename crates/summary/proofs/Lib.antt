@@ -6,3 +6,5 @@ pub mod Counts
 pub mod Starts
 pub mod Whole
 pub mod Rooms
+pub mod Turns
+pub mod Written

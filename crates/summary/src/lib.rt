@@ -2,5 +2,6 @@
 pub mod flows;
 pub mod ranges;
 pub mod records;
+pub mod simulation;
 pub mod tracked;
 pub mod walks;

@@ -34,11 +34,11 @@ use Rattle.writing.specs.Wrote.{Wrote}
 use Rattle.writing.proofs.Writing.{wrote-none, wrote-then, wrote-as}
 use Rattle.copies.proofs.Gathers.{gather-append}
 use Rattle.workspace.specs.Tracked.{mostTracked, trackedAt, trackedOf}
 use Rattle.summary.specs.Sections.{Flows, simulatedOf}
 use Rattle.summary.proofs.Held.{holds-state}
 use Rattle.workspace.proofs.Places.{tracked-kept}
 use Rattle.summary.proofs.Rooms.{flows-next}
-use Rattle.simulation.specs.Simulates.{Marked, Simulates}
+use Rattle.summary.specs.Simulates.{Marked, Simulates}
 
 -- ---- tables in the words
 tracked-length : (ws : List ℕ) (n : ℕ) → length (trackedOf ws n) ≡ n

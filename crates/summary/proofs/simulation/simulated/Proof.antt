@@ -2,8 +2,8 @@ use Rattle.model.specs.Simulated.{simulation}
 use Rattle.aliasing.specs.Says.{modeSays, mutationSays}
 use mathlib.Core.Path.{refl}
 use native.Mathlib.Omega.{arith}
-use Rattle.simulation.proofs.simulated.Statement.{statement}
-use Rattle.simulation.proofs.simulated.Tie as tie
+use Rattle.summary.proofs.simulation.simulated.Statement.{statement}
+use Rattle.summary.proofs.simulation.simulated.Tie as tie
 
 returns : tie.Need-returns
 unfolding simulation modeSays mutationSays

@@ -25,16 +25,16 @@ use Rattle.copies.specs.Returns.{identifierFrom, createOf}
 use Rattle.copies.specs.declared.effect_lists.Section.the-variants.{Effects}
 use Rattle.copies.proofs.Gathers.{gather-append}
 use Rattle.copies.proofs.Sections.{copied-words, section-patched, effects-count}
 use Rattle.summary.specs.Records.{Holds, Collected}
 use Rattle.workspace.specs.Tracked.{trackedOf, trackedFrom}
 use Rattle.summary.specs.Tracked.{Marks}
 use Rattle.summary.proofs.Held.{holds-state}
 use Rattle.summary.proofs.Rooms.{collected-next}
 use Rattle.summary.proofs.Whole.{params-tracked, context-tracked, marks-tracked}
 use Rattle.dataflow.specs.declared.function.HirFunction.{HirFunction}
 use Rattle.dataflow.specs.Function.{Limited}
 use Rattle.dataflow.proofs.Described.{blocks-stand, returns-create}
-use Rattle.simulation.specs.Simulates.{mostFlows, mostEffects, Marked, Simulates, CopiedPut, Before, EffectsPut}
+use Rattle.summary.specs.Simulates.{mostFlows, mostEffects, Marked, Simulates, CopiedPut, Before, EffectsPut}
 
 -- the words hold the records that the walks and renders left
 holds-after : (s : Sheet) {sheet ws : List ℕ} {f : HirFunction} {index : ℕ} → Before s sheet ws f index → Holds ws (afterRenders s)

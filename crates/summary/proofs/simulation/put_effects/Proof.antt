@@ -1,10 +1,10 @@
 use native.Mathlib.Omega.{arith}
 use mathlib.Core.Path.{_∙_}
 use Rattle.dataflow.proofs.Described.{blocks-inside, returns-inside}
-use Rattle.simulation.proofs.Written.{indexed-after, after-context, after-params, after-returns, some-marked, after-walks, rises, effects-put}
+use Rattle.summary.proofs.Written.{indexed-after, after-context, after-params, after-returns, some-marked, after-walks, rises, effects-put}
 use borrow.Author.Needs.{needs}
-use Rattle.simulation.proofs.put_effects.Statement.{statement}
-use Rattle.simulation.proofs.put_effects.Tie as tie
+use Rattle.summary.proofs.simulation.put_effects.Statement.{statement}
+use Rattle.summary.proofs.simulation.put_effects.Tie as tie
 
 cast-params : tie.Need-cast-params
 cast-params c =

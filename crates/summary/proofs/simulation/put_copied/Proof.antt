@@ -1,7 +1,7 @@
-use Rattle.simulation.proofs.Written.{copied-put, copied-not}
+use Rattle.summary.proofs.Written.{copied-put, copied-not}
 use borrow.Author.Needs.{needs}
-use Rattle.simulation.proofs.put_copied.Statement.{statement}
-use Rattle.simulation.proofs.put_copied.Tie as tie
+use Rattle.summary.proofs.simulation.put_copied.Statement.{statement}
+use Rattle.summary.proofs.simulation.put_copied.Tie as tie
 
 copy-effects-requires : tie.Need-copy-effects-requires
 copy-effects-requires c κs = search needs

@@ -2,9 +2,9 @@ use native.Mathlib.Omega.{arith}
 use mathlib.Core.Path.{_∙_}
 use Prim.Native.Nat.{_-_}
 use Rattle.workspace.proofs.Places.{is-below}
-use Rattle.simulation.proofs.Turns.{Turned, cleared-start, cleared-marked, cleared-end, long, stored-size, turned-turn, turned-end}
-use Rattle.simulation.proofs.simulate.Statement.{statement}
-use Rattle.simulation.proofs.simulate.Tie as tie
+use Rattle.summary.proofs.Turns.{Turned, cleared-start, cleared-marked, cleared-end, long, stored-size, turned-turn, turned-end}
+use Rattle.summary.proofs.simulation.simulate.Statement.{statement}
+use Rattle.summary.proofs.simulation.simulate.Tie as tie
 
 abbrev Inv-loop : tie.InvT-loop
 Inv-loop ws₀ count index returns answer₀ at to₀ i₀ next₀ ws answer to i next = Turned ws₀ count index (returns .0) answer₀ at ws answer to i next
