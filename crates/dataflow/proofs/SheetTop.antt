@@ -8,7 +8,7 @@ use Rattle.model.specs.Limits.{mostIdentifiers, mostFunctions, mostParams, most
 use Rattle.model.specs.Sheet.{Flags, Identifier, InnerFunction, Sheet}
 use Rattle.model.specs.Reading.{Position, got, Read, _>>=_, count, fixed, times, numbered, counted}
 use Rattle.model.specs.Sections.{flags, identifier, innerFunction, place, block, sheet}
-use Rattle.model.proofs.ReadLaws.{Reads, pure-reads, any-reads, bind-reads, times-length}
+use Rattle.model.proofs.ReadLaws.{Reads, pure-reads, times-length, then-reads}
 use Rattle.dataflow.specs.Read.{afterFunctions}
 use Rattle.model.proofs.Got.{bind-got}
 
@@ -42,9 +42,6 @@ after-given fs ids inner =
     (λ r. then-reads (count mostBlocks) _ (Given fs ids inner)
     (λ b. then-reads (numbered b [] (block (length ids) (length inner))) _ (Given fs ids inner)
     (λ bs. pure-reads _ (Given fs ids inner) (record { flags = refl; identifiers = refl; functions = refl })))))))
-  where
-    then-reads : {A B : Type 0} (m : Read A) (f : A → Read B) (Q : B → Type 0) → ((a : A) → Reads (f a) Q) → Reads (m >>= f) Q
-    then-reads {A} m f Q h = bind-reads m f (λ (a : A). Unit {0}) Q (any-reads m) (λ a u. h a)
 
 pub record Parts (ws : List ℕ) (s : Sheet) (d : Position) : Type 0 where
   pub after-flags : Position

@@ -2,26 +2,15 @@
 use Prim.Native.Nat.{ℕ, zero, suc, _≤_, _<_}
 use mathlib.Core.Path.{_≡_, refl}
 use mathlib.Core.List.{List, [], _∷_}
-use lib.Dec.{leb, eqb, eqb→eq}
+use lib.Dec.{eqb, eqb→eq}
 use lib.ListN.{getD}
-use borrow.Author.Tests.{leb-true}
-use Rattle.model.specs.Lists.{pick}
 use Rattle.model.specs.Sheet.{other}
-use Rattle.model.specs.Reading.{pure, refuse, word, atMost}
 use Rattle.model.specs.Sections.{typeOf}
-use Rattle.model.proofs.ReadLaws.{Reads, pure-reads, refuse-reads, pick-reads, any-reads, bind-reads}
 use Rattle.hir.specs.Numbers.{effectNumber}
 use Rattle.hir.specs.declared.Effect.{Effect}
 use Rattle.hir.specs.declared.Effect.the-variants.{Unknown, Freeze, Read as Reading, Capture, ConditionallyMutateIterator, ConditionallyMutate, Mutate, Store}
 use Rattle.hir.proofs.Table.{at}
 use native.Mathlib.Omega.{arith}
-
--- a word in its range
-pub at-most-reads : (most : ℕ) → Reads (atMost most) (λ (w : ℕ). w ≤ most)
-unfolding atMost
-at-most-reads most =
-    bind-reads word (λ (w : ℕ). pick (leb w most) (pure w) (refuse 5)) (λ (w : ℕ). Unit {0}) (λ (w : ℕ). w ≤ most) (any-reads word)
-    (λ w u. pick-reads (leb w most) (pure w) (refuse 5) (λ (w : ℕ). w ≤ most) (λ h. pure-reads w (λ (w : ℕ). w ≤ most) (leb-true w most h)) (λ h. refuse-reads 5 (λ (w : ℕ). w ≤ most)))
 
 -- a number that is neither 1 nor 2 has the type `other`
 pub other-type : (t : ℕ) → (t ≡ 1 → ⊥) → (t ≡ 2 → ⊥) → other ≡ typeOf t

@@ -7,6 +7,7 @@ use mathlib.Core.List.{List, [], _∷_}
 use lib.ListN.{length, getD}
 use lib.Dec.{ltb, leb, eqb}
 use borrow.Author.Tests.{ltb-true}
+use Rattle.model.proofs.ReadLaws.{atMost-reads}
 use Rattle.model.specs.Limits.{flagCount, mostFlag, mostIdentifiers, mostFunctions, mostParams, mostContext, returnsCount, mostBlocks, mostRange, mostType, mostInnerDiagnostics, mostBlockNumber, mostCount, mostDiagnostic, mostKind, mostOrder, mostTerminal, mostTraits}
 use Rattle.model.specs.Lists.{pick, among}
 use Rattle.model.specs.Sheet.{Flags, Identifier, BlockId, Place, EffectKind, Effect, Operand, Phi, EffectList, Instruction, Terminal, Return, MaybeThrow, Block}
@@ -17,7 +18,6 @@ use Rattle.model.specs.Sections.{flag, flags, typeOf, identifier, diagnostic, i
 use Rattle.model.specs.Sections.{terminalOf as readTerminal}
 use Rattle.model.proofs.Got.{got-value, got-next, not-both}
 use Rattle.hir.specs.Words.{Part, Standing, wordAt, placeWidth, effectWidth, operandWidth, identifierWidth, diagnosticWidth, wide, placeOf, placeAt, effectAt, operandAt, identifierAt, diagnosticAt, several, listed, effectsFrom, functionFrom, phiFrom, instructionFrom, terminalOf, terminalFrom, phisFrom, instructionsFrom, blockFrom, flagsWidth, flagsAt, identifiersFrom, functionsFrom, placesFrom, sectionsFrom, sheetFrom}
-use Rattle.hir.proofs.Ranges.{at-most-reads}
 
 abbrev pub part : {A : Type 0} → A → Position → Part A
 part a d = record { what = a; next = d }
@@ -145,7 +145,7 @@ unused-stands ws c a d e =
     let y : q .next ≡ c + 2 = omega (arith, x, next-is t) in
     let z : c + placeWidth ≡ d = omega (arith, y, next-is w, got-next (r .second)) in
     let none : placeOf (p .value) (q .value) (r .value) ≡ placeOf 0 0 0 =
-    place-same (zero-is (p .value) (at-most-reads 0 ws c (p .value) (p .next) (p .first))) (zero-is (q .value) (at-most-reads 0 ws (p .next) (q .value) (q .next) (q .first))) (zero-is (r .value) (at-most-reads 0 ws (q .next) (r .value) (r .next) (r .first))) in
+    place-same (zero-is (p .value) (atMost-reads 0 ws c (p .value) (p .next) (p .first))) (zero-is (q .value) (atMost-reads 0 ws (p .next) (q .value) (q .next) (q .first))) (zero-is (r .value) (atMost-reads 0 ws (q .next) (r .value) (r .next) (r .first))) in
     record {
       is = part-same (place-same (at-word i refl) (at-word t x) (at-word w y) ∙ none ∙ got-value (r .second)) z;
       after = omega (arith, z);

@@ -4,33 +4,22 @@ use mathlib.Core.Path.{_≡_}
 use mathlib.Core.Bool.{Bool, true, false}
 use mathlib.Core.List.{List, [], _∷_, _++_}
 use lib.ListN.{length}
-use lib.Dec.{leb}
-use borrow.Author.Tests.{leb-true}
 use Rattle.model.specs.Limits.{mostIdentifiers, mostFunctions, mostBlocks, mostParams, mostContext, returnsCount, mostCount, mostOrder}
 use Rattle.model.specs.Lists.{pick, each, among, keep, Every}
 use Rattle.model.specs.Sheet.{BlockId, EvaluationOrder, Place, EffectKind, Freeze, Mutate, MutateConditionally, MutateTransitive, MutateTransitiveConditionally, Capture, Alias, MaybeAlias, Assign, Create, CreateFrom, ImmutableCapture, Apply, CreateFunction, MutateFrozen, MutateGlobal, Impure, Render, Effect, Operand, Phi, Instruction, Terminal, Other, Return, MaybeThrow, Block, Sheet}
 use Rattle.model.specs.Effects.{isAlias}
-use Rattle.model.specs.Reading.{Position, got, Read, _>>=_, pure, refuse, word, count, fixed, atMost, numbered, counted}
+use Rattle.model.specs.Reading.{Position, got, count, fixed, atMost, numbered, counted}
 use Rattle.model.specs.Sections.{flags, identifier, innerFunction, place, effects, phi, instruction, terminal, block, sheet}
 use Rattle.model.specs.Mutation.{Mutation}
 use Rattle.model.specs.Graph.{intoAliases, relate}
 use Rattle.model.specs.Built.{Waiting, Built, changed, between}
 use Rattle.model.specs.Building.{instructionEffect, operand, phiNode, wake, waitingFor, stillWaiting, terminalEffect, build}
 use Rattle.model.specs.Building.{instruction as instructionStep, terminal as terminalStep, block as blockStep}
-use Rattle.model.proofs.ReadLaws.{Reads, pure-reads, refuse-reads, pick-reads, any-reads, bind-reads, numbered-reads, counted-reads}
+use Rattle.model.proofs.ReadLaws.{Reads, pure-reads, bind-reads, then-reads, atMost-reads, numbered-reads, counted-reads}
 use Rattle.model.proofs.Everywhere.{every-append}
 use Rattle.model.proofs.Steady.{each-keeps}
 
 -- ---- what was read
-then-reads : {A B : Type 0} (m : Read A) (f : A → Read B) (Q : B → Type 0) → ((a : A) → Reads (f a) Q) → Reads (m >>= f) Q
-then-reads {A} m f Q k = bind-reads m f (λ (a : A). Unit {0}) Q (any-reads m) (λ a u. k a)
-
-atMost-reads : (most : ℕ) → Reads (atMost most) (λ (w : ℕ). w ≤ most)
-unfolding atMost
-atMost-reads most =
-    bind-reads word (λ (w : ℕ). pick (leb w most) (pure w) (refuse 5)) (λ (w : ℕ). Unit {0}) (λ (w : ℕ). w ≤ most) (any-reads word)
-    (λ w u. pick-reads (leb w most) (pure w) (refuse 5) (λ (w : ℕ). w ≤ most) (λ h. pure-reads w (λ (w : ℕ). w ≤ most) (leb-true w most h)) (λ h. refuse-reads 5 (λ (w : ℕ). w ≤ most)))
-
 abbrev Ordered : Instruction → Type 0
 Ordered i = i .order ≤ mostOrder
 

@@ -11,8 +11,7 @@ use Rattle.model.specs.Effects.{kindOf, rowOf, isCreateFunction}
 use Rattle.model.specs.Ranges.{PlaceBelow}
 use Rattle.model.specs.Reading.{Read, _>>=_, word, atMost, below}
 use Rattle.model.specs.Sections.{place, unused, extra, effect, effects, instruction, terminalOf, terminal}
-use Rattle.model.proofs.ReadLaws.{Reads, pure-reads, pick-reads, any-reads, bind-reads, below-reads, counted-reads}
-use Rattle.hir.proofs.Ranges.{at-most-reads}
+use Rattle.model.proofs.ReadLaws.{Reads, pure-reads, pick-reads, any-reads, bind-reads, below-reads, counted-reads, atMost-reads}
 use Rattle.instructions.specs.Ranges.{InRange, InstructionInRange, TerminalInRange}
 
 -- a part of which nothing is asked
@@ -41,7 +40,7 @@ unfolding extra
 extra-known m h k =
     pick-reads (isCreateFunction k) (below m) (atMost (rowOf k .extra)) (ExtraKnown k)
     (λ t ws c a d e. (λ u. omega (arith, h, below-reads m ws c a d e), λ u. absurd (true≢false (sym t ∙ u))))
-    (λ t ws c a d e. (λ u. absurd (true≢false (sym u ∙ t)), λ u. at-most-reads (rowOf k .extra) ws c a d e))
+    (λ t ws c a d e. (λ u. absurd (true≢false (sym u ∙ t)), λ u. atMost-reads (rowOf k .extra) ws c a d e))
 
 module _ (n m : ℕ) (hn : n ≤ mostIdentifiers) (hm : m ≤ mostFunctions) where
   effect-known : Reads (effect n m) InRange

@@ -1,6 +1,6 @@
+use Rattle.model.proofs.ReadLaws.{atMost-reads}
 use Rattle.hir.specs.Says.{wordSays}
 use Rattle.hir.proofs.Answers.{says}
-use Rattle.hir.proofs.Ranges.{at-most-reads}
 use mathlib.Core.Path.{_≡_}
 use Prim.Native.Nat.{_≤_}
 use native.Mathlib.Omega.{arith}
@@ -33,7 +33,7 @@ returns-3 c =
     let b3 = c .before .before .before in
     let b5 = b3 .before .before in
     let w = b3 .w .given .0 .0 in
-    let h : w ≤ 2 = at-most-reads 2 _ _ _ _ (says wordSays (b3 .w .given .1) (b5 .at-most .ensures)) in
+    let h : w ≤ 2 = atMost-reads 2 _ _ _ _ (says wordSays (b3 .w .given .1) (b5 .at-most .ensures)) in
     let e : w ≡ 2 = omega arith in
     rw (says wordSays (b3 .w .given .1) (b5 .at-most .ensures), e)
 

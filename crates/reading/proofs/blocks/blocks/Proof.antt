@@ -3,7 +3,7 @@ use Rattle.reading.proofs.JudgeLaws.{numbered-next, numbered-refused, n
 use Rattle.reading.specs.TotalsSays.{totalsAre, totalsSays}
 use Rattle.reading.specs.Judging.{judge, counting}
 use Rattle.hir.specs.Says.{wordSays, blockSays}
-use Rattle.model.proofs.ReadLaws.{count-reads}
+use Rattle.model.proofs.ReadLaws.{count-reads, atMost-reads}
 use Rattle.model.specs.Asking.{block, tellBlock}
 use Rattle.model.specs.Reading.{numberedFrom}
 use Rattle.model.specs.Lists.{each, Every}
@@ -14,7 +14,6 @@ use native.Mathlib.Omega.{arith}
 use mathlib.Core.Path.{_≡_, _∙_, sym, refl}
 use borrow.Author.Needs.{needs}
 use Rattle.hir.proofs.Answers.{says}
-use Rattle.hir.proofs.Ranges.{at-most-reads}
 use Rattle.model.specs.Limits.{mostBlocks, mostBlockNumber}
 use Rattle.reading.proofs.blocks.blocks.Statement.{statement}
 use Rattle.reading.proofs.blocks.blocks.Tie as tie
@@ -77,7 +76,7 @@ repeated-requires : tie.Need-repeated-requires Inv-loop μ-loop
 repeated-requires c κs =
     let b4 = c .before .before .before .before in
     let b6 = b4 .before .before in
-    (omega (arith, b6 .loop .inv .3), (b6 .loop .inv .4, at-most-reads mostBlockNumber _ _ _ _ (says blockSays (c .before .before .b .given .1) (b4 .block-number .ensures))))
+    (omega (arith, b6 .loop .inv .3), (b6 .loop .inv .4, atMost-reads mostBlockNumber _ _ _ _ (says blockSays (c .before .before .b .given .1) (b4 .block-number .ensures))))
 
 returns-3 : tie.Need-returns-3 Inv-loop μ-loop
 returns-3 c =
@@ -92,7 +91,7 @@ returns-3 c =
 raised-requires : tie.Need-raised-requires Inv-loop μ-loop
 raised-requires c κs =
     let b3 = c .before .before .before in
-    let b4 = b3 .before in at-most-reads mostBlockNumber _ _ _ _ (says blockSays (b4 .b .given .1) (b4 .before .before .block-number .ensures))
+    let b4 = b3 .before in atMost-reads mostBlockNumber _ _ _ _ (says blockSays (b4 .b .given .1) (b4 .before .before .block-number .ensures))
 
 sub-free : tie.Need-sub-free Inv-loop μ-loop
 sub-free c = omega arith
@@ -101,7 +100,7 @@ cast-used : tie.Need-cast-used Inv-loop μ-loop
 cast-used c =
     let b5 = c .before .before .before .before .before in
     let b7 = b5 .before .before in
-    let few : b5 .b .given .0 .0 .0 ≤ mostBlockNumber = at-most-reads mostBlockNumber _ _ _ _ (says blockSays (b5 .b .given .1) (b7 .block-number .ensures)) in omega (arith, few)
+    let few : b5 .b .given .0 .0 .0 ≤ mostBlockNumber = atMost-reads mostBlockNumber _ _ _ _ (says blockSays (b5 .b .given .1) (b7 .block-number .ensures)) in omega (arith, few)
 
 mul-used : tie.Need-mul-used Inv-loop μ-loop
 mul-used c = omega arith

@@ -1,3 +1,4 @@
+use Rattle.model.proofs.ReadLaws.{atMost-reads}
 use Rattle.reading.proofs.BlockLaws.{operand-got, operand-refused}
 use Rattle.reading.proofs.JudgeLaws.{numbered-next, numbered-refused, numbered-stop, numbered-done, new-got, new-used, new-refused, used-as}
 use Rattle.reading.proofs.OperandLaws.{none-before, at-most-read, whole-next, one-read, below-read}
@@ -14,7 +15,6 @@ use native.Mathlib.Omega.{arith}
 use mathlib.Core.Path.{_≡_, _∙_, sym}
 use borrow.Author.Needs.{needs}
 use Rattle.hir.proofs.Answers.{says}
-use Rattle.hir.proofs.Ranges.{at-most-reads}
 use Rattle.model.specs.Limits.{mostBlockNumber}
 use Rattle.reading.proofs.phis.operands.Statement.{statement}
 use Rattle.reading.proofs.phis.operands.Tie as tie
@@ -70,7 +70,7 @@ returns-2 c =
 raised-requires : tie.Need-raised-requires Inv-loop μ-loop
 raised-requires c κs =
     let b3 = c .before .before .before in
-    at-most-reads mostBlockNumber _ _ _ _ (says blockSays (b3 .b .given .1) (b3 .before .before .block-number .ensures))
+    atMost-reads mostBlockNumber _ _ _ _ (says blockSays (b3 .b .given .1) (b3 .before .before .block-number .ensures))
 
 place-requires : tie.Need-place-requires Inv-loop μ-loop
 place-requires c κs = tt
