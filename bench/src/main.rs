@@ -3,8 +3,7 @@
 //! Our library and the original module in one process on the same sheets, both optimised, one
 //! after the other in every round. Prints the tables of docs/PERFORMANCE.md.
 //!
-//! - ours: the whole call on lent buffers, clearing included.
-//! - clearing: the library's clearing of the lent words alone, in a call refused at its first word.
+//! - ours: the whole call on lent buffers, which it clears.
 //! - same job: the original from the sheet's words to the answer's words, its HIR built on the way.
 //! - analysis: the original's pass alone, its HIR built before.
 
@@ -13,12 +12,11 @@ use std::time::{Duration, Instant};
 use bench::clock::time;
 use bench::shapes;
 use bench::sides::{Ours, analysis, compare, same_job};
-use oracle::cases::CASE_1;
 use oracle::generate::{self, LIMITS};
 use oracle::plain;
 use oracle::plain::sheet::Sheet;
 use oracle::random::Random;
-use service_host::{Service, first_lent};
+use service_host::first_lent;
 
 /// The q-th part of the times, which are sorted.
 fn quantile(sorted: &[f64], q: f64) -> f64 {
@@ -49,83 +47,53 @@ impl Times {
 /// The medians of one sheet.
 struct Row {
     ours: f64,
-    clearing: f64,
     job: f64,
     analysis: f64,
-    /// The largest spread of ours and the original's two.
+    /// The largest spread of the three.
     spread: f64,
 }
 
-impl Row {
-    fn less_clearing(&self) -> f64 {
-        (self.ours - self.clearing).max(1.0)
-    }
-}
-
-/// The times of all four in every round: ours, clearing, same job, analysis.
-#[derive(Default)]
-struct Sides([Times; 4]);
-
-impl Sides {
-    fn row(&self) -> Row {
-        let [whole, clearing, job, alone] = &self.0;
-        Row {
-            ours: whole.median(),
-            clearing: clearing.median(),
-            job: job.median(),
-            analysis: alone.median(),
-            spread: whole.spread().max(job.spread()).max(alone.spread()),
-        }
-    }
-}
-
-/// A sheet and what is lent for its answer: what `Service` lends, or the answer's length.
+/// A sheet, what is lent for its answer (what `Service` lends, or the answer's length), and the
+/// times of the sides: ours, same job, analysis.
 struct Subject {
     sheet: Sheet,
     words: Vec<u32>,
     lent: usize,
-    /// The sides one after the other on this sheet, in all rounds.
-    turns: Sides,
-    /// The first call of a side on this sheet after calls of all sides on other sheets.
-    first: Sides,
-    /// The third call of a side in a row.
-    again: Sides,
+    sides: [Times; 3],
 }
 
 impl Subject {
     /// Fails if the two sides disagree on the sheet.
-    fn new(ours: &mut Ours, sheet: Sheet) -> Subject {
+    fn new(ours: &mut Ours, sheet: &Sheet) -> Subject {
         let words = sheet.words();
-        let answer = plain::answer(&sheet).words().len();
+        let answer = plain::answer(sheet).words().len();
         let lent = first_lent(words.len()).max(answer);
         ours.lend(lent);
         compare(ours, &words);
-        let [turns, first, again] = [(); 3].map(|()| Sides::default());
-        Subject { sheet, words, lent, turns, first, again }
+        Subject { sheet: sheet.clone(), words, lent, sides: Default::default() }
     }
 
-    /// One call of a side, by its number in `Sides`.
-    fn call(&self, ours: &mut Ours, side: usize) -> f64 {
-        ours.lend(self.lent);
-        match side {
-            0 => time(|| ours.call(&self.words)).0,
-            1 => time(|| ours.refused_at_once()).0,
-            2 => time(|| same_job(&self.words)).0,
-            _ => analysis(&self.sheet),
-        }
-    }
-
+    /// One call of each side.
     fn turn(&mut self, ours: &mut Ours) {
-        for side in 0..4 {
-            let taken = self.call(ours, side);
-            self.turns.0[side].0.push(taken);
+        ours.lend(self.lent);
+        let taken = [
+            time(|| ours.call(&self.words)).0,
+            time(|| same_job(&self.words)).0,
+            analysis(&self.sheet),
+        ];
+        for (times, taken) in self.sides.iter_mut().zip(taken) {
+            times.0.push(taken);
         }
     }
 
-    fn in_a_row(&mut self, ours: &mut Ours, side: usize) {
-        let [first, _, third] = [(); 3].map(|()| self.call(ours, side));
-        self.first.0[side].0.push(first);
-        self.again.0[side].0.push(third);
+    fn row(&self) -> Row {
+        let [ours, job, analysis] = &self.sides;
+        Row {
+            ours: ours.median(),
+            job: job.median(),
+            analysis: analysis.median(),
+            spread: ours.spread().max(job.spread()).max(analysis.spread()),
+        }
     }
 }
 
@@ -135,44 +103,17 @@ struct Bench {
 }
 
 impl Bench {
-    /// In turns, for at most three seconds but at least five rounds.
-    fn measure(&mut self, sheet: &Sheet) -> Row {
-        let mut subject = Subject::new(&mut self.ours, sheet.clone());
+    /// The sides one after the other, for at most three seconds but at least five rounds.
+    fn measure(&mut self, sheet: &Sheet, rounds: usize) -> Row {
+        let mut subject = Subject::new(&mut self.ours, sheet);
         let start = Instant::now();
-        for round in 0..self.rounds {
+        for round in 0..rounds {
             if round >= 5 && start.elapsed() > Duration::from_secs(3) {
                 break;
             }
             subject.turn(&mut self.ours);
         }
-        subject.turns.row()
-    }
-
-    /// The rows of many sheets by each way: in turns, first, again. For the last two a round goes
-    /// over all sheets, and the sides are a quarter of the sheets apart, so that no side's first
-    /// call on a sheet follows another side's on the same one.
-    fn measure_all(&mut self, sheets: Vec<Sheet>, rounds: usize) -> [(&'static str, Vec<Row>); 3] {
-        let ours = &mut self.ours;
-        let mut subjects: Vec<Subject> =
-            sheets.into_iter().map(|sheet| Subject::new(ours, sheet)).collect();
-        for subject in &mut subjects {
-            (0..rounds).for_each(|_| subject.turn(ours));
-        }
-        let count = subjects.len();
-        for _ in 0..rounds {
-            for i in 0..count {
-                for side in 0..4 {
-                    subjects[(i + side * count / 4) % count].in_a_row(ours, side);
-                }
-            }
-        }
-        let rows =
-            |sides: fn(&Subject) -> &Sides| subjects.iter().map(|s| sides(s).row()).collect();
-        [
-            ("in turns", rows(|s| &s.turns)),
-            ("first", rows(|s| &s.first)),
-            ("again", rows(|s| &s.again)),
-        ]
+        subject.row()
     }
 }
 
@@ -188,62 +129,52 @@ fn ratio(r: f64) -> String {
     if r < 9.95 { format!("{r:.2}") } else { format!("{r:.1}") }
 }
 
-/// What was measured where something is asked, a line each.
-#[derive(Default)]
-struct Asked {
-    corpora: Vec<String>,
-    others: Vec<String>,
-}
-
-/// A ratio of which at least so much is asked.
+/// A measured ratio and the least that is asked of it.
 fn held(measured: f64, least: f64) -> String {
     let holds = if measured >= least { "holds" } else { "does not hold" };
-    format!("{}, {holds}", ratio(measured))
+    format!("{} of {least}, {holds}", ratio(measured))
 }
 
-/// A line of the corpora's table, and what is asked of it.
-fn corpus(name: &str, rows: &[Row], asked: &mut Asked) {
-    let median =
-        |value: &dyn Fn(&Row) -> f64| quantile(&sorted(rows.iter().map(value).collect()), 0.5);
-    let ratios = |value: &dyn Fn(&Row) -> f64| {
-        let all = sorted(rows.iter().map(value).collect());
-        let [low, middle, high] = [0.1, 0.5, 0.9].map(|q| ratio(quantile(&all, q)));
+/// The rows of many sheets, their line of the table, and the median over the sheets.
+struct Corpus(Vec<Row>);
+
+impl Corpus {
+    fn all(&self, value: fn(&Row) -> f64) -> Vec<f64> {
+        sorted(self.0.iter().map(value).collect())
+    }
+
+    fn median(&self, value: fn(&Row) -> f64) -> f64 {
+        quantile(&self.all(value), 0.5)
+    }
+
+    fn ratios(&self, value: fn(&Row) -> f64) -> String {
+        let [low, middle, high] = [0.1, 0.5, 0.9].map(|q| ratio(quantile(&self.all(value), q)));
         format!("{middle} ({low} to {high})")
-    };
-    println!(
-        "| {name} | {} | {} | {} | {} | {} | {} | {} | {} | {} |",
-        rows.len(),
-        micro(median(&|r| r.ours)),
-        micro(median(&|r| r.clearing)),
-        micro(median(&|r| r.job)),
-        micro(median(&|r| r.analysis)),
-        ratios(&|r| r.job / r.ours),
-        ratios(&|r| r.analysis / r.ours),
-        ratios(&|r| r.job / r.less_clearing()),
-        ratios(&|r| r.analysis / r.less_clearing()),
-    );
-    asked.corpora.push(format!(
-        "| {name} | {} | {} | {} | {} |",
-        held(median(&|r| r.job / r.less_clearing()), 5.0),
-        held(median(&|r| r.analysis / r.less_clearing()), 3.0),
-        held(median(&|r| r.job / r.ours), 5.0),
-        held(median(&|r| r.analysis / r.ours), 3.0),
-    ));
+    }
+
+    fn print(&self, name: &str) {
+        println!(
+            "| {name} | {} | {} | {} | {} | {} | {} |",
+            self.0.len(),
+            micro(self.median(|r| r.ours)),
+            micro(self.median(|r| r.job)),
+            micro(self.median(|r| r.analysis)),
+            self.ratios(|r| r.job / r.ours),
+            self.ratios(|r| r.analysis / r.ours),
+        );
+    }
 }
 
-fn corpora(bench: &mut Bench, asked: &mut Asked) {
+fn corpora(bench: &mut Bench, asked: &mut Vec<String>) {
     println!("## Corpora\n");
     println!(
         "Ratios are taken sheet by sheet; the median over the sheets, in brackets the lower and \
-         upper tenth. \"In turns\": the sides one after the other on one sheet, in all rounds, as \
-         for the shapes below. \"First\" and \"again\": in every round each side is called three \
-         times in a row on a sheet, after all sides on other sheets; the first call finds caches \
-         and branches as those left them, the third as the same call did.\n"
+         upper tenth.\n"
     );
     println!(
-        "| corpus | sheets | ours µs | of it clearing | same job µs | analysis µs | same job / ours | analysis / ours | same job / ours less clearing | analysis / ours less clearing |"
+        "| corpus | sheets | ours µs | same job µs | analysis µs | same job / ours | analysis / ours |"
     );
-    println!("|---|---|---|---|---|---|---|---|---|---|");
+    println!("|---|---|---|---|---|---|---|");
     let mut random = Random::new(1);
     let generated: Vec<Sheet> = (0..2_000).map(|_| generate::sheet(&mut random)).collect();
     let mut panels = |count: usize, low: usize, high: usize| -> Vec<Sheet> {
@@ -254,36 +185,29 @@ fn corpora(bench: &mut Bench, asked: &mut Asked) {
             })
             .collect()
     };
-    let corpora = [
-        ("small panels, 10 to 60 identifiers", panels(500, 10, 60)),
-        ("large panels, 100 to 512 identifiers", panels(100, 100, 512)),
-        ("generated sheets", generated),
-    ];
-    for (name, sheets) in corpora {
-        for (way, rows) in bench.measure_all(sheets, (bench.rounds / 5).max(5)) {
-            corpus(&format!("{name}, {way}"), &rows, asked);
-        }
-    }
+    let small = panels(500, 10, 60);
+    let large = panels(100, 100, 512);
+    let rounds = (bench.rounds / 5).max(5);
+    let mut measured = |name: &str, sheets: &[Sheet]| {
+        let corpus = Corpus(sheets.iter().map(|sheet| bench.measure(sheet, rounds)).collect());
+        corpus.print(name);
+        corpus
+    };
+    let generated = measured("generated sheets", &generated);
+    measured("small panels, 10 to 60 identifiers", &small);
+    let large = measured("large panels, 100 to 512 identifiers", &large);
     println!();
+    asked.push(format!(
+        "- Generated sheets, the median of same job / ours: {}.",
+        held(generated.median(|r| r.job / r.ours), 2.0)
+    ));
+    asked.push(format!(
+        "- Large panels, the median of analysis / ours: {}.",
+        held(large.median(|r| r.analysis / r.ours), 3.0)
+    ));
 }
 
-const SHAPES_HEAD: &str = "| shape | words | ours µs | of it clearing | same job µs | analysis µs | spread | same job / ours | analysis / ours | analysis / ours less clearing |\n|---|---|---|---|---|---|---|---|---|---|";
-
-fn shape_row(name: &str, words: usize, row: &Row) {
-    println!(
-        "| {name} | {words} | {} | {} | {} | {} | {:.0}% | {} | {} | {} |",
-        micro(row.ours),
-        micro(row.clearing),
-        micro(row.job),
-        micro(row.analysis),
-        100.0 * row.spread,
-        ratio(row.job / row.ours),
-        ratio(row.analysis / row.ours),
-        ratio(row.analysis / row.less_clearing()),
-    );
-}
-
-fn worst(bench: &mut Bench, asked: &mut Asked) {
+fn worst(bench: &mut Bench, asked: &mut Vec<String>) {
     let mut sheets = shapes::worst();
     let mut random = Random::new(3);
     sheets.extend(
@@ -291,23 +215,36 @@ fn worst(bench: &mut Bench, asked: &mut Asked) {
             .into_iter()
             .map(|limit| (format!("limit: {limit:?}"), generate::at_limit(&mut random, limit))),
     );
-    println!("## Worst shapes and limits\n\n{SHAPES_HEAD}");
+    println!("## Worst shapes and limits\n");
+    println!(
+        "| shape | words | ours µs | same job µs | analysis µs | spread | same job / ours | analysis / ours |"
+    );
+    println!("|---|---|---|---|---|---|---|---|");
     let mut all = Vec::new();
     for (name, sheet) in sheets {
-        let row = bench.measure(&sheet);
-        shape_row(&name, sheet.words().len(), &row);
-        all.push((row.analysis / row.less_clearing(), name));
+        let row = bench.measure(&sheet, bench.rounds);
+        println!(
+            "| {name} | {} | {} | {} | {} | {:.0}% | {} | {} |",
+            sheet.words().len(),
+            micro(row.ours),
+            micro(row.job),
+            micro(row.analysis),
+            100.0 * row.spread,
+            ratio(row.job / row.ours),
+            ratio(row.analysis / row.ours),
+        );
+        all.push((row.job / row.ours, name));
     }
     println!();
     all.sort_by(|(a, _), (b, _)| a.total_cmp(b));
     let slower = all.iter().take_while(|(r, _)| *r < 1.0).count();
-    asked.others.push(format!(
-        "- On no shape slower than the analysis alone, clearing aside: slower on {slower} of {}.",
+    asked.push(format!(
+        "- On no shape slower than the same job: slower on {slower} of {}.",
         all.len()
     ));
     let lowest = all.iter().take(slower.max(3)).map(|(r, name)| format!("{name} {}", ratio(*r)));
     let lowest: Vec<String> = lowest.collect();
-    asked.others.push(format!("- The lowest of these ratios: {}.", lowest.join("; ")));
+    asked.push(format!("- The lowest of these ratios: {}.", lowest.join("; ")));
 }
 
 fn doublings(bench: &mut Bench) {
@@ -318,7 +255,7 @@ fn doublings(bench: &mut Bench) {
     for (name, sheets) in shapes::doublings() {
         let mut before: Option<Row> = None;
         for (size, sheet) in sheets {
-            let row = bench.measure(&sheet);
+            let row = bench.measure(&sheet, bench.rounds);
             let factor = |now: f64, part: &dyn Fn(&Row) -> f64| {
                 before.as_ref().map_or(String::new(), |b| format!("×{:.2}", now / part(b)))
             };
@@ -337,112 +274,6 @@ fn doublings(bench: &mut Bench) {
     println!();
 }
 
-/// A tiny sheet, and the same with one word more, which is read whole and refused 7.
-struct Tiny {
-    name: String,
-    words: Vec<u32>,
-    more: Vec<u32>,
-    whole: Times,
-    read: Times,
-    wrapped: Times,
-}
-
-impl Tiny {
-    fn new(name: &str, words: Vec<u32>) -> Tiny {
-        let more = [&words[..], &[0]].concat();
-        let [whole, read, wrapped] = [(); 3].map(|()| Times::default());
-        Tiny { name: name.to_string(), words, more, whole, read, wrapped }
-    }
-
-    fn all() -> Vec<Tiny> {
-        let case_1 = CASE_1.split_whitespace().filter_map(|w| w.parse().ok()).collect();
-        let mut random = Random::new(8);
-        let panels = [3, 5, 7, 10, 20]
-            .map(|n| Tiny::new(&format!("panel of {n}"), shapes::panel(&mut random, n).words()));
-        let mut sheets = vec![
-            Tiny::new("smallest", shapes::smallest().words()),
-            Tiny::new("bench case 1", case_1),
-        ];
-        sheets.extend(panels);
-        sheets
-    }
-
-    fn time(&mut self, bench: &mut Bench, service: &mut Service) {
-        bench.ours.lend(first_lent(self.words.len()));
-        for _ in 0..bench.rounds.max(1_001) {
-            self.whole.0.push(time(|| bench.ours.call(&self.words)).0);
-            self.read.0.push(time(|| bench.ours.call(&self.more)).0);
-            self.wrapped.0.push(time(|| service.infer(&self.words).is_ok()).0);
-        }
-    }
-
-    fn ratio(&self) -> f64 {
-        self.whole.median() / self.read.median()
-    }
-}
-
-/// Tiny sheets are timed between the other parts of the run too, so that a machine that is slower
-/// for a while does not decide.
-fn time_tiny(bench: &mut Bench, sheets: &mut [Tiny]) {
-    let mut service = Service::new();
-    for sheet in sheets {
-        sheet.time(bench, &mut service);
-    }
-}
-
-/// The whole call beside clearing and one reading.
-fn tiny(sheets: &[Tiny], asked: &mut Asked) {
-    println!("## Tiny sheets\n");
-    println!(
-        "Timed at the beginning, between the other parts and at the end of the run; medians of \
-         all.\n"
-    );
-    println!(
-        "| sheet | words | whole call µs | clearing and one reading µs | ratio | through `Service` µs |"
-    );
-    println!("|---|---|---|---|---|---|");
-    for sheet in sheets {
-        println!(
-            "| {} | {} | {} | {} | {} | {} |",
-            sheet.name,
-            sheet.words.len(),
-            micro(sheet.whole.median()),
-            micro(sheet.read.median()),
-            ratio(sheet.ratio()),
-            micro(sheet.wrapped.median()),
-        );
-    }
-    println!();
-    // Small panels begin at 10 identifiers; what is tiny is below. The count is word 3.
-    let largest = sheets.iter().filter(|s| s.words[3] < 10).map(Tiny::ratio).fold(0.0, f64::max);
-    let holds = if largest <= 1.3 { "holds" } else { "does not hold on all" };
-    asked.others.push(format!(
-        "- Tiny sheets, under 10 identifiers: the whole call within 1.3 times clearing and one \
-         reading: at most {}, {holds}.",
-        ratio(largest)
-    ));
-}
-
-fn clearing(bench: &mut Bench) {
-    println!("## Clearing the lent words\n");
-    println!("| words lent | the library's µs | `fill(0)` µs |");
-    println!("|---|---|---|");
-    let rounds = bench.rounds.max(1_001);
-    for answer in [first_lent(0), 16_384, 65_536] {
-        bench.ours.lend(answer);
-        let ours = (0..rounds).map(|_| time(|| bench.ours.refused_at_once()).0).collect();
-        let fill = (0..rounds).map(|_| time(|| bench.ours.clear()).0).collect();
-        println!(
-            "| {} + {answer} | {} | {} |",
-            bench.ours.lent() - answer,
-            micro(Times(ours).median()),
-            micro(Times(fill).median())
-        );
-    }
-    let clock = Times((0..10_001).map(|_| time(|| ()).0).collect()).median();
-    println!("\nReading the clock, which is in every time, takes {} µs.\n", micro(clock));
-}
-
 /// How busy the machine is: above the number of its cores, the times say little.
 fn load(when: &str) -> String {
     let load = std::fs::read_to_string("/proc/loadavg").unwrap_or_default();
@@ -454,32 +285,21 @@ fn load(when: &str) -> String {
 fn main() {
     let rounds = std::env::args().nth(1).map_or(101, |r| r.parse().expect("ROUNDS is a number"));
     let mut bench = Bench { ours: Ours::new(), rounds };
-    let mut asked = Asked::default();
+    let mut asked = Vec::new();
     println!(
         "Medians of {rounds} rounds (fewer where a round takes long, at least 5; a fifth of them \
-         for corpora). Every call of ours is lent {} words of workspace, and of answer buffer what \
-         `Service` lends first (the sheet's length, at least {}) or, where that is longer, the \
-         answer's length; it clears all of them. The original clears nothing. Spread: between the \
-         quartiles, as a part of the median, the largest of the three sides.\n",
+         for corpora), the sides one after the other in each. Every call of ours is lent {} words \
+         of workspace, and of answer buffer what `Service` lends first (the sheet's length, at \
+         least {}) or, where that is longer, the answer's length; it clears all of them. The \
+         original clears nothing. Spread: between the quartiles, as a part of the median, the \
+         largest of the three sides.\n",
         service_host::ffi::least_workspace(),
         first_lent(0),
     );
     println!("{}", load("begins"));
-    let mut sheets = Tiny::all();
-    clearing(&mut bench);
-    time_tiny(&mut bench, &mut sheets);
     corpora(&mut bench, &mut asked);
-    time_tiny(&mut bench, &mut sheets);
     worst(&mut bench, &mut asked);
-    time_tiny(&mut bench, &mut sheets);
     doublings(&mut bench);
-    time_tiny(&mut bench, &mut sheets);
-    tiny(&sheets, &mut asked);
     println!("{}", load("ends"));
-    println!("## What is asked\n");
-    println!(
-        "| at the median | less clearing: same job (5) | analysis alone (3) | whole call: same job (5) | analysis alone (3) |"
-    );
-    println!("|---|---|---|---|---|\n{}\n", asked.corpora.join("\n"));
-    println!("{}", asked.others.join("\n"));
+    println!("## What is asked\n\n{}", asked.join("\n"));
 }

@@ -179,7 +179,8 @@ pub fn worst() -> Vec<(String, Sheet)> {
         .into_iter()
         .map(|(name, sheet)| (format!("{name}, 512 mutations"), sheet))
         .collect();
-    let more: [(&str, Sheet); 11] = [
+    let more: [(&str, Sheet); 12] = [
+        ("the smallest sheet", smallest()),
         ("one phi with 1,024 operands", phi(1_024)),
         ("one phi with 1,024 operands, predecessors falling", falling_phi(1_024)),
         ("1,024 operands that wait, 248 blocks", waiting(1_024)),

@@ -1,7 +1,5 @@
 //! One call of each side, and its time.
 
-use std::hint::black_box;
-
 use oracle::original_side;
 use oracle::plain::{self, sheet::Sheet};
 use oxc_allocator::Allocator;
@@ -33,29 +31,13 @@ impl Ours {
         self.answer.resize(words.max(self.answer.len()), 0);
     }
 
-    /// How many words are lent, the workspace included.
-    pub fn lent(&self) -> usize {
-        self.workspace.len() + self.lent
-    }
-
     pub fn call(&mut self, sheet: &[u32]) -> Reply {
         let answer = &mut self.answer[..self.lent];
         ffi::infer(&mut self.state, sheet, &mut self.workspace, answer)
     }
 
-    /// The library's clearing of the lent words: a call that is refused at its first word.
-    pub fn refused_at_once(&mut self) -> Reply {
-        self.call(&[])
-    }
-
     pub fn answer(&self, reply: Reply) -> &[u32] {
         &self.answer[..reply.length]
-    }
-
-    /// Clears the lent words and does nothing else.
-    pub fn clear(&mut self) {
-        black_box(&mut self.workspace[..]).fill(0);
-        black_box(&mut self.answer[..self.lent]).fill(0);
     }
 }
 
