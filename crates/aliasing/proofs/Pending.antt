@@ -25,7 +25,7 @@ use Rattle.aliasing.specs.declared.MutationKind.{MutationKind}
 use Rattle.aliasing.specs.declared.Mutation.{Mutation as CodeMutation}
 use Rattle.aliasing.specs.Says.{kindSays, modeOf, modeSays, mutationSays}
 use Rattle.aliasing.specs.State.{stateOf, Handing}
-use Rattle.aliasing.specs.Walks.{Unmarked, Mutated}
+use Rattle.aliasing.specs.Walks.{indexRoom, Unmarked, Mutated}
 use Rattle.aliasing.specs.Pending.{Pending, Made, takenOf, Processed}
 use Rattle.aliasing.proofs.Parts.{slice-below, nodes-below, rows-below}
 use Rattle.aliasing.proofs.Hands.{handing-behind}
@@ -37,7 +37,7 @@ pub kind-definite : (b : ℕ) → (b ≡ 0 → ⊥) → definite ≡ kindOf b
 kind-definite zero h = absurd (h refl)
 kind-definite (suc b) h = refl
 
-pub made : (w order span : ℕ) (errors : Bool) (kind : MutationKind) → w / 4096 < 134217728 → kindSays kind ≡ kindOf (w / 1024 % 2)
+pub made : (w order span : ℕ) (errors : Bool) (kind : MutationKind) → w / 4096 < indexRoom → kindSays kind ≡ kindOf (w / 1024 % 2)
     → Made w order span errors (record {
       index = w / 4096;
       start = record { 0 = w % 512 };

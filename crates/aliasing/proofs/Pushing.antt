@@ -7,7 +7,8 @@ use mathlib.Core.Path.{_≡_, refl, sym, ap, subst, _∙_}
 use lib.ListN.{length, getD, set, take, length-set}
 use lib.Seq.{slice, sets, slice-cons, slice-empty, take-set-le, getD-take}
 use borrow.Author.Tests.{lt-ltb, le-ltb}
-use Rattle.aliasing.specs.Pushes.{forwardW, forwardE, entriesW, entryW, Pushed}
+use Rattle.aliasing.specs.Pushes.{forwardW, forwardE, entriesW, entryW}
+use Rattle.writing.specs.Wrote.{Wrote}
 
 -- what a push loop keeps: ws is ws₀ with some entries pushed, up to len, and `rest` still to push makes it all of vs
 pub record Pushing (ws₀ : List ℕ) (top : ℕ) (vs : List ℕ) (ws : List ℕ) (len : ℕ) (rest : List ℕ) : Type 0 where
@@ -20,7 +21,7 @@ pub record Pushing (ws₀ : List ℕ) (top : ℕ) (vs : List ℕ) (ws : List ℕ
 pub pushing-start : (ws : List ℕ) (top : ℕ) (vs : List ℕ) → Pushing ws top vs ws top vs
 pushing-start ws top vs = record { words = refl; next = refl; below = refl; same = refl; up = omega arith }
 
-pub pushing-end : {ws₀ : List ℕ} {top : ℕ} {vs ws : List ℕ} {len : ℕ} → Pushing ws₀ top vs ws len [] → Pushed ws₀ top vs ws len
+pub pushing-end : {ws₀ : List ℕ} {top : ℕ} {vs ws : List ℕ} {len : ℕ} → Pushing ws₀ top vs ws len [] → Wrote vs ws₀ top ws len
 pushing-end p = record { words = p .words; next = omega (arith, p .next) }
 
 pub pushing-more : {ws₀ : List ℕ} {top : ℕ} {vs ws : List ℕ} {len e : ℕ} {rest : List ℕ} → Pushing ws₀ top vs ws len (e ∷ rest) → Pushing ws₀ top vs (set ws len e) (len + 1) rest
@@ -80,7 +81,7 @@ module _ {rule : List ℕ → List ℕ} {ws₀ : List ℕ} {at end top : ℕ} {w
   onward : (rest : List ℕ) → rule (slice i stop ws₀) ≡ rest → Pushing ws₀ top (rule (slice at end ws₀)) ws len rest
   onward rest q = subst (λ (l : List ℕ). Pushing ws₀ top (rule (slice at end ws₀)) ws len l) q (p .push)
 
-  pub push-end : rule (slice i stop ws₀) ≡ [] → Pushed ws₀ top (rule (slice at end ws₀)) ws len
+  pub push-end : rule (slice i stop ws₀) ≡ [] → Wrote (rule (slice at end ws₀)) ws₀ top ws len
   push-end e = pushing-end (onward [] e)
 
   pub push-more : (e : ℕ) → i < stop → rule (slice i stop ws₀) ≡ e ∷ rule (slice (i + 1) stop ws₀) → PushInv rule ws₀ at end top (set ws len e) (i + 1) stop (len + 1)
@@ -120,7 +121,7 @@ module _ (index transitive kind : ℕ) {ws₀ : List ℕ} {at end top : ℕ} {ws
       (forward-stop index transitive kind i stop ws₀ h (omega (arith, p .room, p .push .up, p .clear, p .within)) (subst (λ (w : ℕ). index ≤ w / 2048) (push-at p h) q)
       ∙ sym (forward-none index transitive kind (i + 1) (i + 1) ws₀ refl))
 
-  pub forward-done : stop ≤ i → Pushed ws₀ top (forwardW index transitive kind (slice at end ws₀)) ws len
+  pub forward-done : stop ≤ i → Wrote (forwardW index transitive kind (slice at end ws₀)) ws₀ top ws len
   forward-done h = push-end p (forward-none index transitive kind i stop ws₀ (omega (arith, p .mid)))
 
 module _ (index transitive kind : ℕ) {ws₀ : List ℕ} {at end top : ℕ} {ws : List ℕ} {i len : ℕ} (p : PushInv (entriesW index transitive kind) ws₀ at end top ws i end len) where
@@ -136,5 +137,5 @@ module _ (index transitive kind : ℕ) {ws₀ : List ℕ} {at end top : ℕ} {ws
       push-skip p end h (omega arith) (omega arith)
       (entries-skip index transitive kind i end ws₀ h (omega (arith, p .room)) (subst (λ (w : ℕ). index ≤ w / 2048) (push-at p h) q))
 
-  pub entries-done : end ≤ i → Pushed ws₀ top (entriesW index transitive kind (slice at end ws₀)) ws len
+  pub entries-done : end ≤ i → Wrote (entriesW index transitive kind (slice at end ws₀)) ws₀ top ws len
   entries-done h = push-end p (entries-none index transitive kind i end ws₀ (omega (arith, p .mid)))

@@ -22,7 +22,8 @@ use Rattle.workspace.specs.Graph.{MISSING, valueOf, ownNode, graphOfRows}
 use Rattle.workspace.proofs.Rows.{value-at, rows-length}
 use Rattle.workspace.proofs.Graph.{row-there, row-missing}
 use Rattle.workspace.proofs.Parts.{drop-more}
-use Rattle.aliasing.specs.Pushes.{pushedW, Pushed, Room, deg}
+use Rattle.aliasing.specs.Pushes.{pushedW, Room, deg}
+use Rattle.writing.specs.Wrote.{Wrote}
 use Rattle.aliasing.specs.Items.{itemOf, queueOf}
 use Rattle.aliasing.proofs.Sizes.{pushed-le}
 use Rattle.aliasing.proofs.PushLaws.{pushed-part, pushed-kept}
@@ -92,13 +93,13 @@ shows-to {base} {ws} {top} {hand} w v s p = subst (Shows base ws top hand) (sym 
 -- its fields are written in ws₂, and the next function is to be handed over at h
 pub record Accepting (m : Mutation) (base : ℕ) (ws : List ℕ) (top hand h : ℕ) (ws₂ : List ℕ) : Type 0 where
   pub room : Room ws₂ (top - 1) (deg (rowsOf ws₂) (placeAt ws top))
-  pub stepped : (ws₃ : List ℕ) (r : ℕ) → Pushed ws₂ (top - 1) (pushedW (rowsOf ws₂) (placeAt ws top) (directionAt ws top) (m .index) (transitiveAt ws top) (kindAt ws top)) ws₃ r → Stepped m base ws top hand ws₃ r h
+  pub stepped : (ws₃ : List ℕ) (r : ℕ) → Wrote (pushedW (rowsOf ws₂) (placeAt ws top) (directionAt ws top) (m .index) (transitiveAt ws top) (kindAt ws top)) ws₂ (top - 1) ws₃ r → Stepped m base ws top hand ws₃ r h
 
 -- whether it is entered, and the words then
 pub record Entering (m : Mutation) (base : ℕ) (ws : List ℕ) (top hand : ℕ) (ws₁ : List ℕ) (enters : Bool) : Type 0 where
   pub passed : enters ≡ false → Stepped m base ws top hand ws₁ (top - 1) hand
   pub accepted : enters ≡ true
-      → (wsH : List ℕ) (h : ℕ) → Pushed ws₁ hand (handW ws₁ (getD ws₁ (VALUE + placeAt ws top) 0) (placeAt ws top) (m .«should_record_errors»)) wsH h
+      → (wsH : List ℕ) (h : ℕ) → Wrote (handW ws₁ (getD ws₁ (VALUE + placeAt ws top) 0) (placeAt ws top) (m .«should_record_errors»)) ws₁ hand wsH h
       → (ws₂ : List ℕ) → ws₂ ≡ acceptW wsH (placeAt ws top) (transitiveAt ws top) (kindAt ws top + 1) m → Accepting m base ws top hand h ws₂
 
 module _ (m : Mutation) (base : ℕ) (ws : List ℕ) (top hand : ℕ) (ready : Ready base ws top hand) (callable : Callable m) (more : QUEUE < top) where
@@ -211,7 +212,7 @@ module _ (m : Mutation) (base : ℕ) (ws : List ℕ) (top hand : ℕ) (ready : R
               ∙ ap (λ (g : List ℕ). phi (set (levels base (seenOf ws)) (placeAt ws top) (kindAt ws top + 1)) g mostIdentifiers) (rows-above mark (omega arith))
 
     -- ---- accepted: the function handed over, the fields written, the entries pushed
-    module _ (wsH : List ℕ) (h : ℕ) (ph : Pushed marked hand (handW marked (getD marked (VALUE + placeAt ws top) 0) (placeAt ws top) (m .«should_record_errors»)) wsH h) where
+    module _ (wsH : List ℕ) (h : ℕ) (ph : Wrote (handW marked (getD marked (VALUE + placeAt ws top) 0) (placeAt ws top) (m .«should_record_errors»)) marked hand wsH h) where
       abbrev records : List Record
       records = recordsOf (nodesOf ws)
 
@@ -226,8 +227,8 @@ module _ (m : Mutation) (base : ℕ) (ws : List ℕ) (top hand : ℕ) (ready : R
           ∙ ap (λ (v : ℕ). handW (take SEEN ws) v (placeAt ws top) (m .«should_record_errors»)) value-kept
           ∙ handed-is (take SEEN ws) (value (rowsOf ws) (placeAt ws top)) (placeAt ws top) m x-below callable
 
-      ph′ : Pushed marked hand handing wsH h
-      ph′ = subst (λ (vs : List ℕ). Pushed marked hand vs wsH h) hands ph
+      ph′ : Wrote handing marked hand wsH h
+      ph′ = subst (λ (vs : List ℕ). Wrote vs marked hand wsH h) hands ph
 
       abbrev touched : List Record
       touched = set (recordsOf (nodesOf ws)) (placeAt ws top) (touch (itemOf (last ws top) .transitive) (mutationSays m) (record { kind = itemOf (last ws top) .kind; span = m .span }) (getD (recordsOf (nodesOf ws)) (placeAt ws top) noRecord))
@@ -264,12 +265,12 @@ module _ (m : Mutation) (base : ℕ) (ws : List ℕ) (top hand : ℕ) (ready : R
         }
 
         module _ (there : getD marked (VALUE + placeAt ws top) 0 ≡ 0 → ⊥) (ws₃ : List ℕ) (r : ℕ)
-            (p : Pushed ws₂ (top - 1) (pushedW (rowsOf ws₂) (placeAt ws top) (directionAt ws top) (m .index) (transitiveAt ws top) (kindAt ws top)) ws₃ r) where
+            (p : Wrote (pushedW (rowsOf ws₂) (placeAt ws top) (directionAt ws top) (m .index) (transitiveAt ws top) (kindAt ws top)) ws₂ (top - 1) ws₃ r) where
           abbrev pushed : List ℕ
           pushed = pushedW (rowsOf ws) (placeAt ws top) (directionAt ws top) (m .index) (transitiveAt ws top) (kindAt ws top)
 
-          p′ : Pushed ws₂ (top - 1) pushed ws₃ r
-          p′ = subst (λ (g : List ℕ). Pushed ws₂ (top - 1) (pushedW g (placeAt ws top) (directionAt ws top) (m .index) (transitiveAt ws top) (kindAt ws top)) ws₃ r) rows₂ p
+          p′ : Wrote pushed ws₂ (top - 1) ws₃ r
+          p′ = subst (λ (g : List ℕ). Wrote (pushedW g (placeAt ws top) (directionAt ws top) (m .index) (transitiveAt ws top) (kindAt ws top)) ws₂ (top - 1) ws₃ r) rows₂ p
 
           few : length pushed ≤ deg (rowsOf ws) (placeAt ws top)
           few = pushed-le (rowsOf ws) (rows-length ws (ready .size)) (ready .good) (placeAt ws top) (directionAt ws top) (m .index) (transitiveAt ws top) (kindAt ws top) x-below

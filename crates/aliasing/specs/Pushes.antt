@@ -3,9 +3,7 @@
 use Prim.Native.Nat.{ℕ, _+_, _-_, _*_, _/_, _%_, _≤_}
 use mathlib.Core.Bool.{Bool, false}
 use mathlib.Core.List.{List, [], _∷_, _++_}
-use mathlib.Core.Path.{_≡_}
 use lib.ListN.{length}
-use lib.Seq.{sets}
 use lib.Dec.{ltb, eqb}
 use Rattle.model.specs.Lists.{pick}
 use Rattle.workspace.specs.Graph.{ALIASES, MAYBE, CAPTURES, PHI}
@@ -54,11 +52,6 @@ unfoldable pub pushedW : List ℕ → ℕ → ℕ → ℕ → ℕ → ℕ → Li
 pushedW g x direction index transitive kind =
     forwardW index transitive kind (rowF g x)
     ++ (entriesW index 1 kind (rowB g (4 * x)) ++ (aliasesW g x direction index transitive kind ++ capturesW g x index transitive kind))
-
--- vs written from top on
-pub record Pushed (ws : List ℕ) (top : ℕ) (vs : List ℕ) (ws′ : List ℕ) (r : ℕ) : Type 0 where
-  pub words : ws′ ≡ sets ws top vs
-  pub next : r ≡ top + length vs
 
 -- the words that row k can push
 abbrev pub wordsB : List ℕ → ℕ → ℕ

@@ -20,6 +20,10 @@ use Rattle.aliasing.specs.declared.Mutation.{Mutation}
 abbrev pub mostBase : ℕ
 mostBase = 4096
 
+-- a record's word has room for indexes below this: it holds 32 times the largest
+abbrev pub indexRoom : ℕ
+indexRoom = 134217728
+
 -- the words hold the walk w, its accepted entries and its count aside: the queue up to `top`, the levels from `base` on, the state
 pub record Shows (base : ℕ) (ws : List ℕ) (top hand : ℕ) (w : Walk) : Type 0 where
   pub queue : queueOf (slice QUEUE top ws) ≡ w .queue
@@ -46,7 +50,7 @@ pub record Aside (ws ws′ : List ℕ) : Type 0 where
 pub record Callable (m : Mutation) : Type 0 where
   pub start : m .start .0 < mostIdentifiers
   pub reason : m .reason < 2
-  pub index : m .index < 134217728
+  pub index : m .index < indexRoom
   pub quiet : m .end .0 ≡ 0 → m .«should_record_errors» ≡ false
 
 -- one entry was taken

@@ -5,7 +5,7 @@ ghost use lib.ListN.{length, getD};
 ghost use Rattle.model.specs.Limits.{mostIdentifiers, mostOrder};
 ghost use Rattle.workspace.specs.Layout.{LEAST, BASE, MUTATIONS, QUEUE, VALUE};
 ghost use Rattle.workspace.specs.Rows.{Indexed};
-ghost use Rattle.aliasing.specs.Pushes.{Pushed};
+ghost use Rattle.writing.specs.Wrote.{Wrote};
 ghost use Rattle.workspace.specs.Pending.{kindOf};
 ghost use Rattle.aliasing.specs.Says.{bit, kindBit, kindSays};
 ghost use Rattle.aliasing.specs.State.{Handing, NoneAbove};
@@ -135,7 +135,7 @@ fn accept(ws: &mut [u32], x: usize, transitive: u32, level: u32, m: Mutation)
 // A function node hands over its function, whose diagnostics the caller appends.
 pub fn hand_over_function(ws: &mut [u32], x: usize, hand: usize) -> usize
     requires { ⌜ (x < mostIdentifiers) × ((LEAST ≤ length (now ws)) × (hand ≤ MUTATIONS)) ⌝ }
-    ensures { λ r. ⌜ Pushed (now (ws .entry)) hand (functionW (getD (now (ws .entry)) (VALUE + x) 0)) (now (ws .exit)) r ⌝ }
+    ensures { λ r. ⌜ Wrote (functionW (getD (now (ws .entry)) (VALUE + x) 0)) (now (ws .entry)) hand (now (ws .exit)) r ⌝ }
 {
     let v = ws[VALUE + x];
     if v < FUNCTION {
@@ -148,7 +148,7 @@ pub fn hand_over_function(ws: &mut [u32], x: usize, hand: usize) -> usize
 // A node without a record hands over its function, if errors are recorded.
 fn record_errors(ws: &mut [u32], x: usize, errors: bool, hand: usize) -> usize
     requires { ⌜ (x < mostIdentifiers) × ((LEAST ≤ length (now ws)) × (hand ≤ MUTATIONS)) ⌝ }
-    ensures { λ r. ⌜ Pushed (now (ws .entry)) hand (handW (now (ws .entry)) (getD (now (ws .entry)) (VALUE + x) 0) x errors) (now (ws .exit)) r ⌝ }
+    ensures { λ r. ⌜ Wrote (handW (now (ws .entry)) (getD (now (ws .entry)) (VALUE + x) 0) x errors) (now (ws .entry)) hand (now (ws .exit)) r ⌝ }
 {
     if errors {
         if ws[RECORD + x] % 16 == 0 {

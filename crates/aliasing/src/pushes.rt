@@ -6,7 +6,8 @@ ghost use lib.Seq.{slice};
 ghost use Rattle.model.specs.Limits.{mostIdentifiers};
 ghost use Rattle.workspace.specs.Rows.{rowsOf, mostLists, rowF, rowB};
 ghost use Rattle.workspace.specs.Graph.{ALIASES, MAYBE, CAPTURES};
-ghost use Rattle.aliasing.specs.Pushes.{entryW, edgeLevel, forwardW, entriesW, blockedW, aliasesW, capturesW, pushedW, Pushed, Room, wordsF, wordsB, deg};
+ghost use Rattle.aliasing.specs.Pushes.{entryW, edgeLevel, forwardW, entriesW, blockedW, aliasesW, capturesW, pushedW, Room, wordsF, wordsB, deg};
+ghost use Rattle.writing.specs.Wrote.{Wrote};
 use workspace::ALIASES;
 use workspace::BBOUND;
 use workspace::BENTRY;
@@ -50,7 +51,7 @@ fn push_forward(
     top: usize,
 ) -> usize
     requires { ⌜ (at ≤ end) × ((end ≤ top) × ((top + (end - at) ≤ length (now ws)) × ((transitive < 2) × (kind < 2)))) ⌝ }
-    ensures { λ r. ⌜ Pushed (now (ws .entry)) top (forwardW index transitive kind (slice at end (now (ws .entry)))) (now (ws .exit)) r ⌝ }
+    ensures { λ r. ⌜ Wrote (forwardW index transitive kind (slice at end (now (ws .entry)))) (now (ws .entry)) top (now (ws .exit)) r ⌝ }
 {
     let mut i = at;
     let mut stop = end;
@@ -79,7 +80,7 @@ fn push_entries(
     top: usize,
 ) -> usize
     requires { ⌜ (at ≤ end) × ((end ≤ top) × ((top + (end - at) ≤ length (now ws)) × ((transitive < 2) × (kind < 2)))) ⌝ }
-    ensures { λ r. ⌜ Pushed (now (ws .entry)) top (entriesW index transitive kind (slice at end (now (ws .entry)))) (now (ws .exit)) r ⌝ }
+    ensures { λ r. ⌜ Wrote (entriesW index transitive kind (slice at end (now (ws .entry)))) (now (ws .entry)) top (now (ws .exit)) r ⌝ }
 {
     let mut i = at;
     let mut len = top;
@@ -105,7 +106,7 @@ pub fn push_list(
 ) -> usize
     requires { ⌜ Room (now ws) top (wordsB (rowsOf (now ws)) k) ⌝ }
     requires { ⌜ (k < mostLists) × ((transitive < 2) × (kind < 2)) ⌝ }
-    ensures { λ r. ⌜ Pushed (now (ws .entry)) top (entriesW index transitive kind (rowB (rowsOf (now (ws .entry))) k)) (now (ws .exit)) r ⌝ }
+    ensures { λ r. ⌜ Wrote (entriesW index transitive kind (rowB (rowsOf (now (ws .entry))) k)) (now (ws .entry)) top (now (ws .exit)) r ⌝ }
 {
     let all = wide(ws[BBOUND]);
     let lo = all - wide(ws[BBOUND + k]);
@@ -117,7 +118,7 @@ pub fn push_list(
 fn push_edges(ws: &mut [u32], x: usize, index: u32, transitive: u32, kind: u32, top: usize) -> usize
     requires { ⌜ Room (now ws) top (wordsF (rowsOf (now ws)) x) ⌝ }
     requires { ⌜ (x < mostIdentifiers) × ((transitive < 2) × (kind < 2)) ⌝ }
-    ensures { λ r. ⌜ Pushed (now (ws .entry)) top (forwardW index transitive kind (rowF (rowsOf (now (ws .entry))) x)) (now (ws .exit)) r ⌝ }
+    ensures { λ r. ⌜ Wrote (forwardW index transitive kind (rowF (rowsOf (now (ws .entry))) x)) (now (ws .entry)) top (now (ws .exit)) r ⌝ }
 {
     let all = wide(ws[FBOUND]);
     let lo = all - wide(ws[FBOUND + x]);
@@ -144,7 +145,7 @@ fn push_aliases(
 ) -> usize
     requires { ⌜ Room (now ws) top (wordsB (rowsOf (now ws)) (4 * x + ALIASES) + wordsB (rowsOf (now ws)) (4 * x + MAYBE)) ⌝ }
     requires { ⌜ (x < mostIdentifiers) × ((transitive < 2) × (kind < 2)) ⌝ }
-    ensures { λ r. ⌜ Pushed (now (ws .entry)) top (aliasesW (rowsOf (now (ws .entry))) x direction index transitive kind) (now (ws .exit)) r ⌝ }
+    ensures { λ r. ⌜ Wrote (aliasesW (rowsOf (now (ws .entry))) x direction index transitive kind) (now (ws .entry)) top (now (ws .exit)) r ⌝ }
 {
     if blocked(ws[VALUE + x], direction) {
         return top;
@@ -164,7 +165,7 @@ fn push_captures(
 ) -> usize
     requires { ⌜ Room (now ws) top (wordsB (rowsOf (now ws)) (4 * x + CAPTURES)) ⌝ }
     requires { ⌜ (x < mostIdentifiers) × ((transitive < 2) × (kind < 2)) ⌝ }
-    ensures { λ r. ⌜ Pushed (now (ws .entry)) top (capturesW (rowsOf (now (ws .entry))) x index transitive kind) (now (ws .exit)) r ⌝ }
+    ensures { λ r. ⌜ Wrote (capturesW (rowsOf (now (ws .entry))) x index transitive kind) (now (ws .entry)) top (now (ws .exit)) r ⌝ }
 {
     if transitive == 1 {
         push_list(ws, 4 * x + CAPTURES as usize, index, transitive, kind, top)
@@ -185,7 +186,7 @@ pub fn push_all(
 ) -> usize
     requires { ⌜ Room (now ws) top (deg (rowsOf (now ws)) x) ⌝ }
     requires { ⌜ (x < mostIdentifiers) × ((transitive < 2) × (kind < 2)) ⌝ }
-    ensures { λ r. ⌜ Pushed (now (ws .entry)) top (pushedW (rowsOf (now (ws .entry))) x direction index transitive kind) (now (ws .exit)) r ⌝ }
+    ensures { λ r. ⌜ Wrote (pushedW (rowsOf (now (ws .entry))) x direction index transitive kind) (now (ws .entry)) top (now (ws .exit)) r ⌝ }
 {
     let a = push_edges(ws, x, index, transitive, kind, top);
     let b = push_list(ws, 4 * x, index, 1, kind, a);

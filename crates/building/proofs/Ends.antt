@@ -6,9 +6,10 @@ use mathlib.Core.Option.{none}
 use mathlib.Core.Path.{_≡_, refl, sym, ap, subst, _∙_}
 use lib.ListN.{length, getD, replicate, length-replicate, getD-replicate}
 use lib.Seq.{slice, slice-empty, ext-getD}
-use Rattle.model.specs.Limits.{mostIdentifiers}
+use Rattle.model.specs.Limits.{mostSheet, mostIdentifiers}
+use Rattle.model.specs.Lists.{Every}
 use Rattle.model.specs.Building.{noNodes}
-use Rattle.workspace.specs.Layout.{LEAST, VALUE, FBOUND, QUEUE, EDGES, ENTRIES, PREDS, MUTATIONS, RENDERS}
+use Rattle.workspace.specs.Layout.{LEAST, VALUE, FBOUND, QUEUE, EDGES, ENTRIES, PHIS, MUTATIONS, RENDERS}
 use Rattle.workspace.specs.Rows.{Kept}
 use Rattle.workspace.specs.Sort.{clearW, sel}
 use Rattle.workspace.specs.Graph.{nodeOf, tab}
@@ -21,10 +22,12 @@ use Rattle.workspace.proofs.Pending.{mutations-kept, renders-kept}
 use Rattle.building.specs.declared.Held.{Held}
 use Rattle.building.specs.declared.Building.{Building}
 use Rattle.building.specs.Logs.{graphOfLogs, without, Clean}
-use Rattle.building.specs.Held.{valuesOf, logsOf, graphOf, operandsOf, waitingOf, Laid}
-use Rattle.building.specs.Built.{comeOf, builtOf, Sound, nothing, Starts, LaysOut}
+use Rattle.building.specs.Held.{valuesOf, logsOf, graphOf, Laid}
+use Rattle.building.specs.Phis.{phisOf, waitingOf, Known}
+use Rattle.building.specs.Built.{comeOf, builtOf, Sound, Holding, nothing, Starts, LaysOut}
 use Rattle.building.proofs.Writes.{logs-eq}
-use Rattle.building.proofs.Stages.{built-eq, room-none}
+use Rattle.building.proofs.Operands.{built-eq}
+use Rattle.building.proofs.Stages.{room-none}
 use Rattle.building.proofs.Counts.{held-edges, held-entries}
 
 -- ---- the start
@@ -34,10 +37,10 @@ tab-all n f a h =
     (λ i k. let q : i < n = omega (arith, tab-length n f) in tab-at n f i a q ∙ h i q ∙ sym (getD-replicate n i a a q))
 
 abbrev none-held : Held
-none-held = record { edges = 0; entries = 0; waiting = 0 }
+none-held = record { edges = 0; entries = 0 }
 
 abbrev none-built : Building
-none-built = record { held = none-held; come = 0; relations = 0; mutations = 0; renders = 0 }
+none-built = record { held = none-held; phis = 0; come = 0; relations = 0; mutations = 0; renders = 0 }
 
 without-nil : (t x : ℕ) → without t x [] ≡ []
 unfolding without
@@ -62,22 +65,30 @@ module _ (ws ws′ : List ℕ) (size : LEAST ≤ length ws) (is : ws′ ≡ clea
       tab-all mostIdentifiers (nodeOf (valuesOf ws′) (λ x. sel 0 x (slice EDGES EDGES ws′)) (λ k. sel 1 k (slice ENTRIES ENTRIES ws′))) none
       (λ x h. node-none (valuesOf ws′) (λ x. sel 0 x (slice EDGES EDGES ws′)) (λ k. sel 1 k (slice ENTRIES ENTRIES ws′)) x (no-value x h))
 
-  no-operands : waitingOf ws′ none-held ≡ []
-  unfolding waitingOf operandsOf
-  no-operands = rw (slice-empty PREDS ws′)
+  no-operands : (s : List ℕ) → waitingOf s (phisOf ws′ 0) (comeOf ws′ 0) ≡ []
+  unfolding waitingOf
+  no-operands s = ap (λ (l : List ℕ). waitingOf s l (comeOf ws′ 0)) (slice-empty PHIS ws′)
 
-  none-yet : builtOf ws′ none-built ≡ nothing
+  none-yet : (s : List ℕ) → builtOf s ws′ none-built ≡ nothing
   unfolding builtOf comeOf mutationsOf rendersOf tab
-  none-yet = built-eq no-graph refl refl no-operands refl refl
+  none-yet s = built-eq no-graph refl refl (no-operands s) refl refl
+
+  none-held-yet : (s : List ℕ) → length s ≤ mostSheet → Holding s ws′ none-built
+  unfolding builtOf
+  none-held-yet s h =
+      let w = ap length (no-operands s) in
+      record { short = h; phis = subst (Every (Known s)) (sym (slice-empty PHIS ws′)) tt; edges = omega (arith, w); entries = omega (arith, w) }
 
   pub started : Starts ws ws′ none-built
   started = record {
     built = none-yet;
+    holding = none-held-yet;
     sound = record {
       size = omega (arith, cleared .same);
       clean = subst Clean (sym no-logs) (clean-nil (valuesOf ws′));
       edges = omega arith;
       entries = omega arith;
+      phis = omega arith;
       relations = omega arith;
       mutations = omega arith;
       renders = omega arith;
@@ -95,7 +106,6 @@ module _ (ws ws′ : List ℕ) (size : LEAST ≤ length ws) (is : ws′ ≡ clea
 -- ---- the end
 module _ (ws : List ℕ) (b : Building) (sound : Sound ws b) (ws′ : List ℕ) (s : Laid ws (b .held) ws′) where
   pub laid-out : LaysOut ws b ws′
-  unfolding builtOf
   laid-out = record {
     indexed = s .indexed;
     graph = s .graph;

@@ -6,8 +6,11 @@ pub mod Writes
 pub mod Steps
 pub mod LayOut
 pub mod Operands
+pub mod Storing
 pub mod Counts
 pub mod Pushes
 pub mod Stages
 pub mod Beside
+pub mod PhiSteps
+pub mod BlockEnds
 pub mod Ends

@@ -4,12 +4,16 @@ use mathlib.Core.Bool.{false}
 use mathlib.Core.List.{List, [], _∷_, _++_}
 use mathlib.Core.Path.{_≡_}
 use lib.ListN.{length, getD, take, drop}
-use Rattle.model.specs.Limits.{mostIdentifiers, mostRelations, mostFunctions, mostMutations, mostRenders, mostBlocks}
-use Rattle.model.specs.Sheet.{BlockId, Place}
+use Rattle.model.specs.Limits.{mostSheet, mostIdentifiers, mostRelations, mostFunctions, mostMutations, mostRenders, mostBlocks}
+use Rattle.model.specs.Lists.{each, Every}
+use Rattle.model.specs.Sheet.{BlockId, Place, Phi as ModelPhi}
+use Rattle.model.specs.Reading.{Position}
+use Rattle.model.specs.Ranges.{PhiBelow}
 use Rattle.model.specs.Graph.{Value, object, phi, function}
 use Rattle.model.specs.Mutation.{Mutation, RenderOf}
-use Rattle.model.specs.Built.{Built}
-use Rattle.model.specs.Building.{noNodes}
+use Rattle.model.specs.Built.{Built, comes}
+use Rattle.model.specs.Building.{operand, wake, noNodes}
+use Rattle.hir.specs.Words.{phiFrom}
 use Rattle.model.specs.Size as size
 use Rattle.workspace.specs.Layout.{LEAST, SEEN, VALUE, FBOUND, QUEUE, MUTATIONS, RENDERS, FUNCTIONS}
 use Rattle.workspace.specs.Rows.{rowsOf, mostLists, fb, bb, Indexed, Kept}
@@ -19,7 +23,8 @@ use Rattle.building.specs.declared.Building.{Building}
 use Rattle.building.specs.declared.NodeValue.{NodeValue}
 use Rattle.building.specs.declared.NodeValue.the-variants.{Object, Phi, Function}
 use Rattle.building.specs.Logs.{Clean}
-use Rattle.building.specs.Held.{logsOf, graphOf, waitingOf}
+use Rattle.building.specs.Held.{logsOf, graphOf}
+use Rattle.building.specs.Phis.{phisOf, waitingOf, Known}
 
 -- a node's value as the definitions have it
 abbrev pub valueIs : NodeValue → Value
@@ -46,13 +51,13 @@ comeOf ws (suc n) = getD ws (SEEN + n) 0 ∷ comeOf ws n
 abbrev pub indexOf : Building → ℕ
 indexOf b = b .relations + b .mutations + b .renders
 
--- the building so far
-unfoldable pub builtOf : List ℕ → Building → Built
-builtOf ws b = record {
+-- the building so far, of the sheet s
+unfoldable pub builtOf : List ℕ → List ℕ → Building → Built
+builtOf s ws b = record {
   graph = graphOf ws (b .held);
   index = indexOf b;
   come = comeOf ws (b .come);
-  waiting = waitingOf ws (b .held);
+  waiting = waitingOf s (phisOf ws (b .phis)) (comeOf ws (b .come));
   mutations = mutationsOf ws (b .mutations);
   renders = rendersOf ws (b .renders);
 }
@@ -61,16 +66,39 @@ builtOf ws b = record {
 pub record Sound (ws : List ℕ) (b : Building) : Type 0 where
   pub size : LEAST ≤ length ws
   pub clean : Clean (logsOf ws (b .held))
-  pub edges : b .held .edges + b .held .waiting ≤ b .relations
-  pub entries : b .held .entries + b .held .waiting ≤ b .relations
+  pub edges : b .held .edges ≤ b .relations
+  pub entries : b .held .entries ≤ b .relations
+  pub phis : b .phis ≤ b .relations
   pub relations : b .relations ≤ mostRelations
   pub mutations : b .mutations ≤ mostMutations
   pub renders : b .renders ≤ mostRenders
   pub come : b .come ≤ mostBlocks
 
--- a step of the definition, in which d relation effects, m mutations, n renders and k blocks come; the words before SEEN and from FUNCTIONS on stay
-pub record Steps (f : Built → Built) (d m n k : ℕ) (ws : List ℕ) (b : Building) (ws′ : List ℕ) (r : Building) : Type 0 where
-  pub built : builtOf ws′ r ≡ f (builtOf ws b)
+-- what it keeps true of the sheet: its phis can be read again, and when all that waits is stored, no more is held than relation effects have come
+pub record Holding (s ws : List ℕ) (b : Building) : Type 0 where
+  pub short : length s ≤ mostSheet
+  pub phis : Every (Known s) (phisOf ws (b .phis))
+  pub edges : b .held .edges + length (builtOf s ws b .waiting) ≤ b .relations
+  pub entries : b .held .entries + length (builtOf s ws b .waiting) ≤ b .relations
+
+-- the phi at c is in the sheet and in range, and there is room for its operands
+pub record PhiFits (s : List ℕ) (c : Position) (b : Building) : Type 0 where
+  pub inside : phiFrom s c .next ≤ length s
+  pub range : PhiBelow mostIdentifiers (phiFrom s c .what)
+  pub relations : b .relations + length (phiFrom s c .what .operands) ≤ mostRelations
+
+-- a phi's operands, after its node
+abbrev pub phiOperands : ModelPhi → Built → Built
+phiOperands p = each (operand (p .place)) (p .operands)
+
+-- the end of a block: that it has come matters to nothing between its phis and here
+abbrev pub ends : BlockId → Built → Built
+ends n b = wake n (comes n b)
+
+-- a step of the definition on the sheet s, in which d relation effects, m mutations, n renders and k blocks come; the words before SEEN and from FUNCTIONS on stay
+pub record StepsOn (s : List ℕ) (f : Built → Built) (d m n k : ℕ) (ws : List ℕ) (b : Building) (ws′ : List ℕ) (r : Building) : Type 0 where
+  pub built : builtOf s ws′ r ≡ f (builtOf s ws b)
+  pub holding : Holding s ws b → Holding s ws′ r
   pub sound : Sound ws′ r
   pub relations : r .relations ≡ b .relations + d
   pub mutations : r .mutations ≡ b .mutations + m
@@ -80,13 +108,18 @@ pub record Steps (f : Built → Built) (d m n k : ℕ) (ws : List ℕ) (b : Buil
   pub high : drop FUNCTIONS ws′ ≡ drop FUNCTIONS ws
   pub same : length ws′ ≡ length ws
 
+-- the same on every sheet
+abbrev pub Steps : (Built → Built) → ℕ → ℕ → ℕ → ℕ → List ℕ → Building → List ℕ → Building → Type 0
+Steps f d m n k ws b ws′ r = (s : List ℕ) → StepsOn s f d m n k ws b ws′ r
+
 -- nothing is built: no identifier has a node
 abbrev pub nothing : Built
 nothing = record { graph = noNodes mostIdentifiers; index = 0; come = []; waiting = []; mutations = []; renders = [] }
 
 -- the start of building
 pub record Starts (ws ws′ : List ℕ) (r : Building) : Type 0 where
-  pub built : builtOf ws′ r ≡ nothing
+  pub built : (s : List ℕ) → builtOf s ws′ r ≡ nothing
+  pub holding : (s : List ℕ) → length s ≤ mostSheet → Holding s ws′ r
   pub sound : Sound ws′ r
   pub relations : r .relations ≡ 0
   pub mutations : r .mutations ≡ 0
@@ -99,11 +132,11 @@ pub record Starts (ws ws′ : List ℕ) (r : Building) : Type 0 where
 -- the end of building: the rows hold the graph that was built and as many edges and entries, and the mutations and renders stay
 pub record LaysOut (ws : List ℕ) (b : Building) (ws′ : List ℕ) : Type 0 where
   pub indexed : Indexed ws′
-  pub graph : graphOfRows (rowsOf ws′) ≡ builtOf ws b .graph
-  pub edges : fb (rowsOf ws′) mostIdentifiers ≡ size.edges (builtOf ws b .graph)
-  pub entries : bb (rowsOf ws′) mostLists ≡ size.entries (builtOf ws b .graph)
-  pub mutations : mutationsOf ws′ (b .mutations) ≡ builtOf ws b .mutations
-  pub renders : rendersOf ws′ (b .renders) ≡ builtOf ws b .renders
+  pub graph : graphOfRows (rowsOf ws′) ≡ graphOf ws (b .held)
+  pub edges : fb (rowsOf ws′) mostIdentifiers ≡ size.edges (graphOf ws (b .held))
+  pub entries : bb (rowsOf ws′) mostLists ≡ size.entries (graphOf ws (b .held))
+  pub mutations : mutationsOf ws′ (b .mutations) ≡ mutationsOf ws (b .mutations)
+  pub renders : rendersOf ws′ (b .renders) ≡ rendersOf ws (b .renders)
   pub low : take FBOUND ws′ ≡ take FBOUND ws
   pub high : drop QUEUE ws′ ≡ drop QUEUE ws
   pub same : length ws′ ≡ length ws

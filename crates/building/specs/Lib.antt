@@ -1,3 +1,4 @@
 pub mod Logs
 pub mod Held
+pub mod Phis
 pub mod Built

@@ -22,6 +22,7 @@ ghost use Rattle.model.specs.Limits.{mostIdentifiers};
 ghost use Rattle.model.specs.Graph.{create, relate, createFrom};
 ghost use Rattle.model.specs.Graph.{assign as assignEffect};
 ghost use Rattle.workspace.specs.Layout.{LEAST};
+ghost use Rattle.workspace.specs.Pending.{mostIndex};
 ghost use Rattle.workspace.specs.Graph.{MISSING, valueOf, relationOf};
 ghost use Rattle.building.specs.Held.{hasValue, Room, Builds, Laid};
 
@@ -43,21 +44,16 @@ pub fn create(ws: &mut [u32], h: Held, x: u32, value: u32) -> Held
         ws[VALUE + x as usize] = value;
         return h;
     }
-    let waiting = h.waiting;
     let edges = leave(ws, 0, EDGES, h.edges, x);
     let entries = leave(ws, 1, ENTRIES, h.entries, x);
     ws[VALUE + x as usize] = value;
-    Held {
-        edges,
-        entries,
-        waiting,
-    }
+    Held { edges, entries }
 }
 
 // Stores a relation in the list of this number: skipped if either node is missing.
 pub fn store(ws: &mut [u32], h: Held, list: u32, index: u32, from: u32, into: u32) -> Held
     requires { ⌜ Room 1 1 (now ws) h ⌝ }
-    requires { ⌜ (from < mostIdentifiers) × ((into < mostIdentifiers) × ((list < 4) × (index < 4096))) ⌝ }
+    requires { ⌜ (from < mostIdentifiers) × ((into < mostIdentifiers) × ((list < 4) × (index < mostIndex))) ⌝ }
     ensures { λ r. ⌜ Builds (relate (relationOf list) index from into) 1 1 (now (ws .entry)) h (now (ws .exit)) r ⌝ }
 {
     if !exists(ws, from) {
@@ -74,7 +70,7 @@ pub fn store(ws: &mut [u32], h: Held, list: u32, index: u32, from: u32, into: u3
 // An Assign effect first creates a missing "into".
 pub fn assign(ws: &mut [u32], h: Held, index: u32, from: u32, into: u32) -> Held
     requires { ⌜ Room 1 1 (now ws) h ⌝ }
-    requires { ⌜ (from < mostIdentifiers) × ((into < mostIdentifiers) × (index < 4096)) ⌝ }
+    requires { ⌜ (from < mostIdentifiers) × ((into < mostIdentifiers) × (index < mostIndex)) ⌝ }
     ensures { λ r. ⌜ Builds (assignEffect index from into) 1 1 (now (ws .entry)) h (now (ws .exit)) r ⌝ }
 {
     if !exists(ws, into) {
@@ -87,7 +83,7 @@ pub fn assign(ws: &mut [u32], h: Held, index: u32, from: u32, into: u32) -> Held
 // CreateFrom always creates "into"; its entry is stored even if "from" has no node.
 pub fn create_from(ws: &mut [u32], h: Held, index: u32, from: u32, into: u32) -> Held
     requires { ⌜ Room 1 1 (now ws) h ⌝ }
-    requires { ⌜ (from < mostIdentifiers) × ((into < mostIdentifiers) × (index < 4096)) ⌝ }
+    requires { ⌜ (from < mostIdentifiers) × ((into < mostIdentifiers) × (index < mostIndex)) ⌝ }
     ensures { λ r. ⌜ Builds (createFrom index from into) 1 1 (now (ws .entry)) h (now (ws .exit)) r ⌝ }
 {
     let g = create(ws, h, into, OBJECT);

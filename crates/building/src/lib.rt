@@ -1,10 +1,16 @@
-// Building, up to the original's second loop over the blocks: the alias graph, the phi operands that wait, and the mutations and renders to come.
+// Building, up to the original's second loop over the blocks: the alias graph, the phis whose operands may wait, and the mutations and renders to come.
 // All of it lies in the lent workspace; a `Building` has the counts.
 use hir::BlockId;
 use hir::EvaluationOrder;
 use hir::FunctionId;
 use hir::IdentifierId;
+use hir::at::phi_at;
 use pending::PendingMutation;
+use pending::has_come;
+use pending::push_block;
+use phis::push_phi;
+use phis::store_operands;
+use phis::wake;
 use workspace::ALIASES;
 use workspace::CAPTURES;
 use workspace::FUNCTION;
@@ -18,33 +24,33 @@ ghost use Prim.Native.Nat.{ℕ, _+_, _≤_, _<_};
 ghost use lib.ListN.{length};
 ghost use lib.Dec.{eqb};
 ghost use Rattle.model.specs.Limits.{mostIdentifiers, mostBlocks, mostRelations, mostMutations, mostRenders};
-ghost use Rattle.model.specs.Lists.{among};
 ghost use Rattle.model.specs.Mutation.{reasonOf};
 ghost use Rattle.model.specs.Graph.{create, relate, createFrom, intoAliases, intoMaybeAliases, intoCaptures};
 ghost use Rattle.model.specs.Graph.{assign as assignEffect};
-ghost use Rattle.model.specs.Built.{changed, related, waits, mutates, comes};
+ghost use Rattle.model.specs.Built.{changed, related, mutates};
 ghost use Rattle.model.specs.Built.{renders as rendersPlace};
-ghost use Rattle.model.specs.Building.{operand, wake};
+ghost use Rattle.model.specs.Building.{phiNode};
+ghost use Rattle.hir.specs.Words.{phiFrom};
 ghost use Rattle.workspace.specs.Layout.{LEAST};
 ghost use Rattle.workspace.specs.Graph.{MISSING, valueOf, relationOf};
 ghost use Rattle.workspace.specs.Pending.{kindOf};
-ghost use Rattle.building.specs.Built.{valueIs, FunctionBelow, placeAt, indexOf, builtOf, Sound, Steps, LaysOut, Starts};
+ghost use Rattle.building.specs.Built.{valueIs, FunctionBelow, placeAt, indexOf, Sound, Holding, PhiFits, phiOperands, ends, StepsOn, Steps, LaysOut, Starts};
 
 mod graph;
 mod logs;
 mod pending;
-mod waiting;
+mod phis;
 
-// How many forward edges and entries are held, and how many phi operands wait.
+// How many forward edges and entries are held.
 pub struct Held {
     pub edges: usize,
     pub entries: usize,
-    pub waiting: usize,
 }
 
-// The counts of the building so far: also the blocks that have come, and the relation effects, mutations and renders.
+// The counts of the building so far: also the phis that have operands, the blocks that have come, and the relation effects, mutations and renders.
 pub struct Building {
     pub held: Held,
+    pub phis: usize,
     pub come: usize,
     pub relations: usize,
     pub mutations: usize,
@@ -168,72 +174,54 @@ impl Building {
         self
     }
 
-    // A phi operand waits for the end of the block `predecessor`, with its index.
-    fn wait(
-        mut self,
-        ws: &mut [u32],
-        predecessor: BlockId,
-        from: IdentifierId,
-        into: IdentifierId,
-    ) -> Building
-        requires { ⌜ Sound (now ws) self ⌝ }
-        requires { ⌜ (self .relations < mostRelations) × ((from .0 < mostIdentifiers) × (into .0 < mostIdentifiers)) ⌝ }
-        ensures { λ r. ⌜ Steps (waits (predecessor .0) (from .0) (into .0)) 1 0 0 0 (now (ws .entry)) self (now (ws .exit)) r ⌝ }
+    // A phi's operands: those from blocks that have come are stored, the others wait.
+    fn operands(mut self, s: &[u32], ws: &mut [u32], at: usize, count: u32) -> Building
+        requires { ⌜ Sound (now ws) self × Holding (now s) (now ws) self ⌝ }
+        requires { ⌜ PhiFits (now s) at self × ((count ≡ length (phiFrom (now s) at .what .operands)) × (0 < count)) ⌝ }
+        ensures { λ r. ⌜ StepsOn (now (s .entry)) (phiOperands (phiFrom (now (s .entry)) at .what)) count 0 0 0 (now (ws .entry)) self (now (ws .exit)) r ⌝ }
     {
         let held = self.held;
+        let phis = self.phis;
+        let come = self.come;
         let index = self.index();
-        self.held = waiting::wait(ws, held, predecessor.0, index, from.0, into.0);
-        self.relations += 1;
+        push_phi(ws, phis, at, index);
+        self.held = store_operands(s, at, index, ws, held, 0, come);
+        self.phis += 1;
+        self.relations += count as usize;
         self
     }
 
-    // A phi operand: "from" is assigned to the phi, or waits for a block that has not come.
-    pub fn operand(
-        self,
-        ws: &mut [u32],
-        predecessor: BlockId,
-        from: IdentifierId,
-        into: IdentifierId,
-    ) -> Building
-        requires { ⌜ Sound (now ws) self ⌝ }
-        requires { ⌜ (self .relations < mostRelations) × ((from .0 < mostIdentifiers) × (into .0 < mostIdentifiers)) ⌝ }
-        ensures { λ r. ⌜ Steps (operand (placeAt (into .0) 0) (record { predecessor = predecessor .0; place = placeAt (from .0) 0 })) 1 0 0 0 (now (ws .entry)) self (now (ws .exit)) r ⌝ }
+    // The phi at `at`: its node, then its operands.
+    pub fn phi(self, s: &[u32], ws: &mut [u32], at: usize) -> Building
+        requires { ⌜ Sound (now ws) self × Holding (now s) (now ws) self ⌝ }
+        requires { ⌜ PhiFits (now s) at self ⌝ }
+        ensures { λ r. ⌜ StepsOn (now (s .entry)) (phiNode (phiFrom (now (s .entry)) at .what)) (length (phiFrom (now (s .entry)) at .what .operands)) 0 0 0 (now (ws .entry)) self (now (ws .exit)) r ⌝ }
     {
-        if self.block_has_come(ws, predecessor) {
-            return self.assign(ws, from, into);
+        let phi = phi_at(s, at);
+        let count = phi.operands.count;
+        let created = self.create(ws, phi.place.identifier, NodeValue::Phi);
+        if count == 0 {
+            return created;
         }
-        self.wait(ws, predecessor, from, into)
+        created.operands(s, ws, at, count)
     }
 
-    // The end of a block, before its terminal: what waits for it is stored.
-    pub fn wake(mut self, ws: &mut [u32], block: BlockId) -> Building
-        requires { ⌜ Sound (now ws) self ⌝ }
-        ensures { λ r. ⌜ Steps (wake (block .0)) 0 0 0 0 (now (ws .entry)) self (now (ws .exit)) r ⌝ }
+    // The end of a block, before its terminal: what waits for it is stored, and it has come. A sheet has no block twice; a second one would find that nothing waits.
+    pub fn wake(mut self, s: &[u32], ws: &mut [u32], block: BlockId) -> Building
+        requires { ⌜ Sound (now ws) self × Holding (now s) (now ws) self ⌝ }
+        requires { ⌜ self .come < mostBlocks ⌝ }
+        ensures { λ r. ⌜ StepsOn (now (s .entry)) (ends (block .0)) 0 0 0 1 (now (ws .entry)) self (now (ws .exit)) r ⌝ }
     {
         let held = self.held;
-        self.held = waiting::wake(ws, held, block.0);
-        self
-    }
-
-    // A block has come.
-    pub fn seen_block(mut self, ws: &mut [u32], block: BlockId) -> Building
-        requires { ⌜ Sound (now ws) self ⌝ }
-        requires { ⌜ self .come < mostBlocks ⌝ }
-        ensures { λ r. ⌜ Steps (comes (block .0)) 0 0 0 1 (now (ws .entry)) self (now (ws .exit)) r ⌝ }
-    {
+        let phis = self.phis;
         let come = self.come;
-        pending::push_block(ws, come, block.0);
+        push_block(ws, come, block.0);
         self.come += 1;
+        if has_come(ws, 0, come, block.0) {
+            return self;
+        }
+        self.held = wake(s, ws, held, phis, come);
         self
-    }
-
-    // Has the block come?
-    fn block_has_come(self, ws: &[u32], block: BlockId) -> bool
-        requires { ⌜ Sound (now ws) self ⌝ }
-        ensures { λ r. ⌜ r ≡ among (block .0) (builtOf (now (ws .entry)) self .come) ⌝ }
-    {
-        let come = self.come;
-        pending::has_come(ws, come, block.0)
     }
 
     // A mutation of `place`, to come after building. Its level is 0 for Conditional and 1 for Definite, its reason 0 for none.
@@ -303,8 +291,8 @@ pub fn start(ws: &mut [u32]) -> Building
         held: Held {
             edges: 0,
             entries: 0,
-            waiting: 0,
         },
+        phis: 0,
         come: 0,
         relations: 0,
         mutations: 0,

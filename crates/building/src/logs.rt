@@ -10,12 +10,13 @@ ghost use lib.Seq.{slice};
 ghost use Rattle.model.specs.Limits.{mostIdentifiers, mostRelations};
 ghost use Rattle.model.specs.Graph.{hasNode};
 ghost use Rattle.workspace.specs.Layout.{LEAST, ENTRIES};
+ghost use Rattle.workspace.specs.Pending.{mostIndex};
 ghost use Rattle.building.specs.Logs.{packW, ownerW, ownsW, anyP, anyW, edgeG, entryG};
 ghost use Rattle.building.specs.Held.{graphOf, Room, Builds, Others, Left};
 
 // A log word.
 pub fn pack(from: u32, into: u32, list: u32, index: u32) -> u32
-    requires { ⌜ (from < mostIdentifiers) × ((into < mostIdentifiers) × ((list < 4) × (index < 4096))) ⌝ }
+    requires { ⌜ (from < mostIdentifiers) × ((into < mostIdentifiers) × ((list < 4) × (index < mostIndex))) ⌝ }
     ensures { λ r. ⌜ r ≡ packW from into list index ⌝ }
 {
     from + 512 * into + 262144 * list + 1048576 * index
@@ -104,12 +105,10 @@ pub fn add_edge(ws: &mut [u32], h: Held, w: u32) -> Held
 {
     let edges = h.edges;
     let entries = h.entries;
-    let waiting = h.waiting;
     ws[EDGES + edges] = w;
     Held {
         edges: edges + 1,
         entries,
-        waiting,
     }
 }
 
@@ -121,7 +120,6 @@ pub fn add_entry(ws: &mut [u32], h: Held, w: u32) -> Held
 {
     let edges = h.edges;
     let entries = h.entries;
-    let waiting = h.waiting;
     if has_entry(ws, entries, w) {
         return h;
     }
@@ -129,6 +127,5 @@ pub fn add_entry(ws: &mut [u32], h: Held, w: u32) -> Held
     Held {
         edges,
         entries: entries + 1,
-        waiting,
     }
 }

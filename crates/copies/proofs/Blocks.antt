@@ -9,16 +9,18 @@ use Rattle.model.specs.Lists.{gather, listIf}
 use Rattle.model.specs.Sheet.{Effect}
 use Rattle.model.specs.Effects.{Role, rowOf}
 use Rattle.model.specs.Reading.{Position}
-use Rattle.hir.specs.Words.{effectWidth, wide, effectAt, several, phiFrom, phisFrom, instructionFrom, instructionsFrom, terminalFrom, blockFrom}
+use Rattle.hir.specs.Words.{wide, effectAt, several, phiFrom, phisFrom, instructionFrom, instructionsFrom, terminalFrom, blockFrom}
+use Rattle.model.specs.Limits.{effectWidth}
 use Rattle.hir.specs.Parts.{InstructionAt}
 use Rattle.hir.specs.declared.at.Instruction.{Instruction}
 use Rattle.hir.proofs.Widths.{Rises, listed-rises, instruction-rises, terminal-rises, block-rises}
+use Rattle.hir.proofs.Several.{list-inside}
 use Rattle.writing.specs.Wrote.{Wrote}
 use Rattle.writing.proofs.Writing.{wrote-none, wrote-as}
 use Rattle.copies.specs.Copies.{Copies}
 use Rattle.copies.specs.Words.{takes, takenWords, copyWords, instructionWords, blockWords}
 use Rattle.copies.specs.declared.effect_lists.Section.{Section}
-use Rattle.copies.proofs.Copying.{list-inside, copies-listed}
+use Rattle.copies.proofs.Copying.{copies-listed}
 use Rattle.copies.proofs.Passing.{phi-follows}
 
 -- ---- an effect, whose role is r

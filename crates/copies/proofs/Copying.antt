@@ -1,46 +1,19 @@
 -- A loop that copies parts one after another: what is left to copy from here was left from the start.
-use Prim.Native.Nat.{ℕ, zero, suc, _+_, _-_, _≤_, _<_}
+use Prim.Native.Nat.{ℕ, _+_, _-_, _≤_, _<_}
 use native.Mathlib.Omega.{arith}
-use mathlib.Core.Path.{_≡_, refl, sym, ap, subst, _∙_}
-use mathlib.Core.List.{List, [], _∷_, _++_}
+use mathlib.Core.Path.{_≡_, refl, sym, ap, _∙_}
+use mathlib.Core.List.{List, _++_}
 use lib.ListN.{length}
 use Rattle.model.specs.Lists.{gather}
 use Rattle.model.specs.Reading.{Position}
-use Rattle.hir.specs.Words.{Part, Standing, wordAt, several, listed}
+use Rattle.hir.specs.Words.{Part, Standing, several, listed}
 use Rattle.hir.specs.Parts.{ListAt}
 use Rattle.hir.specs.declared.at.List.{List as Listed}
-use Rattle.hir.proofs.Standing.{part}
-use Rattle.hir.proofs.Widths.{Rises, several-rises}
+use Rattle.hir.proofs.Widths.{Rises}
+use Rattle.hir.proofs.Several.{several-next, first-inside, several-none, list-is}
 use Rattle.writing.proofs.Writing.{wrote-as}
 use Rattle.copies.specs.Copies.{Copies}
 use Rattle.copies.proofs.Loops.{Leaves, leaves-all, leaves-then, leaves-none}
-
-module _ {A : Type 0} (f : Standing A) (sheet : List ℕ) where
-  -- the first of k parts
-  pub several-next : (k : ℕ) (c : Position) → 0 < k
-      → several k f sheet c ≡ part (f sheet c .what ∷ several (k - 1) f sheet (f sheet c .next) .what) (several (k - 1) f sheet (f sheet c .next) .next)
-  unfolding several
-  several-next zero c h = absurd (omega (arith, h))
-  several-next (suc k) c h = let e : k ≡ suc k - 1 = omega arith in ap (λ (j : ℕ). part (f sheet c .what ∷ several j f sheet (f sheet c .next) .what) (several j f sheet (f sheet c .next) .next)) e
-
-  -- it ends before the last
-  pub first-inside : (k : ℕ) (c : Position) → Rises f → 0 < k → several k f sheet c .next ≤ length sheet → f sheet c .next ≤ length sheet
-  first-inside k c r h i =
-      omega (arith, ap (λ (p : Part (List A)). p .next) (several-next k c h), several-rises (k - 1) f r sheet (f sheet c .next), i)
-
-  -- none is left
-  pub several-none : (k : ℕ) (c : Position) → k ≤ 0 → several k f sheet c ≡ part [] c
-  unfolding several
-  several-none zero c h = refl
-  several-none (suc k) c h = absurd (omega (arith, h))
-
-  -- a list by its count and where what it counts begins
-  pub list-is : (c : Position) {l : Listed} → ListAt sheet c l → listed f sheet c ≡ several (l .count) f sheet (l .first)
-  unfolding listed
-  list-is c {l} h = sym (ap (λ (k : ℕ). several k f sheet (l .first)) (h .count) ∙ ap (several (wordAt sheet c) f sheet) (h .first))
-
-  pub list-inside : (c : Position) {l : Listed} → ListAt sheet c l → listed f sheet c .next ≤ length sheet → several (l .count) f sheet (l .first) .next ≤ length sheet
-  list-inside c h i = subst (λ (p : Part (List A)). p .next ≤ length sheet) (list-is c h) i
 
 -- ---- k₀ parts from c₀ on, with k of them left from c on
 module _ {A : Type 0} (f : Standing A) (w : A → List ℕ) (sheet : List ℕ) where

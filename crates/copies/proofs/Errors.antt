@@ -1,5 +1,5 @@
 -- The diagnostics of inner functions.
-use Prim.Native.Nat.{ℕ, zero, suc, _+_, _-_, _*_, _≤_, _<_}
+use Prim.Native.Nat.{ℕ, _+_, _-_, _*_, _≤_, _<_}
 use native.Mathlib.Omega.{arith}
 use mathlib.Core.Path.{_≡_, refl, sym, ap, subst, _∙_}
 use mathlib.Core.Bool.{Bool, true, false}
@@ -8,24 +8,25 @@ use lib.ListN.{length, getD, length-append, List·getD-eq-default}
 use lib.Seq.{slice, ext-getD, length-slice}
 use lib.Dec.{leb}
 use borrow.Author.Tests.{leb-true, leb-false}
-use Rattle.model.specs.Limits.{mostInnerDiagnostics}
+use Rattle.model.specs.Limits.{mostInnerDiagnostics, diagnosticWidth}
 use Rattle.model.specs.Lists.{gather}
 use Rattle.model.specs.Sheet.{Diagnostic, InnerFunction, noFunction}
 use Rattle.model.specs.Reading.{Position}
 use Rattle.model.specs.Answer.{functionErrors, diagnosticWords}
-use Rattle.hir.specs.Words.{Part, Standing, diagnosticWidth, wide, diagnosticAt, several, functionFrom}
+use Rattle.hir.specs.Words.{Part, wide, diagnosticAt, several, functionFrom}
 use Rattle.hir.specs.Parts.{ListAt}
 use Rattle.hir.specs.declared.at.List.{List as Listed}
 use Rattle.hir.proofs.Standing.{part}
-use Rattle.hir.proofs.Widths.{wide-rises, several-wide, listed-rises}
+use Rattle.hir.proofs.Widths.{several-wide, function-rises}
+use Rattle.hir.proofs.Several.{list-is, several-length}
 use Rattle.workspace.specs.Layout.{FUNCTIONS, HANDED}
 use Rattle.workspace.proofs.Tables.{tab-length, tab-at}
 use Rattle.writing.specs.Wrote.{Wrote}
 use Rattle.writing.proofs.Writing.{wrote-none, wrote-as}
 use Rattle.copies.specs.Copies.{Copies}
 use Rattle.copies.specs.Functions.{functionAt, functionsOf, Functions}
-use Rattle.copies.proofs.Copying.{Copying, list-is}
-use Rattle.copies.proofs.Gathers.{gather-append}
+use Rattle.copies.proofs.Copying.{Copying}
+use Rattle.model.proofs.Gathers.{gather-append}
 use Rattle.copies.proofs.Loops.{Leaves, leaves-all, leaves-then, leaves-none, slice-next, slice-none}
 use Rattle.copies.proofs.Sections.{diagnostics-length}
 
@@ -42,18 +43,8 @@ pub diagnostics-room : {sheet : List ℕ} {k₀ : ℕ} {c₀ : Position} {a₀ :
 diagnostics-room {sheet} {k₀} {c₀} {k = k} {c} v = omega (arith, v .few, v .next, several-wide diagnosticWidth k diagnosticAt sheet c, several-wide diagnosticWidth k₀ diagnosticAt sheet c₀)
 
 -- ---- one function
-module _ {A : Type 0} where
-  several-length : (k : ℕ) (f : Standing A) (sheet : List ℕ) (c : Position) → length (several k f sheet c .what) ≡ k
-  unfolding several
-  several-length zero f sheet c = refl
-  several-length (suc k) f sheet c = ap suc (several-length k f sheet (f sheet c .next))
-
 -- its list stands at p
 module _ (sheet : List ℕ) (p : Position) where
-  function-rises : p + 1 ≤ functionFrom sheet p .next
-  unfolding functionFrom
-  function-rises = listed-rises diagnosticFrom (wide-rises diagnosticWidth diagnosticAt) sheet p
-
   function-list : {l : Listed} → ListAt sheet p l → functionFrom sheet p ≡ part (record { diagnostics = several (l .count) diagnosticFrom sheet (l .first) .what }) (several (l .count) diagnosticFrom sheet (l .first) .next)
   unfolding functionFrom
   function-list h = ap (λ (x : Part (List Diagnostic)). part (record { diagnostics = x .what }) (x .next)) (list-is diagnosticFrom sheet p h)
@@ -122,7 +113,7 @@ module _ {sheet ws : List ℕ} {m k : ℕ} (g : Functions sheet ws (functionsOf 
     errors-inside = omega (arith, g .inside k there, ap (λ (x : Part InnerFunction). x .next) (function-list sheet (getD ws (FUNCTIONS + k) 0) h))
 
     pub errors-room : l .count ≤ mostInnerDiagnostics
-    errors-room = omega (arith, g .few k there, ap (λ (x : List Diagnostic). length x) list-errors, several-length (l .count) diagnosticFrom sheet (l .first))
+    errors-room = omega (arith, g .few k there, ap (λ (x : List Diagnostic). length x) list-errors, several-length diagnosticFrom sheet (l .count) (l .first))
 
     pub errors-wrote : {a : List ℕ} {at : ℕ} {a′ : List ℕ} {at′ : ℕ} → Wrote (gather diagnosticWords (several (l .count) diagnosticFrom sheet (l .first) .what)) a at a′ at′
         → Wrote (gather diagnosticWords (functionErrors (functionsOf sheet ws m) k)) a at a′ at′

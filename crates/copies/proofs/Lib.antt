@@ -1,7 +1,5 @@
-pub mod Gathers
 pub mod Lengths
 pub mod Loops
-pub mod Accepted
 pub mod Copying
 pub mod Passing
 pub mod Blocks

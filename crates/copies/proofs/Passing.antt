@@ -6,18 +6,15 @@ use mathlib.Core.List.{List}
 use lib.ListN.{length}
 use Rattle.model.specs.Sheet.{Phi}
 use Rattle.model.specs.Reading.{Position}
-use Rattle.hir.specs.Words.{Part, wordAt, placeWidth, effectWidth, operandWidth, wide, effectAt, operandAt, several, listed, effectsFrom, phiFrom, phisFrom, terminalOf, terminalFrom}
+use Rattle.hir.specs.Words.{Part, wordAt, effectAt, operandAt, several, effectsFrom, phiFrom, phisFrom, terminalOf, terminalFrom}
+use Rattle.model.specs.Limits.{placeWidth, effectWidth, operandWidth}
 use Rattle.hir.specs.Parts.{ListAt, TerminalAt}
 use Rattle.hir.specs.declared.Place.{Place}
 use Rattle.hir.specs.declared.at.List.{List as Listed}
 use Rattle.hir.specs.declared.at.Terminal.{Terminal}
 use Rattle.hir.specs.declared.at.Terminal.the-variants.{Other, Return, MaybeThrow}
-use Rattle.hir.proofs.Widths.{Rises, several-wide, phi-rises}
-use Rattle.copies.proofs.Copying.{list-is, several-next, first-inside, several-none}
-
--- a list of parts of one width
-list-end : {A : Type 0} (width : ℕ) (f : List ℕ → Position → A) (ws : List ℕ) (c : Position) {l : Listed} → ListAt ws c l → l .first + l .count * width ≡ listed (wide width f) ws c .next
-list-end {A} width f ws c {l} h = sym (ap (λ (p : Part (List A)). p .next) (list-is (wide width f) ws c h) ∙ several-wide width (l .count) f ws (l .first))
+use Rattle.hir.proofs.Widths.{Rises, phi-rises}
+use Rattle.hir.proofs.Several.{list-is, several-next, first-inside, several-none, list-end}
 
 -- ---- a phi, and several
 pub phi-past : (ws : List ℕ) (c : Position) {l : Listed} → ListAt ws (c + placeWidth) l → l .first + l .count * operandWidth ≡ phiFrom ws c .next

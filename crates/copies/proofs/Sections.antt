@@ -16,7 +16,7 @@ use Rattle.writing.proofs.Writing.{patched}
 use Rattle.copies.specs.Words.{copyWords, instructionWords, blockWords}
 use Rattle.copies.specs.declared.effect_lists.Section.{Section}
 use Rattle.copies.specs.declared.effect_lists.Section.the-variants.{Diagnostics, Effects}
-use Rattle.copies.proofs.Gathers.{gather-gather, gather-same, gather-keep, gather-map}
+use Rattle.model.proofs.Gathers.{gather-gather, gather-same, gather-keep, gather-map}
 use Rattle.copies.proofs.Lengths.{gather-length}
 
 -- block by block, or all effects of instructions at once

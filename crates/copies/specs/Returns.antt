@@ -3,7 +3,7 @@ use Prim.Native.Nat.{ℕ, _+_, _*_}
 use Rattle.model.specs.Sheet.{IdentifierType, Place, noPlace, Create, Effect}
 use Rattle.model.specs.Reading.{Position}
 use Rattle.model.specs.Summary.{valueKind}
-use Rattle.hir.specs.Words.{identifierWidth}
+use Rattle.model.specs.Limits.{identifierWidth}
 
 -- where identifier k stands, the first one standing at c
 abbrev pub identifierFrom : Position → ℕ → Position

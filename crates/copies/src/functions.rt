@@ -2,10 +2,10 @@
 ghost use Prim.Native.Nat.{_+_, _-_, _*_, _≤_};
 ghost use lib.ListN.{length};
 ghost use lib.Seq.{slice};
-ghost use Rattle.model.specs.Limits.{mostFunctions, mostInnerDiagnostics};
+ghost use Rattle.model.specs.Limits.{mostFunctions, mostInnerDiagnostics, diagnosticWidth};
 ghost use Rattle.model.specs.Lists.{gather};
 ghost use Rattle.model.specs.Answer.{functionErrors, diagnosticWords};
-ghost use Rattle.hir.specs.Words.{diagnosticWidth, wide, diagnosticAt, several};
+ghost use Rattle.hir.specs.Words.{wide, diagnosticAt, several};
 ghost use Rattle.workspace.specs.Layout.{LEAST, HANDED, MUTATIONS};
 ghost use Rattle.writing.specs.Wrote.{Wrote, farthest};
 ghost use Rattle.copies.specs.Functions.{functionsOf, Functions};

@@ -2,7 +2,7 @@
 ghost use Prim.Native.Nat.{_+_, _≤_};
 ghost use Rattle.model.specs.Answer.{placeWords, effectWords};
 ghost use Rattle.hir.specs.Says.{placeIs, effectIs};
-ghost use Rattle.hir.specs.Words.{placeWidth, effectWidth};
+ghost use Rattle.model.specs.Limits.{placeWidth, effectWidth};
 ghost use Rattle.writing.specs.Wrote.{Wrote, farthest};
 use hir::AliasingEffect;
 use hir::Effect;

@@ -7,9 +7,9 @@ use Rattle.model.specs.Sheet.{BlockId}
 use Rattle.model.specs.Ranges.{PlaceBelow}
 use Rattle.model.specs.Reading.{count, numbered, counted}
 use Rattle.model.specs.Sections.{place, operand, phi, instruction, terminal, block}
-use Rattle.model.proofs.ReadLaws.{Reads, pure-reads, bind-reads, numbered-reads, counted-reads}
+use Rattle.model.proofs.ReadLaws.{Reads, pure-reads, bind-reads, numbered-reads, counted-reads, then-reads}
 use Rattle.instructions.specs.Ranges.{InstructionInRange, TerminalInRange}
-use Rattle.instructions.proofs.Ranges.{then-reads, place-known, instruction-known, terminal-known}
+use Rattle.instructions.proofs.Ranges.{place-known, instruction-known, terminal-known}
 use Rattle.dataflow.specs.Ranges.{OperandInRange, PhiInRange, BlockInRange}
 
 module _ (n : ℕ) (hn : n ≤ mostIdentifiers) where

@@ -1,50 +1,48 @@
 -- The building so far is in the words below FUNCTIONS.
 use Prim.Native.Nat.{ℕ, _+_, _*_}
 use native.Mathlib.Omega.{arith}
-use mathlib.Core.Path.{_≡_, refl, sym, ap, subst, _∙_}
+use mathlib.Core.Path.{_≡_, refl}
 use mathlib.Core.List.{List}
 use lib.ListN.{length, take}
-use lib.Seq.{slice}
-use Rattle.workspace.specs.Layout.{VALUE, FBOUND, EDGES, ENTRIES, PREDS, RELATIONS, MUTATIONS, RENDERS, FUNCTIONS}
+use Rattle.workspace.specs.Layout.{PHIS, MUTATIONS, RENDERS, FUNCTIONS}
 use Rattle.workspace.proofs.Parts.{take-less, slice-take}
 use Rattle.workspace.proofs.Pending.{mutations-below, renders-below}
 use Rattle.building.specs.declared.Building.{Building}
-use Rattle.building.specs.Logs.{graphOfLogs, Clean}
-use Rattle.building.specs.Held.{logsOf, graphOf, operandsOf, waitingOf}
-use Rattle.building.specs.Built.{builtOf, Sound}
-use Rattle.building.proofs.Writes.{logs-eq}
+use Rattle.building.specs.Phis.{phisOf}
+use Rattle.building.specs.Built.{comeOf, builtOf, Sound, Holding}
+use Rattle.building.proofs.Writes.{graph-low, clean-low}
 use Rattle.building.proofs.Pushes.{come-kept}
-use Rattle.building.proofs.Stages.{built-eq}
+use Rattle.building.proofs.Operands.{built-eq}
+use Rattle.building.proofs.Stages.{waiting-stays}
+use Rattle.building.proofs.Stages.{holding-stays as holding-on}
 
 module _ (ws ws′ : List ℕ) (b : Building) (sound : Sound ws b) (e : take FUNCTIONS ws′ ≡ take FUNCTIONS ws) where
-  logs-stay : logsOf ws′ (b .held) ≡ logsOf ws (b .held)
-  logs-stay =
-      logs-eq (slice-take FUNCTIONS VALUE FBOUND ws′ ws (omega arith) e) (slice-take FUNCTIONS EDGES (EDGES + b .held .edges) ws′ ws (omega (arith, sound .edges, sound .relations)) e)
-      (slice-take FUNCTIONS ENTRIES (ENTRIES + b .held .entries) ws′ ws (omega (arith, sound .entries, sound .relations)) e)
+  low : take PHIS ws′ ≡ take PHIS ws
+  low = take-less PHIS FUNCTIONS ws′ ws (omega arith) e
 
-  graph-stays : graphOf ws′ (b .held) ≡ graphOf ws (b .held)
-  unfolding graphOf
-  graph-stays = ap graphOfLogs logs-stay
+  phis-stay : phisOf ws′ (b .phis) ≡ phisOf ws (b .phis)
+  phis-stay = slice-take FUNCTIONS PHIS (PHIS + b .phis) ws′ ws (omega (arith, sound .phis, sound .relations)) e
 
-  operands-stay : waitingOf ws′ (b .held) ≡ waitingOf ws (b .held)
-  unfolding waitingOf
-  operands-stay =
-      ap (λ (l : List ℕ). operandsOf l (slice RELATIONS (RELATIONS + b .held .waiting) ws′)) (slice-take FUNCTIONS PREDS (PREDS + b .held .waiting) ws′ ws (omega (arith, sound .edges, sound .relations)) e)
-      ∙ ap (λ (l : List ℕ). operandsOf (slice PREDS (PREDS + b .held .waiting) ws) l) (slice-take FUNCTIONS RELATIONS (RELATIONS + b .held .waiting) ws′ ws (omega (arith, sound .edges, sound .relations)) e)
+  come-stays : comeOf ws′ (b .come) ≡ comeOf ws (b .come)
+  come-stays = come-kept ws ws′ FUNCTIONS (b .come) (omega (arith, sound .come)) e
 
-  pub built-stays : builtOf ws′ b ≡ builtOf ws b
+  pub built-stays : (s : List ℕ) → builtOf s ws′ b ≡ builtOf s ws b
   unfolding builtOf
-  built-stays =
-      built-eq graph-stays refl (come-kept ws ws′ FUNCTIONS (b .come) (omega (arith, sound .come)) e) operands-stay
+  built-stays s =
+      built-eq (graph-low ws ws′ (b .held) (omega (arith, sound .edges, sound .relations)) (omega (arith, sound .entries, sound .relations)) low) refl come-stays (waiting-stays s ws b ws′ b phis-stay come-stays)
       (mutations-below ws ws′ (b .mutations) (take-less (MUTATIONS + 3 * b .mutations) FUNCTIONS ws′ ws (omega (arith, sound .mutations)) e))
       (renders-below ws ws′ (b .renders) (take-less (RENDERS + b .renders) FUNCTIONS ws′ ws (omega (arith, sound .renders)) e))
+
+  pub holding-stays : (s : List ℕ) → Holding s ws b → Holding s ws′ b
+  holding-stays s = holding-on s ws b ws′ b phis-stay come-stays 0 (omega arith) (omega arith) (omega arith)
 
   pub sound-stays : length ws′ ≡ length ws → Sound ws′ b
   sound-stays n = record {
     size = omega (arith, sound .size, n);
-    clean = subst Clean (sym logs-stay) (sound .clean);
+    clean = clean-low ws ws′ (b .held) (omega (arith, sound .edges, sound .relations)) (omega (arith, sound .entries, sound .relations)) low (sound .clean);
     edges = sound .edges;
     entries = sound .entries;
+    phis = sound .phis;
     relations = sound .relations;
     mutations = sound .mutations;
     renders = sound .renders;

@@ -7,32 +7,36 @@ use mathlib.Core.List.{List, [], _∷_, _++_, append-nil, append-assoc}
 use lib.ListN.{length, take, length-append}
 use Rattle.model.specs.Lists.{each}
 use Rattle.model.specs.Sheet.{Place}
-use Rattle.model.specs.Reading.{Position, Result, got, refused, times}
-use Rattle.model.specs.Sections.{place}
+use Rattle.model.specs.Limits.{mostIdentifiers, mostParams, mostContext, placeWidth}
+use Rattle.model.specs.Ranges.{PlaceBelow}
+use Rattle.model.specs.Reading.{Position}
 use Rattle.model.specs.Graph.{object, create}
-use Rattle.model.specs.Built.{Built, changed}
-use Rattle.model.proofs.Got.{got-value, got-next, not-both}
+use Rattle.model.specs.Built.{changed}
+use Rattle.hir.specs.Words.{Part, Standing, wide, placeAt, several}
+use Rattle.hir.proofs.Standing.{part}
+use Rattle.hir.proofs.Widths.{wide-rises}
+use Rattle.hir.proofs.Several.{several-next, first-inside, several-none}
 use Rattle.workspace.specs.Layout.{SEEN, FUNCTIONS, TRACKED}
 use Rattle.workspace.proofs.Parts.{take-less, drop-more, slice-take, slice-drop}
 use Rattle.building.specs.declared.Building.{Building}
 use Rattle.building.specs.Built.{builtOf, Sound, Steps}
+use Rattle.building.proofs.Operands.{each-append}
 use Rattle.dataflow.specs.Whole.{createdFor}
-use Rattle.dataflow.proofs.Gots.{joined, times-joined, times-none}
-use Rattle.hir.specs.declared.Cursor.{Cursor}
 use Rattle.workspace.specs.Tracked.{trackedOf, Tracks}
 use Rattle.workspace.proofs.Places.{tracked-kept}
-use Rattle.dataflow.specs.declared.parameters.PlacesStep.the-variants.{Got, Refused}
-use Rattle.dataflow.specs.Places.{Places, ReadsPlaces}
-use Rattle.dataflow.proofs.Staying.{built-stays, sound-stays}
+use Rattle.instructions.specs.declared.Built.{Built as BuiltPart}
+use Rattle.dataflow.specs.Places.{Places, PlacesReady, PlacesRead}
+use Rattle.dataflow.proofs.Staying.{built-stays, holding-stays, sound-stays}
 
-each-append : (l m : List Place) (b : Built) → each createdFor (l ++ m) b ≡ each createdFor m (each createdFor l b)
-each-append [] m b = refl
-each-append (p ∷ l) m b = each-append l m (createdFor p b)
+-- a place
+abbrev pub onePlace : Standing Place
+onePlace = wide placeWidth placeAt
 
 -- none
 pub places-none : (first : ℕ) (ws : List ℕ) (b : Building) → Sound ws b → Places [] first ws b ws b
 places-none first ws b sound = record {
-  built = refl;
+  built = λ s. refl;
+  holding = λ s x. x;
   sound = sound;
   relations = refl;
   mutations = refl;
@@ -50,7 +54,8 @@ pub places-then : {ps qs : List Place} {first second : ℕ} {ws : List ℕ} {b :
 places-then {ps} {qs} {first} {second} {ws} {b} {ws₁} {b₁} {ws₂} {b₂} p e q =
     let n : first + length (ps ++ qs) ≡ second + length qs = omega (arith, e, length-append ps qs) in
     record {
-      built = q .built ∙ ap (each createdFor qs) (p .built) ∙ sym (each-append ps qs (builtOf ws b));
+      built = λ s. q .built s ∙ ap (each createdFor qs) (p .built s) ∙ sym (each-append createdFor ps qs (builtOf s ws b));
+      holding = λ s x. q .holding s (p .holding s x);
       sound = q .sound;
       relations = q .relations ∙ p .relations;
       mutations = q .mutations ∙ p .mutations;
@@ -74,75 +79,67 @@ module _ {ws : List ℕ} {b : Building} (sound : Sound ws b) {i : ℕ} {p : Plac
   tracks-sound = sound-stays ws ws₁ b sound below-functions (t .kept .same)
 
   pub places-one : {ws₂ : List ℕ} {r : Building} → Steps (changed (create (p .identifier) object)) 0 0 0 0 ws₁ b ws₂ r → Places (p ∷ []) i ws b ws₂ r
-  places-one {ws₂} s = record {
-    built = s .built ∙ ap (createdFor p) (built-stays ws ws₁ b sound below-functions);
-    sound = s .sound;
-    relations = s .relations ∙ add-zero (b .relations);
-    mutations = s .mutations ∙ add-zero (b .mutations);
-    renders = s .renders ∙ add-zero (b .renders);
-    come = s .come ∙ add-zero (b .come);
-    tracked = tracked-kept ws₁ ws₂ (i + 1) (drop-more FUNCTIONS TRACKED ws₂ ws₁ (omega arith) (s .high)) ∙ t .more;
-    low = s .low ∙ take-less SEEN TRACKED ws₁ ws (omega arith) tracks-low;
-    between = slice-drop FUNCTIONS FUNCTIONS TRACKED ws₂ ws₁ (omega arith) (omega arith) (s .high) ∙ slice-take TRACKED FUNCTIONS TRACKED ws₁ ws (omega arith) tracks-low;
-    same = s .same ∙ t .kept .same;
+  places-one {ws₂} x = record {
+    built = λ s. x s .built ∙ ap (createdFor p) (built-stays ws ws₁ b sound below-functions s);
+    holding = λ s h. x s .holding (holding-stays ws ws₁ b sound below-functions s h);
+    sound = x [] .sound;
+    relations = x [] .relations ∙ add-zero (b .relations);
+    mutations = x [] .mutations ∙ add-zero (b .mutations);
+    renders = x [] .renders ∙ add-zero (b .renders);
+    come = x [] .come ∙ add-zero (b .come);
+    tracked = tracked-kept ws₁ ws₂ (i + 1) (drop-more FUNCTIONS TRACKED ws₂ ws₁ (omega arith) (x [] .high)) ∙ t .more;
+    low = x [] .low ∙ take-less SEEN TRACKED ws₁ ws (omega arith) tracks-low;
+    between = slice-drop FUNCTIONS FUNCTIONS TRACKED ws₂ ws₁ (omega arith) (omega arith) (x [] .high) ∙ slice-take TRACKED FUNCTIONS TRACKED ws₁ ws (omega arith) tracks-low;
+    same = x [] .same ∙ t .kept .same;
   }
 
--- the places `done`, then those that are read from here
-abbrev pub after : List Place → Result (List Place) → Result (List Place)
-after done (got l d) = got (done ++ l) d
-after done (refused k) = refused k
+-- ---- the places of a list: whatever reads those that are left, `left` of them at c, has read the whole
+module _ (sheet : List ℕ) (whole : Part (List Place)) (first₀ : ℕ) (ws₀ : List ℕ) (b₀ : Building) where
+  pub record Placing (left : ℕ) (c : Position) (first : ℕ) (ws : List ℕ) (b : Building) : Type 0 where
+    pub same : length ws ≡ length ws₀
+    pub ready : PlacesReady (several left onePlace sheet c) first sheet ws b
+    pub rest : (ws′ : List ℕ) (r : BuiltPart) → PlacesRead (several left onePlace sheet c) first ws b ws′ r → PlacesRead whole first₀ ws₀ b₀ ws′ r
 
--- one place, then what is read behind it
-after-one : (done : List Place) (p : Place) (x : Result (List Place)) → after done (joined {A = Place} (got p 0) (λ (d : Position). x)) ≡ after (done ++ (p ∷ [])) x
-after-one done p (got l d) = ap (λ (m : List Place). got m d) (sym (append-assoc done (p ∷ []) l))
-after-one done p (refused k) = refl
+pub placing-start : {sheet : List ℕ} {left : ℕ} {c : Position} {first : ℕ} {ws : List ℕ} {b : Building} → PlacesReady (several left onePlace sheet c) first sheet ws b
+    → Placing sheet (several left onePlace sheet c) first ws b left c first ws b
+placing-start w = record { same = refl; ready = w; rest = λ ws′ r h. h }
 
--- the places `done` were read, tracked and got their nodes; the reading from the start is theirs and the one from here
-pub record PlacesInv (sheet : List ℕ) (n count first : ℕ) (ws₀ : List ℕ) (b₀ : Building) (c₀ : Position) (ws : List ℕ) (b : Building) (c : Position) (left i : ℕ) : Type 0 where
-  pub done : List Place
-  pub turns : length done + left ≡ count
-  pub number : i ≡ first + length done
-  pub places : Places done first ws₀ b₀ ws b
-  pub whole : times count (place n) sheet c₀ ≡ after done (times left (place n) sheet c)
+module _ {sheet : List ℕ} {whole : Part (List Place)} {first₀ : ℕ} {ws₀ : List ℕ} {b₀ : Building} {left : ℕ} {c : Position} {first : ℕ} {ws : List ℕ} {b : Building}
+    (v : Placing sheet whole first₀ ws₀ b₀ left c first ws b) where
+  -- nothing is left
+  pub placing-done : left ≤ 0 → PlacesRead whole first₀ ws₀ b₀ ws (record { building = b; next = c })
+  placing-done h =
+      v .rest ws _ (subst (λ (q : Part (List Place)). PlacesRead q first ws b ws (record { building = b; next = c })) (sym (several-none onePlace sheet left c h)) (record { places = places-none first ws b (v .ready .sound); next = refl }))
 
-pub places-start : (sheet : List ℕ) (n count first : ℕ) (ws : List ℕ) (b : Building) (c : Position) → Sound ws b → PlacesInv sheet n count first ws b c ws b c count first
-places-start sheet n count first ws b c sound = record {
-  done = [];
-  turns = omega arith;
-  number = omega arith;
-  places = places-none first ws b sound;
-  whole = go (times count (place n) sheet c);
-}
-  where
-    go : (x : Result (List Place)) → x ≡ after [] x
-    go (got l d) = refl
-    go (refused k) = refl
+  module _ (h : 0 < left) where
+    abbrev others : Part (List Place)
+    others = several (left - 1) onePlace sheet (c + placeWidth)
 
-module _ {sheet : List ℕ} {n count first : ℕ} {ws₀ : List ℕ} {b₀ : Building} {c₀ : Position} {ws : List ℕ} {b : Building} {c : Position} {left i : ℕ}
-    (v : PlacesInv sheet n count first ws₀ b₀ c₀ ws b c left i) where
-  pub places-turn : {p : Place} {e : Position} → 0 < left → place n sheet c ≡ got p e → {ws₁ : List ℕ} → Tracks ws i p ws₁ → {ws₂ : List ℕ} {r : Building}
-      → Steps (changed (create (p .identifier) object)) 0 0 0 0 ws₁ b ws₂ r → PlacesInv sheet n count first ws₀ b₀ c₀ ws₂ r e (left - 1) (i + 1)
-  places-turn {p} {e} h g t s = record {
-    done = v .done ++ (p ∷ []);
-    turns = omega (arith, v .turns, h, length-append (v .done) (p ∷ []));
-    number = omega (arith, v .number, length-append (v .done) (p ∷ []));
-    places = places-then (v .places) (v .number) (places-one (v .places .sound) t s);
-    whole = v .whole
-        ∙ ap (after (v .done)) (times-joined left (place n) sheet c h ∙ ap (λ (x : Result Place). joined x (times (left - 1) (place n) sheet)) g)
-        ∙ after-one (v .done) p (times (left - 1) (place n) sheet e);
-  }
+    here : several left onePlace sheet c ≡ part (placeAt sheet c ∷ others .what) (others .next)
+    here = several-next onePlace sheet left c h
 
-  pub places-refused : {k : ℕ} {j : ℕ} {ws′ : List ℕ} → 0 < left → place n sheet c ≡ refused k → ReadsPlaces (times count (place n) sheet c₀) first ws₀ b₀ ws′ (Refused j)
-  places-refused {k} h g =
-      let e : times count (place n) sheet c₀ ≡ refused k = v .whole ∙ ap (after (v .done)) (times-joined left (place n) sheet c h ∙ ap (λ (x : Result Place). joined x (times (left - 1) (place n) sheet)) g) in
-      record { read = λ ps d f. not-both f e; only = tt }
+    now-ready : PlacesReady (part (placeAt sheet c ∷ others .what) (others .next)) first sheet ws b
+    now-ready = subst (λ (q : Part (List Place)). PlacesReady q first sheet ws b) here (v .ready)
 
-pub places-done : {sheet : List ℕ} {n count first : ℕ} {ws₀ : List ℕ} {b₀ : Building} {c₀ : Position} {ws : List ℕ} {b : Building} {c : Cursor} {left i : ℕ}
-    → PlacesInv sheet n count first ws₀ b₀ c₀ ws b (c .at) left i → left ≤ 0 → ReadsPlaces (times count (place n) sheet c₀) first ws₀ b₀ ws (Got b c)
-places-done {sheet} {n} {count} {first} {ws₀} {b₀} {c₀} {ws} {b} {c} {left} v h =
-    let e : times count (place n) sheet c₀ ≡ got (v .done) (c .at) =
-    v .whole ∙ ap (after (v .done)) (times-none left (place n) sheet (c .at) h) ∙ ap (λ (l : List Place). got l (c .at)) (append-nil (v .done)) in
-    record {
-      read = λ ps d f. (subst (λ (l : List Place). Places l first ws₀ b₀ ws b) (got-value (sym e ∙ f)) (v .places), got-next (sym e ∙ f));
-      only = (v .done, e);
-    }
+    -- the next one stands in the sheet
+    pub place-inside : c + placeWidth ≤ length sheet
+    place-inside = first-inside onePlace sheet left c (wide-rises placeWidth placeAt) h (v .ready .inside)
+
+    pub number-room : first < mostParams + mostContext
+    number-room = omega (arith, now-ready .room)
+
+    module _ {p : Place} (is : p ≡ placeAt sheet c) where
+      pub place-below : p .identifier < mostIdentifiers
+      place-below = subst (PlaceBelow mostIdentifiers) (sym is) (now-ready .below .0)
+
+      -- it is stored and gets its node: one less is left
+      pub placing-turn : {ws₁ : List ℕ} → Tracks ws first p ws₁ → {ws₂ : List ℕ} {r : Building} → Steps (changed (create (p .identifier) object)) 0 0 0 0 ws₁ b ws₂ r
+          → Placing sheet whole first₀ ws₀ b₀ (left - 1) (c + placeWidth) (first + 1) ws₂ r
+      placing-turn t {ws₂} {r} s =
+          let one : Places (placeAt sheet c ∷ []) first ws b ws₂ r = subst (λ (q : Place). Places (q ∷ []) first ws b ws₂ r) is (places-one (v .ready .sound) t s) in
+          record {
+            same = one .same ∙ v .same;
+            ready = record { sound = one .sound; inside = now-ready .inside; below = now-ready .below .1; room = omega (arith, now-ready .room) };
+            rest = λ ws′ r′ g.
+                v .rest ws′ r′ (subst (λ (q : Part (List Place)). PlacesRead q first ws b ws′ r′) (sym here) (record { places = places-then one refl (g .places); next = g .next }));
+          }

@@ -1,15 +1,11 @@
--- What a phi operand, a phi and a block spend of the limits.
+-- What a phi and a block spend of the limits.
 use lib.ListN.{length}
 use Rattle.model.specs.Effects.{isMutation, isRender}
-use Rattle.model.specs.Sheet.{Operand, Phi, Block}
+use Rattle.model.specs.Sheet.{Phi, Block}
 use Rattle.model.specs.Totals.{withRole, blockRelations}
 use Rattle.instructions.specs.Cost.{Cost, relationsOnly}
 
--- "phi operands (into the phi)" are relation effects
-abbrev pub operandCost : Operand → Cost
-operandCost o = relationsOnly 1
-
--- a phi: its operands
+-- a phi: "phi operands (into the phi)" are relation effects
 unfoldable pub phiCost : Phi → Cost
 phiCost p = relationsOnly (length (p .operands))
 

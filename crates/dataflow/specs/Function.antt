@@ -4,12 +4,11 @@ use mathlib.Core.Path.{_≡_}
 use mathlib.Core.Bool.{false}
 use mathlib.Core.List.{List, [], _∷_, _++_}
 use lib.ListN.{length}
-use Rattle.model.specs.Limits.{mostSheet}
+use Rattle.model.specs.Limits.{mostSheet, mostIdentifiers, mostFunctions, mostParams, mostContext, mostBlocks, identifierWidth}
 use Rattle.model.specs.Sheet.{Sheet}
-use Rattle.model.specs.Reading.{Position, got, times, numbered}
-use Rattle.model.specs.Sections.{identifier, block}
 use Rattle.model.specs.Summary.{errors, copied}
 use Rattle.hir.specs.Says.{placeIs}
+use Rattle.hir.specs.Words.{wide, identifierAt, several, blockFrom}
 use Rattle.workspace.specs.Layout.{LEAST}
 use Rattle.copies.specs.Functions.{Functions}
 use Rattle.workspace.specs.Tracked.{trackedOf}
@@ -17,25 +16,26 @@ use Rattle.dataflow.specs.declared.function.HirFunction.{HirFunction}
 
 -- no count is above its limit, and returns has an identifier
 pub record Limited (f : HirFunction) : Type 0 where
-  pub n : f .n ≤ 512
-  pub m : f .m ≤ 64
-  pub params : f .params ≤ 64
-  pub context : f .context ≤ 64
-  pub count : f .count ≤ 256
-  pub returns : f .returns .identifier .0 < f .n
+  pub n : f .identifiers .count ≤ mostIdentifiers
+  pub m : f .m ≤ mostFunctions
+  pub params : f .params ≤ mostParams
+  pub context : f .context ≤ mostContext
+  pub count : f .blocks .count ≤ mostBlocks
+  pub returns : f .returns .identifier .0 < f .identifiers .count
 
 -- f is the function of the sheet s, which stands in the words
 pub record Describes (s : Sheet) (sheet : List ℕ) (f : HirFunction) : Type 0 where
   pub errors : f .errors ≡ errors s
   pub copies : f .copies ≡ false → copied s ≡ []
-  pub n : f .n ≡ length (s .identifiers)
+  pub n : f .identifiers .count ≡ length (s .identifiers)
   pub m : f .m ≡ length (s .functions)
   pub params : f .params ≡ length (s .params)
   pub context : f .context ≡ length (s .context)
   pub returns : placeIs (f .returns) ≡ s .returns
-  pub identifiers : (e : Position) × (times (f .n) identifier sheet (f .identifiers .at) ≡ got (s .identifiers) e)
-  pub blocks : (e : Position) × (numbered (f .count) [] (block (f .n) (f .m)) sheet (f .blocks .at) ≡ got (s .blocks) e)
-  pub inside : blocks .0 ≤ length sheet
+  pub identifiers : several (f .identifiers .count) (wide identifierWidth identifierAt) sheet (f .identifiers .first) .what ≡ s .identifiers
+  pub identifiersInside : several (f .identifiers .count) (wide identifierWidth identifierAt) sheet (f .identifiers .first) .next ≤ length sheet
+  pub blocks : several (f .blocks .count) blockFrom sheet (f .blocks .first) .what ≡ s .blocks
+  pub blocksInside : several (f .blocks .count) blockFrom sheet (f .blocks .first) .next ≤ length sheet
   pub short : length sheet ≤ mostSheet
 
 -- what stands in the workspace from here to the call's end: where each inner function's list stands in the sheet, and the tracked places

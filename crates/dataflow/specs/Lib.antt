@@ -1,5 +1,6 @@
 pub mod Cost
 pub mod Ranges
+pub mod Accepted
 pub mod Whole
 pub mod Function
 pub mod Read

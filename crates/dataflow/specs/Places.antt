@@ -1,33 +1,30 @@
 -- Places read a second time: each is tracked and gets a node.
-use Prim.Native.Nat.{ℕ, _+_, _≤_, _<_}
+use Prim.Native.Nat.{ℕ, _+_, _≤_}
 use mathlib.Core.Path.{_≡_}
-use mathlib.Core.List.{List, [], _++_}
+use mathlib.Core.List.{List, _++_}
 use lib.ListN.{length, take}
 use lib.Seq.{slice}
-use Rattle.model.specs.Limits.{mostBlocks, mostParams, mostContext}
-use Rattle.model.specs.Lists.{each}
-use Rattle.model.specs.Sheet.{Place, Sheet}
-use Rattle.model.specs.Reading.{Position, Result, got, numbered}
-use Rattle.model.specs.Sections.{block}
+use Rattle.model.specs.Limits.{mostIdentifiers, mostParams, mostContext}
+use Rattle.model.specs.Lists.{each, Every}
+use Rattle.model.specs.Sheet.{Place}
+use Rattle.model.specs.Ranges.{PlaceBelow}
 use Rattle.model.specs.Building.{firstPlaces}
 use Rattle.hir.specs.Says.{placeIs}
+use Rattle.hir.specs.Words.{Part}
+use Rattle.hir.specs.Parts.{ListAt}
 use Rattle.workspace.specs.Layout.{SEEN, FUNCTIONS, TRACKED}
-use Rattle.building.specs.declared.Building.{Building}
-use Rattle.building.specs.Built.{builtOf, Sound}
-use Rattle.dataflow.specs.Whole.{createdFor}
-use Rattle.dataflow.specs.Read.{afterFunctions}
 use Rattle.workspace.specs.Tracked.{trackedOf}
-use Rattle.dataflow.specs.declared.parameters.PlacesStep.{PlacesStep}
-use Rattle.dataflow.specs.declared.parameters.PlacesStep.the-variants.{Got, Refused}
-use Rattle.dataflow.specs.declared.parameters.ListStep.{ListStep}
-use Rattle.dataflow.specs.declared.parameters.ListStep.the-variants.{Got as GotList, Refused as NoList}
+use Rattle.building.specs.declared.Building.{Building}
+use Rattle.building.specs.Built.{builtOf, Sound, Holding}
+use Rattle.instructions.specs.declared.Built.{Built as BuiltPart}
+use Rattle.dataflow.specs.Whole.{createdFor}
+use Rattle.dataflow.specs.Accepted.{sectionsOf, sheetOf}
 use Rattle.dataflow.specs.declared.parameters.Tracked.{Tracked}
-use Rattle.dataflow.specs.declared.parameters.TrackedStep.{TrackedStep}
-use Rattle.dataflow.specs.declared.parameters.TrackedStep.the-variants.{Got as GotTracked, Refused as NoTracked}
 
 -- the places ps were tracked from number `first` on, and each got a node
 pub record Places (ps : List Place) (first : ℕ) (ws : List ℕ) (b : Building) (ws′ : List ℕ) (r : Building) : Type 0 where
-  pub built : builtOf ws′ r ≡ each createdFor ps (builtOf ws b)
+  pub built : (s : List ℕ) → builtOf s ws′ r ≡ each createdFor ps (builtOf s ws b)
+  pub holding : (s : List ℕ) → Holding s ws b → Holding s ws′ r
   pub sound : Sound ws′ r
   pub relations : r .relations ≡ b .relations
   pub mutations : r .mutations ≡ b .mutations
@@ -38,49 +35,22 @@ pub record Places (ps : List Place) (first : ℕ) (ws : List ℕ) (b : Building)
   pub between : slice FUNCTIONS TRACKED ws′ ≡ slice FUNCTIONS TRACKED ws
   pub same : length ws′ ≡ length ws
 
--- the reading stands at d; a refusal is no answer
-abbrev pub placesAre : List Place → Position → ℕ → List ℕ → Building → List ℕ → PlacesStep → Type 0
-placesAre ps d first ws b ws′ (Got r c) = Places ps first ws b ws′ r × (c .at ≡ d)
-placesAre ps d first ws b ws′ (Refused k) = ⊥
+-- places that stand in the sheet can be tracked from number `first` on
+pub record PlacesReady (part : Part (List Place)) (first : ℕ) (sheet ws : List ℕ) (b : Building) : Type 0 where
+  pub sound : Sound ws b
+  pub inside : part .next ≤ length sheet
+  pub below : Every (PlaceBelow mostIdentifiers) (part .what)
+  pub room : first + length (part .what) ≤ mostParams + mostContext
 
--- an answer is given to nothing else than what was read
-abbrev pub placesGot : Result (List Place) → PlacesStep → Type 0
-placesGot x (Got r c) = (ps : List Place) × (x ≡ got ps (c .at))
-placesGot x (Refused k) = Unit {0}
+-- they were, and the reading goes on after them
+pub record PlacesRead (part : Part (List Place)) (first : ℕ) (ws : List ℕ) (b : Building) (ws′ : List ℕ) (r : BuiltPart) : Type 0 where
+  pub places : Places (part .what) first ws b ws′ (r .building)
+  pub next : r .next ≡ part .next
 
-pub record ReadsPlaces (x : Result (List Place)) (first : ℕ) (ws : List ℕ) (b : Building) (ws′ : List ℕ) (r : PlacesStep) : Type 0 where
-  pub read : (ps : List Place) (d : Position) → x ≡ got ps d → placesAre ps d first ws b ws′ r
-  pub only : placesGot x r
-
--- the same after a count
-abbrev pub listIs : List Place → Position → ℕ → List ℕ → Building → List ℕ → ListStep → Type 0
-listIs ps d first ws b ws′ (GotList k r c) = Places ps first ws b ws′ r × ((k ≡ length ps) × (c .at ≡ d))
-listIs ps d first ws b ws′ NoList = ⊥
-
-abbrev pub listGot : Result (List Place) → ListStep → Type 0
-listGot x (GotList k r c) = (ps : List Place) × (x ≡ got ps (c .at))
-listGot x NoList = Unit {0}
-
-pub record ReadsList (x : Result (List Place)) (first : ℕ) (ws : List ℕ) (b : Building) (ws′ : List ℕ) (r : ListStep) : Type 0 where
-  pub read : (ps : List Place) (d : Position) → x ≡ got ps d → listIs ps d first ws b ws′ r
-  pub only : listGot x r
-
--- parameters, context, returns and the count of blocks
-pub record TrackedRead (s : Sheet) (d : Position) (sheet : List ℕ) (n : ℕ) (ws : List ℕ) (b : Building) (ws′ : List ℕ) (t : Tracked) (r : Building) : Type 0 where
-  pub places : Places (firstPlaces s) 0 ws b ws′ r
-  pub params : t .params ≡ length (s .params)
-  pub context : t .context ≡ length (s .context)
-  pub returns : placeIs (t .returns) ≡ s .returns
-  pub below : t .returns .identifier .0 < n
-  pub blocks : numbered (t .count) [] (block n (length (s .functions))) sheet (t .next .at) ≡ got (s .blocks) d
-  pub fewParams : t .params ≤ mostParams
-  pub fewContext : t .context ≤ mostContext
-  pub fewBlocks : t .count ≤ mostBlocks
-
--- a refusal is given to no sheet
-abbrev pub trackedIs : Sheet → Position → List ℕ → ℕ → List ℕ → Building → List ℕ → TrackedStep → Type 0
-trackedIs s d sheet n ws b ws′ (GotTracked t r) = TrackedRead s d sheet n ws b ws′ t r
-trackedIs s d sheet n ws b ws′ NoTracked = ⊥
-
-pub record ReadsTracked (sheet : List ℕ) (c : Position) (n : ℕ) (ws : List ℕ) (b : Building) (ws′ : List ℕ) (r : TrackedStep) : Type 0 where
-  pub read : (s : Sheet) (d : Position) → n ≡ length (s .identifiers) → afterFunctions (s .flags) (s .identifiers) (s .functions) sheet c ≡ got s d → trackedIs s d sheet n ws b ws′ r
+-- parameters, context and returns of the sheet, and its blocks
+pub record TrackedRead (sheet ws : List ℕ) (b : Building) (ws′ : List ℕ) (t : Tracked) : Type 0 where
+  pub places : Places (firstPlaces (sheetOf sheet)) 0 ws b ws′ (t .building)
+  pub params : t .params ≡ length (sheetOf sheet .params)
+  pub context : t .context ≡ length (sheetOf sheet .context)
+  pub returns : placeIs (t .returns) ≡ sheetOf sheet .returns
+  pub blocks : ListAt sheet (sectionsOf sheet .blocks) (t .blocks)

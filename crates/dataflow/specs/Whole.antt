@@ -1,8 +1,9 @@
 -- The building of a whole sheet: where it starts, and what the loop over the blocks leaves.
-use Prim.Native.Nat.{ℕ}
+use Prim.Native.Nat.{ℕ, _≤_}
 use mathlib.Core.List.{List, []}
 use mathlib.Core.Path.{_≡_}
 use lib.ListN.{length, take, drop}
+use Rattle.model.specs.Limits.{mostSheet}
 use Rattle.model.specs.Sheet.{Place, Sheet}
 use Rattle.model.specs.Graph.{object, create}
 use Rattle.model.specs.Totals.{totals}
@@ -10,7 +11,7 @@ use Rattle.model.specs.Built.{Built, changed}
 use Rattle.model.specs.Building.{firstNodes, build}
 use Rattle.workspace.specs.Layout.{SEEN, FUNCTIONS}
 use Rattle.building.specs.declared.Building.{Building}
-use Rattle.building.specs.Built.{builtOf, Sound}
+use Rattle.building.specs.Built.{builtOf, Sound, Holding}
 
 -- a node for the place
 abbrev pub createdFor : Place → Built → Built
@@ -22,16 +23,17 @@ firstBuilt t = record { graph = firstNodes t; index = 0; come = []; waiting = []
 
 -- it stands in the workspace
 pub record First (t : Sheet) (ws : List ℕ) (b : Building) : Type 0 where
-  pub built : builtOf ws b ≡ firstBuilt t
+  pub built : (s : List ℕ) → builtOf s ws b ≡ firstBuilt t
+  pub holding : (s : List ℕ) → length s ≤ mostSheet → Holding s ws b
   pub sound : Sound ws b
   pub relations : b .relations ≡ 0
   pub mutations : b .mutations ≡ 0
   pub renders : b .renders ≡ 0
   pub come : b .come ≡ 0
 
--- the whole sheet is built
-pub record Whole (t : Sheet) (ws ws′ : List ℕ) (r : Building) : Type 0 where
-  pub built : builtOf ws′ r ≡ build t
+-- the whole sheet is built, which stands in the words s
+pub record Whole (t : Sheet) (s ws ws′ : List ℕ) (r : Building) : Type 0 where
+  pub built : builtOf s ws′ r ≡ build t
   pub sound : Sound ws′ r
   pub relations : r .relations ≡ totals t .relations
   pub mutations : r .mutations ≡ totals t .mutations

@@ -1,17 +1,22 @@
 // The function of an accepted sheet, as far as the call keeps it beside the workspace.
-use hir::Cursor;
+use building::Building;
 use hir::Place;
+use hir::at::List;
 
-// What the call needs of the sheet: whether errors are recorded, whether an instruction may have an effect to copy, where the identifiers stand, how many identifiers, inner functions, parameters and context places there are, returns, and where how many blocks stand.
+// What the call needs of the sheet: whether errors are recorded, whether an instruction may have an effect to copy, the identifiers, how many inner functions, parameters and context places there are, returns, and the blocks.
 pub struct HirFunction {
     pub errors: bool,
     pub copies: bool,
-    pub identifiers: Cursor,
-    pub n: u32,
+    pub identifiers: List,
     pub m: u32,
     pub params: u32,
     pub context: u32,
     pub returns: Place,
-    pub blocks: Cursor,
-    pub count: u32,
+    pub blocks: List,
+}
+
+// The function and its building.
+pub struct Read {
+    pub function: HirFunction,
+    pub building: Building,
 }

@@ -1,152 +1,100 @@
-// The sections before the blocks, read a second time.
-use hir::Cursor;
+// The sections up to the inner functions, read a second time.
 use hir::Flags;
-use hir::FlagsStep;
-use hir::WordStep;
+use hir::at::DIAGNOSTIC_WIDTH;
+use hir::at::FLAGS_WIDTH;
+use hir::at::IDENTIFIER_WIDTH;
+use hir::at::List;
+use hir::at::flags_at;
+use hir::at::identifier_at;
+use hir::at::list_at;
 use workspace::END;
 use workspace::FUNCTIONS;
 ghost use mathlib.Core.Path.{_≡_};
 ghost use mathlib.Core.Bool.{_&&_, not};
-ghost use Prim.Native.Nat.{_+_, _≤_, _<_};
+ghost use Prim.Native.Nat.{_≤_};
 ghost use lib.ListN.{length};
-ghost use Rattle.model.specs.Reading.{times};
-ghost use Rattle.model.specs.Sections.{diagnostic, innerFunction};
-ghost use Rattle.dataflow.specs.Read.{Ends, Skipped, Functions, Topped};
+ghost use Rattle.model.specs.Limits.{mostIdentifiers, mostFunctions, mostSheet, identifierWidth};
+ghost use Rattle.hir.specs.Words.{wide, identifierAt, several, placed, functionFrom};
+ghost use Rattle.workspace.specs.Layout.{LEAST, END, FUNCTIONS};
+ghost use Rattle.dataflow.specs.Accepted.{Accepted};
+ghost use Rattle.dataflow.specs.Read.{endOf, standsAt, Stores, TopRead};
 
-// The next position, or a refusal, which no accepted sheet gives.
-pub enum Next {
-    At(Cursor),
-    Refused,
-}
-
-// The ends of n identifiers, each read where it stands: the sheet was accepted, so the words are in their ranges.
-fn read_ends(sheet: &[u32], ws: &mut [u32], c: Cursor, n: usize) -> Next
-    requires { ⌜ (n ≤ 512) × (16384 ≤ length (now ws)) ⌝ }
-    ensures { λ r. ⌜ Ends n (now (sheet .entry)) (c .at) (now (ws .entry)) (now (ws .exit)) r ⌝ }
+// Stores the ends of the identifiers; the position after them.
+fn read_ends(sheet: &[u32], list: List, ws: &mut [u32]) -> usize
+    requires { ⌜ several (list .count) (wide identifierWidth identifierAt) (now sheet) (list .first) .next ≤ length (now sheet) ⌝ }
+    requires { ⌜ (list .count ≤ mostIdentifiers) × (LEAST ≤ length (now ws)) ⌝ }
+    ensures { λ r. ⌜ Stores (wide identifierWidth identifierAt) endOf list END (now (sheet .entry)) (now (ws .entry)) (now (ws .exit)) r ⌝ }
 {
-    if n == 0 {
-        return Next::At(c);
+    let mut left = list.count;
+    let mut next = list.first;
+    let mut to = END;
+    while 0 < left {
+        let i = identifier_at(sheet, next);
+        ws[to] = i.mutable_range.end.0;
+        next += IDENTIFIER_WIDTH;
+        to += 1;
+        left -= 1;
     }
-    let at = c.at;
-    let len = sheet.len();
-    if len < at {
-        return Next::Refused;
-    }
-    if len - at < 3 * n {
-        return Next::Refused;
-    }
-    let mut i = 0;
-    while i < n {
-        ws[END + i] = sheet[at + 3 * i + 1];
-        i += 1;
-    }
-    Next::At(Cursor { at: at + 3 * n })
+    next
 }
 
-// k diagnostics are passed over, a word each.
-fn skip_diagnostics(sheet: &[u32], c: Cursor, k: u32) -> Next
-    ensures { λ r. ⌜ Skipped (times k diagnostic) (now (sheet .entry)) (c .at) r ⌝ }
+// The position after an inner function.
+fn skip_function(sheet: &[u32], at: usize) -> usize
+    requires { ⌜ functionFrom (now sheet) at .next ≤ length (now sheet) ⌝ }
+    ensures { λ r. ⌜ r ≡ functionFrom (now (sheet .entry)) at .next ⌝ }
 {
-    if k == 0 {
-        return Next::At(c);
-    }
-    let at = c.at;
-    let len = sheet.len();
-    if len < at {
-        return Next::Refused;
-    }
-    if len - at < k as usize {
-        return Next::Refused;
-    }
-    Next::At(Cursor {
-        at: at + k as usize,
-    })
+    let diagnostics = list_at(sheet, at);
+    diagnostics.first + DIAGNOSTIC_WIDTH * (diagnostics.count as usize)
 }
 
-// An inner function is passed over.
-fn skip_function(sheet: &[u32], c: Cursor) -> Next
-    ensures { λ r. ⌜ Skipped innerFunction (now (sheet .entry)) (c .at) r ⌝ }
+// Stores where each inner function stands; the position after them.
+fn read_functions(sheet: &[u32], list: List, ws: &mut [u32]) -> usize
+    requires { ⌜ several (list .count) functionFrom (now sheet) (list .first) .next ≤ length (now sheet) ⌝ }
+    requires { ⌜ (list .count ≤ mostFunctions) × ((LEAST ≤ length (now ws)) × (length (now sheet) ≤ mostSheet)) ⌝ }
+    ensures { λ r. ⌜ Stores (placed functionFrom) standsAt list FUNCTIONS (now (sheet .entry)) (now (ws .entry)) (now (ws .exit)) r ⌝ }
 {
-    match c.count(sheet, 64) {
-        WordStep::Got(k, next) => skip_diagnostics(sheet, next, k),
-        WordStep::Refused(_) => Next::Refused,
+    let mut left = list.count;
+    let mut next = list.first;
+    let mut to = FUNCTIONS;
+    while 0 < left {
+        ws[to] = next as u32;
+        next = skip_function(sheet, next);
+        to += 1;
+        left -= 1;
     }
+    next
 }
 
-// Where each of m inner functions stands.
-fn read_functions(sheet: &[u32], ws: &mut [u32], c: Cursor, m: usize) -> Next
-    requires { ⌜ (m ≤ 64) × ((16384 ≤ length (now ws)) × ((length (now sheet) ≤ 16384) × (c .at ≤ length (now sheet)))) ⌝ }
-    ensures { λ r. ⌜ Functions m (now (sheet .entry)) (c .at) (now (ws .entry)) (now (ws .exit)) r ⌝ }
-{
-    let mut at = c;
-    let mut i = 0;
-    while i < m {
-        match skip_function(sheet, at) {
-            Next::At(next) => {
-                ws[FUNCTIONS + i] = (at.at % 65536) as u32;
-                at = next;
-            }
-            Next::Refused => {
-                return Next::Refused;
-            }
-        }
-        i += 1;
-    }
-    Next::At(at)
-}
-
-// The flags, the identifiers and the inner functions: errors recorded or not, where the identifiers stand, how many there are of each, and where the parameters begin.
+// The flags, the identifiers and the inner functions: errors recorded or not, the lists of both, and where the parameters begin.
 pub struct Top {
     pub errors: bool,
-    pub identifiers: Cursor,
-    pub n: u32,
-    pub m: u32,
-    pub next: Cursor,
-}
-
-pub enum TopStep {
-    Got(Top),
-    Refused,
+    pub identifiers: List,
+    pub functions: List,
+    pub next: usize,
 }
 
 // Errors are recorded if validations is set and it is no function expression.
 fn records_errors(flags: Flags) -> bool
     ensures { λ r. ⌜ r ≡ flags .validations && not (flags .«function_expression») ⌝ }
 {
-    if flags.function_expression {
-        return false;
-    }
-    flags.validations
+    flags.validations & !flags.function_expression
 }
 
 // The sections up to the inner functions.
-pub fn read_top(sheet: &[u32], ws: &mut [u32]) -> TopStep
-    requires { ⌜ (16384 ≤ length (now ws)) × (length (now sheet) ≤ 16384) ⌝ }
-    ensures { λ r. ⌜ Topped (now (sheet .entry)) (now (ws .entry)) (now (ws .exit)) r ⌝ }
+pub fn read_top(sheet: &[u32], ws: &mut [u32]) -> Top
+    requires { ⌜ Accepted (now sheet) ⌝ }
+    requires { ⌜ LEAST ≤ length (now ws) ⌝ }
+    ensures { λ r. ⌜ TopRead (now (sheet .entry)) (now (ws .entry)) (now (ws .exit)) r ⌝ }
 {
-    let start = Cursor::START;
-    let FlagsStep::Got(flags, c1) = start.flags(sheet) else {
-        return TopStep::Refused;
-    };
-    let WordStep::Got(n, c2) = c1.count(sheet, 512) else {
-        return TopStep::Refused;
-    };
-    let Next::At(c3) = read_ends(sheet, ws, c2, n as usize) else {
-        return TopStep::Refused;
-    };
-    let WordStep::Got(m, c4) = c3.count(sheet, 64) else {
-        return TopStep::Refused;
-    };
-    let Next::At(c5) = read_functions(sheet, ws, c4, m as usize) else {
-        return TopStep::Refused;
-    };
-    let errors = records_errors(flags);
-    let top = Top {
+    let errors = records_errors(flags_at(sheet, 0));
+    let identifiers = list_at(sheet, FLAGS_WIDTH);
+    let after = read_ends(sheet, identifiers, ws);
+    let functions = list_at(sheet, after);
+    let next = read_functions(sheet, functions, ws);
+    Top {
         errors,
-        identifiers: c2,
-        n,
-        m,
-        next: c5,
-    };
-    TopStep::Got(top)
+        identifiers,
+        functions,
+        next,
+    }
 }

@@ -22,17 +22,16 @@ pub mod header;
 pub mod parameters;
 mod phis;
 
-// A block: its phis, then it has come; its instructions, what waits for it, its terminal.
+// A block: its phis, its instructions, what waits for it, its terminal. That it has come is noted with what waits: no instruction asks.
 fn build_block(at: usize, s: &[u32], ws: &mut [u32], b: Building, returns: Place) -> Built
     requires { ⌜ PlaceBelow mostIdentifiers (placeIs returns) ⌝ }
     requires { ⌜ Ready (blockFrom (now s) at) BlockInRange blockCost (now s) (now ws) b ⌝ }
-    ensures { λ r. ⌜ Builds (blockFrom (now (s .entry)) at) (blockStep (placeIs returns)) blockCost (now (ws .entry)) b (now (ws .exit)) r ⌝ }
+    ensures { λ r. ⌜ Builds (blockFrom (now (s .entry)) at) (blockStep (placeIs returns)) blockCost (now (s .entry)) (now (ws .entry)) b (now (ws .exit)) r ⌝ }
 {
     let number = number_at(s, at);
     let phis = build_phis(at + 1, s, ws, b);
-    let come = phis.building.seen_block(ws, number);
-    let instructions = build_instructions(phis.next, s, ws, come);
-    let woken = instructions.building.wake(ws, number);
+    let instructions = build_instructions(phis.next, s, ws, phis.building);
+    let woken = instructions.building.wake(s, ws, number);
     build_terminal(instructions.next, s, ws, woken, returns)
 }
 
@@ -47,7 +46,7 @@ pub fn build_blocks(
 ) -> Built
     requires { ⌜ PlaceBelow mostIdentifiers (placeIs returns) ⌝ }
     requires { ⌜ Ready (several count blockFrom (now s) start) (Every BlockInRange) (costs blockCost) (now s) (now ws) b ⌝ }
-    ensures { λ r. ⌜ Builds (several count blockFrom (now (s .entry)) start) (each (blockStep (placeIs returns))) (costs blockCost) (now (ws .entry)) b (now (ws .exit)) r ⌝ }
+    ensures { λ r. ⌜ Builds (several count blockFrom (now (s .entry)) start) (each (blockStep (placeIs returns))) (costs blockCost) (now (s .entry)) (now (ws .entry)) b (now (ws .exit)) r ⌝ }
 {
     let mut left = count;
     let mut next = start;

@@ -33,11 +33,10 @@ use Rattle.copies.specs.Words.{blockWords}
 use Rattle.copies.specs.Functions.{functionsOf, Functions}
 use Rattle.copies.specs.declared.effect_lists.Section.the-variants.{Diagnostics}
 use Rattle.copies.proofs.Errors.{functions-are, handed-room}
-use Rattle.copies.proofs.Gathers.{gather-append}
+use Rattle.model.proofs.Gathers.{gather-append}
 use Rattle.copies.proofs.Sections.{recorded-words, recorded-none, section-patched, diagnostics-count}
 use Rattle.dataflow.specs.declared.function.HirFunction.{HirFunction}
 use Rattle.dataflow.specs.Function.{Describes, Stands}
-use Rattle.dataflow.proofs.Described.{blocks-stand}
 use Rattle.diagnostics.specs.Diagnosed.{mostHanded, mostDiagnosed, RendersPut, RecordedPut, DiagnosticsPut}
 use Rattle.diagnostics.proofs.Rendering.{unmoved-none, handed-words, rendered-words}
 
@@ -64,10 +63,10 @@ copied-recorded s e =
     none false = refl
 
 module _ (sheet : List ℕ) (f : HirFunction) (a : List ℕ) (at : ℕ) where
-  pub recorded-put : f .errors && f .copies ≡ true → several (f .count) blockFrom sheet (f .blocks .at) .next ≤ length sheet → {a′ : List ℕ} {at′ next : ℕ}
-      → Copies (several (f .count) blockFrom) (gather (blockWords Diagnostics)) sheet (f .blocks .at) a at a′ at′ next → RecordedPut sheet f a at a′ at′
+  pub recorded-put : f .errors && f .copies ≡ true → several (f .blocks .count) blockFrom sheet (f .blocks .first) .next ≤ length sheet → {a′ : List ℕ} {at′ next : ℕ}
+      → Copies (several (f .blocks .count) blockFrom) (gather (blockWords Diagnostics)) sheet (f .blocks .first) a at a′ at′ next → RecordedPut sheet f a at a′ at′
   recorded-put e h p = record {
-    wrote = λ s d. wrote-as (p .wrote) (ap (gather (blockWords Diagnostics)) (blocks-stand d) ∙ recorded-words s (sym (d .errors) ∙ and-left (f .errors) (f .copies) e));
+    wrote = λ s d. wrote-as (p .wrote) (ap (gather (blockWords Diagnostics)) (d .blocks) ∙ recorded-words s (sym (d .errors) ∙ and-left (f .errors) (f .copies) e));
     few = omega (arith, p .few, p .after, h);
   }
 

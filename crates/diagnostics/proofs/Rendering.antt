@@ -26,7 +26,7 @@ use Rattle.writing.specs.Wrote.{Wrote}
 use Rattle.writing.proofs.Writing.{wrote-as}
 use Rattle.copies.specs.Functions.{functionsOf, Functions}
 use Rattle.copies.proofs.Errors.{functions-are, functions-again, functions-kept, handed-room}
-use Rattle.copies.proofs.Gathers.{gather-gather}
+use Rattle.model.proofs.Gathers.{gather-gather}
 use Rattle.copies.proofs.Loops.{Leaves, leaves-all, table-turn, table-end}
 use Rattle.diagnostics.specs.Diagnosed.{mostHanded, RendersPut}
 

@@ -48,13 +48,20 @@ fn process_renders(
 
 // The diagnostics that are recorded: none unless errors are, and none where no effect is copied.
 fn put_recorded(sheet: &[u32], f: HirFunction, answer: &mut [u32], at: usize) -> usize
-    requires { ⌜ several (f .count) blockFrom (now sheet) (f .blocks .at) .next ≤ length (now sheet) ⌝ }
+    requires { ⌜ several (f .blocks .count) blockFrom (now sheet) (f .blocks .first) .next ≤ length (now sheet) ⌝ }
     requires { ⌜ at + length (now sheet) ≤ farthest ⌝ }
     ensures { λ r. ⌜ RecordedPut (now (sheet .entry)) f (now (answer .entry)) at (now (answer .exit)) r ⌝ }
 {
     if f.errors & f.copies {
         let blocks = f.blocks;
-        let r = copy_effects(sheet, blocks.at, f.count, Section::Diagnostics, answer, at);
+        let r = copy_effects(
+            sheet,
+            blocks.first,
+            blocks.count,
+            Section::Diagnostics,
+            answer,
+            at,
+        );
         return r.at;
     }
     at

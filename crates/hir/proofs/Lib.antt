@@ -6,3 +6,4 @@ pub mod EffectTable
 pub mod Standing
 pub mod AtLaws
 pub mod Widths
+pub mod Several

@@ -8,7 +8,7 @@ use lib.ListN.{length, getD}
 use lib.Dec.{ltb, leb, eqb}
 use borrow.Author.Tests.{ltb-true}
 use Rattle.model.proofs.ReadLaws.{atMost-reads}
-use Rattle.model.specs.Limits.{flagCount, mostFlag, mostIdentifiers, mostFunctions, mostParams, mostContext, returnsCount, mostBlocks, mostRange, mostType, mostInnerDiagnostics, mostBlockNumber, mostCount, mostDiagnostic, mostKind, mostOrder, mostTerminal, mostTraits}
+use Rattle.model.specs.Limits.{flagCount, mostFlag, mostIdentifiers, mostFunctions, mostParams, mostContext, returnsCount, mostBlocks, mostRange, mostType, mostInnerDiagnostics, mostBlockNumber, mostCount, mostDiagnostic, mostKind, mostOrder, mostTerminal, mostTraits, placeWidth, effectWidth, operandWidth, identifierWidth, diagnosticWidth, flagsWidth}
 use Rattle.model.specs.Lists.{pick, among}
 use Rattle.model.specs.Sheet.{Flags, Identifier, BlockId, Place, EffectKind, Effect, Operand, Phi, EffectList, Instruction, Terminal, Return, MaybeThrow, Block}
 use Rattle.model.specs.Traits.{effectOf, reactiveOf}
@@ -17,7 +17,7 @@ use Rattle.model.specs.Reading.{Position, Result, got, refused, Read, andThen, 
 use Rattle.model.specs.Sections.{flag, flags, typeOf, identifier, diagnostic, innerFunction, place, unused, extra, effect, effects, operand, phi, instruction, terminal, block, sheet}
 use Rattle.model.specs.Sections.{terminalOf as readTerminal}
 use Rattle.model.proofs.Got.{got-value, got-next, not-both}
-use Rattle.hir.specs.Words.{Part, Standing, wordAt, placeWidth, effectWidth, operandWidth, identifierWidth, diagnosticWidth, wide, placeOf, placeAt, effectAt, operandAt, identifierAt, diagnosticAt, several, listed, effectsFrom, functionFrom, phiFrom, instructionFrom, terminalOf, terminalFrom, phisFrom, instructionsFrom, blockFrom, flagsWidth, flagsAt, identifiersFrom, functionsFrom, placesFrom, sectionsFrom, sheetFrom}
+use Rattle.hir.specs.Words.{Part, Standing, wordAt, wide, placeOf, placeAt, effectAt, operandAt, identifierAt, diagnosticAt, several, listed, effectsFrom, functionFrom, phiFrom, instructionFrom, terminalOf, terminalFrom, phisFrom, instructionsFrom, blockFrom, flagsAt, identifiersFrom, functionsFrom, placesFrom, sectionsFrom, sheetFrom}
 
 abbrev pub part : {A : Type 0} → A → Position → Part A
 part a d = record { what = a; next = d }

@@ -1,10 +1,11 @@
 -- How wide parts are, and that none ends before it begins.
 use Prim.Native.Nat.{ℕ, zero, suc, _+_, _*_, _≤_}
 use native.Mathlib.Omega.{arith}
-use mathlib.Core.Path.{_≡_}
+use mathlib.Core.Path.{_≡_, refl}
 use mathlib.Core.List.{List}
 use Rattle.model.specs.Reading.{Position}
-use Rattle.hir.specs.Words.{Standing, wordAt, placeWidth, effectWidth, operandWidth, wide, effectAt, operandAt, several, listed, effectsFrom, phiFrom, instructionFrom, terminalOf, terminalFrom, phisFrom, instructionsFrom, blockFrom}
+use Rattle.hir.specs.Words.{Standing, wordAt, wide, placeAt, effectAt, operandAt, identifierAt, diagnosticAt, several, listed, effectsFrom, functionFrom, phiFrom, instructionFrom, terminalOf, terminalFrom, phisFrom, instructionsFrom, blockFrom, Sections, sectionsFrom}
+use Rattle.model.specs.Limits.{placeWidth, effectWidth, operandWidth, identifierWidth, diagnosticWidth, flagsWidth}
 
 -- no part ends before it begins
 abbrev pub Rises : {A : Type 0} → Standing A → Type 0
@@ -78,3 +79,37 @@ block-rises ws c =
     let p : Position = phisFrom ws (c + 1) .next in
     let i : Position = instructionsFrom ws p .next in
     omega (arith, listed-rises phiFrom phi-follows ws (c + 1), listed-rises instructionFrom instruction-follows ws p, terminal-rises ws i)
+
+pub function-rises : (ws : List ℕ) (c : Position) → c + 1 ≤ functionFrom ws c .next
+unfolding functionFrom
+function-rises = listed-rises (wide diagnosticWidth diagnosticAt) (wide-rises diagnosticWidth diagnosticAt)
+
+pub function-follows : Rises functionFrom
+function-follows ws c = omega (arith, function-rises ws c)
+
+block-follows : Rises blockFrom
+block-follows ws c = omega (arith, block-rises ws c)
+
+-- each section stands behind the one before it
+pub record Follow (c : Position) (at : Sections) : Type 0 where
+  pub identifiers : at .identifiers ≡ c + flagsWidth
+  pub functions : at .identifiers + 1 ≤ at .functions
+  pub params : at .functions + 1 ≤ at .params
+  pub context : at .params + 1 ≤ at .context
+  pub returns : at .context + 1 ≤ at .returns
+  pub blocks : at .blocks ≡ at .returns + 1 + placeWidth
+  pub end : at .blocks + 1 ≤ at .end
+
+pub sections-follow : (ws : List ℕ) (c : Position) → Follow c (sectionsFrom ws c)
+unfolding sectionsFrom
+sections-follow ws c =
+    let places = listed-rises (wide placeWidth placeAt) (wide-rises placeWidth placeAt) ws in
+    record {
+      identifiers = refl;
+      functions = listed-rises (wide identifierWidth identifierAt) (wide-rises identifierWidth identifierAt) ws _;
+      params = listed-rises functionFrom function-follows ws _;
+      context = places _;
+      returns = places _;
+      blocks = refl;
+      end = listed-rises blockFrom block-follows ws _;
+    }

@@ -5,7 +5,8 @@ use mathlib.Core.List.{List}
 use Rattle.model.specs.Reading.{Position}
 use Rattle.model.specs.Sheet.{Diagnostic as ModelDiagnostic, Operand as ModelOperand}
 use Rattle.hir.specs.Says.{placeIs}
-use Rattle.hir.specs.Words.{wordAt, placeWidth, placeAt}
+use Rattle.hir.specs.Words.{wordAt, placeAt}
+use Rattle.model.specs.Limits.{placeWidth}
 use Rattle.hir.specs.declared.Diagnostic.{Diagnostic}
 use Rattle.hir.specs.declared.at.List.{List as Listed}
 use Rattle.hir.specs.declared.at.Operand.{Operand}

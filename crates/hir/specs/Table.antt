@@ -15,17 +15,16 @@ roleSays Render = render
 roleSays Diagnosis = diagnosis
 roleSays Nothing = nothing
 
--- a row: the kind, how many places it uses, its largest extra word, what it is for in an instruction
+-- a row: the kind, how many places it uses, its largest extra word
 pub record TableRow : Type 0 where
   pub kind : EffectKind
   pub places : ℕ
   pub extra : ℕ
-  pub role : ModelRole
 
 -- what the code's row says
 abbrev pub rowSays : Row → TableRow
-rowSays r = record { kind = kindSays (r .kind); places = r .places; extra = r .extra; role = roleSays (r .role) }
+rowSays r = record { kind = kindSays (r .kind); places = r .places; extra = r .extra }
 
 -- the document's row of a kind's number
 unfoldable pub tableRow : ℕ → TableRow
-tableRow k = record { kind = kindOf k; places = rowOf (kindOf k) .places; extra = rowOf (kindOf k) .extra; role = rowOf (kindOf k) .role }
+tableRow k = record { kind = kindOf k; places = rowOf (kindOf k) .places; extra = rowOf (kindOf k) .extra }

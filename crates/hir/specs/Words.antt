@@ -4,6 +4,7 @@ use Prim.Native.Nat.{ℕ, zero, suc, _+_}
 use mathlib.Core.List.{List, [], _∷_}
 use lib.ListN.{getD}
 use lib.Dec.{eqb}
+use Rattle.model.specs.Limits.{flagsWidth, identifierWidth, diagnosticWidth, placeWidth, effectWidth, operandWidth}
 use Rattle.model.specs.Sheet.{Flags, Identifier, Diagnostic, InnerFunction, Place, Effect, Operand, Phi, EffectList, Instruction, Terminal, Other, Return, MaybeThrow, Block, Sheet}
 use Rattle.model.specs.Traits.{effectOf, reactiveOf}
 use Rattle.model.specs.Effects.{kindOf}
@@ -24,26 +25,6 @@ abbrev pub wordAt : List ℕ → Position → ℕ
 wordAt ws c = getD ws c 0
 
 -- ---- parts of a fixed width
--- "A place is three words"
-abbrev pub placeWidth : ℕ
-placeWidth = 3
-
--- "An effect is eight words"
-abbrev pub effectWidth : ℕ
-effectWidth = 8
-
--- "for each operand a predecessor's number and a place"
-abbrev pub operandWidth : ℕ
-operandWidth = 4
-
--- "range start, range end, type"
-abbrev pub identifierWidth : ℕ
-identifierWidth = 3
-
--- a diagnostic is its number
-abbrev pub diagnosticWidth : ℕ
-diagnosticWidth = 1
-
 module _ {A : Type 0} where
   -- a part of so many words
   abbrev pub wide : ℕ → (List ℕ → Position → A) → Standing A
@@ -84,6 +65,10 @@ module _ {A : Type 0} where
   unfoldable pub several : ℕ → Standing A → Standing (List A)
   several zero f ws c = record { what = []; next = c }
   several (suc k) f ws c = record { what = f ws c .what ∷ several k f ws (f ws c .next) .what; next = several k f ws (f ws c .next) .next }
+
+  -- where a part stands, in its place
+  abbrev pub placed : Standing A → Standing Position
+  placed f ws c = record { what = c; next = f ws c .next }
 
   -- a count, then that many parts
   unfoldable pub listed : Standing A → Standing (List A)
@@ -140,10 +125,6 @@ blockFrom ws c =
     record { what = record { number = wordAt ws c; phis = phis .what; instructions = instructions .what; terminal = terminal .what }; next = terminal .next }
 
 -- ---- the sheet
--- "Flags, count 2"
-abbrev pub flagsWidth : ℕ
-flagsWidth = 3
-
 -- the flags from c on
 abbrev pub flagsAt : List ℕ → Position → Flags
 flagsAt ws c = record { functionExpression = eqb (wordAt ws (c + 1)) 1; validations = eqb (wordAt ws (c + 2)) 1 }

@@ -2,13 +2,15 @@
 ghost use mathlib.Core.Path.{_≡_};
 ghost use Prim.Native.Nat.{_+_, _≤_};
 ghost use lib.ListN.{length};
-ghost use Rattle.hir.specs.Says.{placeIs, effectIs, identifierIs};
-ghost use Rattle.hir.specs.Words.{wordAt, placeWidth, effectWidth, operandWidth, identifierWidth, diagnosticWidth, placeAt, effectAt, operandAt, identifierAt, diagnosticAt, terminalFrom};
+ghost use Rattle.hir.specs.Says.{placeIs, effectIs, flagsAre, identifierIs};
+ghost use Rattle.hir.specs.Words.{wordAt, placeAt, effectAt, operandAt, identifierAt, diagnosticAt, flagsAt, terminalFrom};
+ghost use Rattle.model.specs.Limits.{placeWidth, effectWidth, operandWidth, identifierWidth, diagnosticWidth, flagsWidth};
 ghost use Rattle.hir.specs.Parts.{operandIs, diagnosticIs, ListAt, PhiAt, InstructionAt, TerminalAt};
 use crate::AliasingEffect;
 use crate::BlockId;
 use crate::Diagnostic;
 use crate::EvaluationOrder;
+use crate::Flags;
 use crate::Identifier;
 use crate::IdentifierId;
 use crate::MutableRange;
@@ -27,6 +29,8 @@ pub const OPERAND_WIDTH: usize = 4;
 pub const IDENTIFIER_WIDTH: usize = 3;
 
 pub const DIAGNOSTIC_WIDTH: usize = 1;
+
+pub const FLAGS_WIDTH: usize = 3;
 
 // A list: how many parts, and where the first stands.
 pub struct List {
@@ -113,6 +117,17 @@ pub fn identifier_at(s: &[u32], at: usize) -> Identifier
     Identifier {
         mutable_range,
         kind,
+    }
+}
+
+// The flags, after their count.
+pub fn flags_at(s: &[u32], at: usize) -> Flags
+    requires { ⌜ at + flagsWidth ≤ length (now s) ⌝ }
+    ensures { λ r. ⌜ flagsAre r ≡ flagsAt (now (s .entry)) at ⌝ }
+{
+    Flags {
+        function_expression: s[at + 1] == 1,
+        validations: s[at + 2] == 1,
     }
 }
 

@@ -23,12 +23,11 @@ pub enum Role {
     Nothing,
 }
 
-// How many places a kind uses, its largest extra word, and what it is for.
+// How many places a kind uses, and its largest extra word.
 pub struct Row {
     pub kind: EffectKind,
     pub places: u32,
     pub extra: u32,
-    pub role: Role,
 }
 
 const ROWS: [Row; 18] = [
@@ -36,109 +35,91 @@ const ROWS: [Row; 18] = [
         kind: EffectKind::Freeze,
         places: 1,
         extra: 11,
-        role: Role::Nothing,
     },
     Row {
         kind: EffectKind::Mutate,
         places: 1,
         extra: 1,
-        role: Role::Mutation,
     },
     Row {
         kind: EffectKind::MutateConditionally,
         places: 1,
         extra: 0,
-        role: Role::Mutation,
     },
     Row {
         kind: EffectKind::MutateTransitive,
         places: 1,
         extra: 0,
-        role: Role::Mutation,
     },
     Row {
         kind: EffectKind::MutateTransitiveConditionally,
         places: 1,
         extra: 0,
-        role: Role::Mutation,
     },
     Row {
         kind: EffectKind::Capture,
         places: 2,
         extra: 0,
-        role: Role::Relation,
     },
     Row {
         kind: EffectKind::Alias,
         places: 2,
         extra: 0,
-        role: Role::Relation,
     },
     Row {
         kind: EffectKind::MaybeAlias,
         places: 2,
         extra: 0,
-        role: Role::Relation,
     },
     Row {
         kind: EffectKind::Assign,
         places: 2,
         extra: 0,
-        role: Role::Relation,
     },
     Row {
         kind: EffectKind::Create,
         places: 1,
         extra: 71,
-        role: Role::Nothing,
     },
     Row {
         kind: EffectKind::CreateFrom,
         places: 2,
         extra: 0,
-        role: Role::Relation,
     },
     Row {
         kind: EffectKind::ImmutableCapture,
         places: 2,
         extra: 0,
-        role: Role::Nothing,
     },
     Row {
         kind: EffectKind::Apply,
         places: 0,
         extra: 0,
-        role: Role::Nothing,
     },
     Row {
         kind: EffectKind::CreateFunction,
         places: 1,
         extra: 63,
-        role: Role::Nothing,
     },
     Row {
         kind: EffectKind::MutateFrozen,
         places: 1,
         extra: MOST_DIAGNOSTIC,
-        role: Role::Diagnosis,
     },
     Row {
         kind: EffectKind::MutateGlobal,
         places: 1,
         extra: MOST_DIAGNOSTIC,
-        role: Role::Diagnosis,
     },
     Row {
         kind: EffectKind::Impure,
         places: 1,
         extra: MOST_DIAGNOSTIC,
-        role: Role::Diagnosis,
     },
     Row {
         kind: EffectKind::Render,
         places: 1,
         extra: 0,
-        role: Role::Render,
     },
 ];
 
@@ -153,12 +134,34 @@ pub fn row_of(number: u32) -> Row
     ROWS[k]
 }
 
+// What an effect of each kind is for, by the kind's number.
+const ROLES: [Role; 18] = [
+    Role::Nothing,
+    Role::Mutation,
+    Role::Mutation,
+    Role::Mutation,
+    Role::Mutation,
+    Role::Relation,
+    Role::Relation,
+    Role::Relation,
+    Role::Relation,
+    Role::Nothing,
+    Role::Relation,
+    Role::Nothing,
+    Role::Nothing,
+    Role::Nothing,
+    Role::Diagnosis,
+    Role::Diagnosis,
+    Role::Diagnosis,
+    Role::Render,
+];
+
 // What an effect of this kind is for, in an instruction.
 pub fn role_of(kind: EffectKind) -> Role
     ensures { λ r. ⌜ roleSays r ≡ rowOf (kindSays kind) .role ⌝ }
 {
-    let row = row_of(kind.number());
-    row.role
+    let k = kind.number() as usize;
+    ROLES[k]
 }
 
 // The extra word: at most the table's; for CreateFunction below the count of inner functions.

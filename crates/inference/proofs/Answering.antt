@@ -5,9 +5,9 @@ use mathlib.Core.Path.{_≡_, refl, sym, ap, _∙_}
 use mathlib.Core.List.{List, [], _∷_, _++_, map, append-assoc, map-append}
 use lib.ListN.{length, getD}
 use lib.Seq.{slice, slice-empty}
-use Rattle.model.specs.Limits.{mostIdentifiers, mostMutations}
+use Rattle.model.specs.Limits.{mostMutations}
 use Rattle.model.specs.Lists.{listIf}
-use Rattle.model.specs.Sheet.{Sheet, Place}
+use Rattle.model.specs.Sheet.{Identifier, Place, Sheet}
 use Rattle.model.specs.Mutation.{Mutation, RenderOf}
 use Rattle.model.specs.State.{State, real}
 use Rattle.model.specs.Walks.{Walk}
@@ -35,33 +35,30 @@ use Rattle.renders.specs.Renders.{Unmoved}
 use Rattle.writing.specs.Wrote.{Wrote}
 use Rattle.writing.proofs.Writing.{wrote-then, wrote-as}
 use Rattle.summary.specs.Records.{Holds}
-use Rattle.summary.specs.Ranges.{Ranges}
+use Rattle.summary.specs.Ranges.{mostRanges, Ranges}
 use Rattle.workspace.specs.Tracked.{trackedFrom}
 use Rattle.summary.specs.Sections.{Marked, simulatedOf}
 use Rattle.summary.proofs.Whole.{params-tracked, context-tracked}
 use Rattle.summary.proofs.Rooms.{ranges-next, marked-next}
 use Rattle.dataflow.specs.declared.function.HirFunction.{HirFunction}
-use Rattle.dataflow.specs.Function.{Limited, Describes, Stands}
+use Rattle.dataflow.specs.Function.{Limited, Stands}
 use Rattle.dataflow.proofs.Standing.{stands-kept}
 use Rattle.inference.specs.Whole.{Prepared, PlacesPut}
 
 -- ---- ranges, params, context
-pub ranges-room : {sheet ws : List ℕ} {f : HirFunction} {a a₁ : List ℕ} {at₁ : ℕ} → Limited f → ((s : Sheet) × (Describes s sheet f × Stands s sheet ws)) → Ranges sheet (f .identifiers .at) (f .n) ws a 0 a₁ at₁ → at₁ ≤ 1 + 2 * mostIdentifiers
-ranges-room {sheet} {ws} {f} l q r =
-    let ids = q .1 .0 .identifiers in
-    omega (arith, ranges-next sheet (f .identifiers .at) (f .n) ws (q .0 .identifiers) (ids .0) (l .n) (q .1 .1 .size) (ids .1) (r (q .0 .identifiers) (ids .0) (ids .1)), l .n)
+pub ranges-room : (sheet ws : List ℕ) (f : HirFunction) {a a₁ : List ℕ} {at at₁ : ℕ} → Limited f → Ranges sheet (f .identifiers) ws a at a₁ at₁ → at₁ ≤ at + mostRanges
+ranges-room sheet ws f l r = omega (arith, ranges-next sheet (f .identifiers) ws (l .n) r, l .n)
 
-module _ {sheet ws : List ℕ} {f : HirFunction} {a a₁ a₂ a₃ : List ℕ} {at₁ at₂ at₃ : ℕ} where
-  pub places-put : Limited f → ((s : Sheet) × (Describes s sheet f × Stands s sheet ws)) → Ranges sheet (f .identifiers .at) (f .n) ws a 0 a₁ at₁ → Marked ws 0 (f .params) a₁ at₁ a₂ at₂ → Marked ws (f .params) (f .context) a₂ at₂ a₃ at₃ → PlacesPut sheet ws f a a₃ at₃
-  places-put l q r p c = record {
+module _ {sheet ws : List ℕ} {f : HirFunction} {a a₁ a₂ a₃ : List ℕ} {at at₁ at₂ at₃ : ℕ} where
+  pub places-put : Limited f → Ranges sheet (f .identifiers) ws a at a₁ at₁ → Marked ws 0 (f .params) a₁ at₁ a₂ at₂ → Marked ws (f .params) (f .context) a₂ at₂ a₃ at₃ → PlacesPut sheet ws f a at a₃ at₃
+  places-put l r p c = record {
     wrote = λ s t d st h.
-        let ids = d .identifiers in
         let e : trackedFrom ws 0 (f .params) ≡ s .params = ap (λ (k : ℕ). trackedFrom ws 0 k) (d .params) ∙ params-tracked s ws (st .tracked) in
         let g : trackedFrom ws (f .params) (f .context) ≡ s .context =
         ap (λ (k : ℕ). trackedFrom ws k (f .context)) (d .params) ∙ ap (λ (k : ℕ). trackedFrom ws (length (s .params)) k) (d .context) ∙ context-tracked s ws (st .tracked) in
-        wrote-then (r (s .identifiers) (ids .0) (ids .1))
+        wrote-then (wrote-as r (ap (λ (ids : List Identifier). section rangeWords (rangesOf ids (endsOf (nodesOf ws)))) (d .identifiers)))
         (wrote-then (wrote-as (p t h) (ap (λ (q : List Place). section placeWords (map (marked t) q)) e)) (wrote-as (c t h) (ap (λ (q : List Place). section placeWords (map (marked t) q)) g)));
-    few = omega (arith, ranges-room l q r, marked-next ws 0 (f .params) p, marked-next ws (f .params) (f .context) c, l .params, l .context);
+    few = omega (arith, ranges-room sheet ws f l r, marked-next ws 0 (f .params) p, marked-next ws (f .params) (f .context) c, l .params, l .context);
   }
 
 -- ---- after the real mutations
@@ -143,12 +140,12 @@ module _ {s : Sheet} {sheet ws : List ℕ} {f : HirFunction} {b : Building} (p :
           tab-same (b .mutations) (λ (i : ℕ). getD ws₃ (MUTATIONS + 3 * i + 2) 0) (λ (i : ℕ). getD ws₁ (MUTATIONS + 3 * i + 2) 0) word-kept
           ∙ real-counts
 
-      module _ {a a₁ a₂ a₃ a₄ : List ℕ} {at₁ at₂ at₃ at₄ : ℕ} where
+      module _ {a a₁ a₂ a₃ a₄ : List ℕ} {at at₁ at₂ at₃ at₄ : ℕ} where
         -- the whole answer
-        pub answer-put : PlacesPut sheet ws₁ f a a₁ at₁ → Wrote (section diagnosticWords (diagnosed s)) a₁ at₁ a₂ at₂ → Wrote (section effectWords (summary s)) a₂ at₂ a₃ at₃
+        pub answer-put : PlacesPut sheet ws₁ f a at a₁ at₁ → Wrote (section diagnosticWords (diagnosed s)) a₁ at₁ a₂ at₂ → Wrote (section effectWords (summary s)) a₂ at₂ a₃ at₃
             → simulatedOf ws₃ (f .params + f .context + 1) ≡ map (λ (w : Walk). w .taken) (simulate s .walks)
             → Wrote (section countWords (takenOf ws₃ (b .mutations) ++ simulatedOf ws₃ (f .params + f .context + 1))) a₃ at₃ a₄ at₄
-            → Wrote (answerWords (answer s)) a 0 a₄ at₄
+            → Wrote (answerWords (answer s)) a at a₄ at₄
         unfolding answerWords answer
         answer-put places diagnostics effects counts walks =
             let t : State = afterRenders s in

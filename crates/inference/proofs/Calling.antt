@@ -1,40 +1,33 @@
--- The call by its verdict: refusal 1, a refusal of the reading, or the answer of the sheet.
+-- What is prepared by the verdict of the reading, and what a call comes to by what was prepared.
 use Prim.Native.Nat.{ℕ, _≤_, _<_}
-use mathlib.Core.Path.{_≡_, refl, sym, ap, _∙_}
+use mathlib.Core.Path.{_≡_, refl, sym, ap, subst, _∙_}
 use native.Mathlib.Omega.{arith}
-use mathlib.Core.Bool.{Bool, true, false, false≢true, _||_}
+use mathlib.Core.Bool.{_||_}
 use mathlib.Core.List.{List}
 use lib.ListN.{length}
 use lib.Dec.{ltb}
 use borrow.Author.Tests.{lt-ltb, le-ltb, ltb-false}
-use Rattle.model.specs.Limits.{leastWorkspace, mostSheet}
-use Rattle.model.specs.Lists.{pick}
+use Rattle.model.specs.Limits.{leastWorkspace}
 use Rattle.model.specs.Sheet.{Sheet}
-use Rattle.model.specs.Reading.{got, refused}
-use Rattle.model.specs.Sections.{sheet as sheetReader}
-use Rattle.model.specs.Totals.{judged}
+use Rattle.model.specs.Reading.{Position, Result, got, refused}
 use Rattle.model.specs.Answer.{answer, answerWords}
-use Rattle.model.specs.Call.{refusal, ended, read, IsSheet, fits, answered, admit, outcome}
-use Rattle.model.proofs.ReadLaws.{isGot}
+use Rattle.model.specs.Call.{refusal, read, IsSheet, fits, answered, admit, outcome}
 use Rattle.model.proofs.Either.{or-left, or-right}
 use Rattle.reading.specs.Judging.{Told}
 use Rattle.reading.specs.Whole.{acceptance, judgementOf}
 use Rattle.reading.specs.Whole.{refusal as noSheet}
 use Rattle.reading.proofs.Accepted.{accepted-sheet, refused-sheet}
 use Rattle.reading.proofs.CopiedLaws.{accepted-copies}
+use Rattle.building.specs.declared.Building.{Building}
+use Rattle.dataflow.specs.declared.function.HirFunction.{HirFunction}
+use Rattle.workspace.specs.Sort.{clearedFrom}
 use Rattle.inference.specs.declared.Outcome.{Outcome}
+use Rattle.inference.specs.declared.Outcome.the-variants.{Accepted}
 use Rattle.inference.specs.Outcome.{Came, Inferred}
-use Rattle.inference.specs.Whole.{NoneUnless}
-use Rattle.inference.proofs.Ending.{came-as}
-
--- a sheet that was read has at most 16,384 words
-pub short-sheet : (sheet : List ℕ) (s : Sheet) → IsSheet sheet s → length sheet ≤ mostSheet
-unfolding read
-short-sheet sheet s h = go (ltb mostSheet (length sheet)) refl (h .1)
-  where
-    go : (b : Bool) → ltb mostSheet (length sheet) ≡ b → pick b (refused 2) (judged (ended (sheetReader sheet 0) (length sheet))) ≡ got s (h .0) → length sheet ≤ mostSheet
-    go true e f = absurd (false≢true (ap isGot f))
-    go false e f = ltb-false mostSheet (length sheet) e
+use Rattle.inference.specs.declared.Preparation.{Preparation}
+use Rattle.inference.specs.declared.Preparation.the-variants.{Refused, Ready}
+use Rattle.inference.specs.Whole.{NoneUnless, Prepared, preparedIs, Prepares, AnswerPut}
+use Rattle.inference.proofs.Ending.{came-as, came-long, room, too-long, fitting}
 
 -- the sheet behind an acceptance
 pub accepted-is : (sheet : List ℕ) {t : Told} → judgementOf (read sheet) ≡ acceptance t → (s : Sheet) × IsSheet sheet s
@@ -47,26 +40,64 @@ accepted-none sheet {t} e h =
     let r : t .renders ≤ 0 = ltb-false 0 (t .renders) (or-right (ltb 0 (t .diagnoses)) (ltb 0 (t .renders)) h) in
     accepted-copies sheet t e (omega (arith, d)) (omega (arith, r))
 
-pub refused-is : (sheet : List ℕ) {k : ℕ} → judgementOf (read sheet) ≡ noSheet k → read sheet ≡ refused k
-refused-is sheet {k} e = refused-sheet sheet k e
+-- ---- what is prepared
+module _ {x : Result Sheet} {sheet ws ws′ : List ℕ} {r : Preparation} (p : Prepares x sheet ws ws′ r) where
+  pub prepares-as : {y : Result Sheet} → x ≡ y → Prepares y sheet ws ws′ r
+  prepares-as e = subst (λ (z : Result Sheet). Prepares z sheet ws ws′ r) e p
 
-module _ (sheet ws ans : List ℕ) where
-  pub inferred-one : {r : Outcome} {ws′ ans′ : List ℕ} → length ws < leastWorkspace → Came (refusal 1) ws ans r ws′ ans′ → Inferred sheet ws ans r ws′ ans′
-  unfolding outcome admit answered
-  inferred-one h c = came-as (ap (λ (b : Bool). answered (length ans) (pick b (refused 1) (read sheet))) (sym (lt-ltb (length ws) leastWorkspace h))) c
+  pub refused-by : {k : ℕ} → r ≡ Refused k → (x ≡ refused k) × (ws′ ≡ ws)
+  refused-by {k} e = go x (subst (preparedIs x sheet ws ws′) e (p .is))
+    where
+      go : (y : Result Sheet) → preparedIs y sheet ws ws′ (Refused k) → (y ≡ refused k) × (ws′ ≡ ws)
+      go (refused j) q = (ap refused (sym (q .0)), q .1)
+      go (got s c) q = absurd q
 
-  enough : leastWorkspace ≤ length ws → outcome sheet (length ws) (length ans) ≡ answered (length ans) (read sheet)
-  unfolding outcome admit answered
-  enough h = ap (λ (b : Bool). answered (length ans) (pick b (refused 1) (read sheet))) (le-ltb (length ws) leastWorkspace h)
+  pub ready-by : {f : HirFunction} {b : Building} → r ≡ Ready f b → (s : Sheet) × ((c : Position) × ((x ≡ got s c) × (Prepared s sheet ws′ f b × (length ws′ ≡ length ws))))
+  ready-by {f} {b} e = go x (subst (preparedIs x sheet ws ws′) e (p .is))
+    where
+      go : (y : Result Sheet) → preparedIs y sheet ws ws′ (Ready f b) → (s : Sheet) × ((c : Position) × ((y ≡ got s c) × (Prepared s sheet ws′ f b × (length ws′ ≡ length ws))))
+      go (refused j) q = absurd q
+      go (got s c) q = (s, (c, (refl, q)))
 
-  pub inferred-refused : {k : ℕ} {r : Outcome} {ws′ ans′ : List ℕ} → leastWorkspace ≤ length ws → read sheet ≡ refused k → Came (refusal k) ws ans r ws′ ans′ → Inferred sheet ws ans r ws′ ans′
-  unfolding answered
-  inferred-refused {k} h e c =
-      let o : answered (length ans) (read sheet) ≡ refusal k = ap (answered (length ans)) e in
-      came-as (sym (enough h ∙ o)) c
+-- ---- refusal 1, or what the reading gives
+module _ (sheet ws : List ℕ) where
+  refuses : {k : ℕ} → refused k ≡ admit sheet (length ws) → Prepares (admit sheet (length ws)) sheet ws ws (Refused k)
+  refuses {k} e = let p : Prepares (refused k) sheet ws ws (Refused k) = record { is = (refl, refl) } in prepares-as p e
 
-  pub inferred-answered : (s : Sheet) {r : Outcome} {ws′ ans′ : List ℕ} → leastWorkspace ≤ length ws → IsSheet sheet s → Came (fits (length ans) (answerWords (answer s))) ws ans r ws′ ans′ → Inferred sheet ws ans r ws′ ans′
-  unfolding answered
-  inferred-answered s h e c =
-      let o : answered (length ans) (read sheet) ≡ fits (length ans) (answerWords (answer s)) = ap (answered (length ans)) (e .1) in
-      came-as (sym (enough h ∙ o)) c
+  pub short-refused : length ws < leastWorkspace → Prepares (admit sheet (length ws)) sheet ws ws (Refused 1)
+  unfolding admit
+  short-refused h = refuses (sym (rw (lt-ltb (length ws) leastWorkspace h)))
+
+  module _ (h : leastWorkspace ≤ length ws) where
+    enough : read sheet ≡ admit sheet (length ws)
+    unfolding admit
+    enough = sym (rw (le-ltb (length ws) leastWorkspace h))
+
+    pub reading-refused : {k : ℕ} → judgementOf (read sheet) ≡ noSheet k → Prepares (admit sheet (length ws)) sheet ws ws (Refused k)
+    reading-refused {k} e = refuses (sym (refused-sheet sheet k e) ∙ enough)
+
+    pub reading-prepares : {ws′ : List ℕ} {r : Preparation} → Prepares (read sheet) sheet ws ws′ r → Prepares (admit sheet (length ws)) sheet ws ws′ r
+    reading-prepares p = prepares-as p enough
+
+-- ---- the call by what was prepared
+module _ (sheet ws ans ws₁ : List ℕ) {p : Preparation} (h : Prepares (admit sheet (length ws)) sheet ws ws₁ p) {r : Outcome} {ws′ ans′ : List ℕ} where
+  pub call-refused : {k : ℕ} → p ≡ Refused k → Came (refusal k) ws₁ ans r ws′ ans′ → Inferred sheet ws ans r ws′ ans′
+  unfolding outcome answered
+  call-refused e c = let q = refused-by h e in came-as (sym (ap (answered (length ans)) (q .0))) (came-long (ap (λ (l : List ℕ). length l) (q .1)) refl c)
+
+  module _ {f : HirFunction} {b : Building} (e : p ≡ Ready f b) {ws₂ ans₁ : List ℕ} {n : ℕ} (put : AnswerPut sheet ws₁ f b ans 0 ws₂ ans₁ n) where
+    -- the outcome is the answer, if it fits
+    call-fits : {s : Sheet} {c : Position} → admit sheet (length ws) ≡ got s c → Came (fits (length ans) (answerWords (answer s))) ws ans r ws′ ans′ → Inferred sheet ws ans r ws′ ans′
+    unfolding outcome answered
+    call-fits q c = came-as (sym (ap (answered (length ans)) q)) c
+
+    pub call-nine : length ans₁ < n → Came (refusal 9) ws₂ ans₁ r ws′ ans′ → Inferred sheet ws ans r ws′ ans′
+    call-nine k c =
+        let (s, (_, (q, (ready, same)))) = ready-by h e in
+        let w = put .wrote s ready in
+        call-fits q (came-as (too-long w k) (came-long (put .walkable .same ∙ same) (room w) c))
+
+    pub call-answered : n ≤ length ans₁ → r ≡ Accepted n → ws′ ≡ clearedFrom 0 ws₂ → ans′ ≡ clearedFrom n ans₁ → Inferred sheet ws ans r ws′ ans′
+    call-answered k is p q =
+        let (s, (_, (a, (ready, same)))) = ready-by h e in
+        call-fits a (subst (λ (o : Outcome). Came (fits (length ans) (answerWords (answer s))) ws ans o ws′ ans′) (sym is) (fitting (put .wrote s ready) ws₂ k (put .walkable .same ∙ same) p q))

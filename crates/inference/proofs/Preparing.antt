@@ -79,7 +79,7 @@ module _ (ids : List Identifier) (few : length ids ≤ mostIdentifiers) (ws₀ :
 module _ (s : Sheet) (sheet : List ℕ) (d : Position) (is : sheetReader sheet 0 ≡ got s d) (f : HirFunction) (b : Building) (ws₀ ws₁ ws₂ ws₃ ws₄ : List ℕ) where
   module _ (describes : Describes s sheet f) (limited : Limited f) (stands : Stands s sheet ws₁) (size : LEAST ≤ length ws₀)
       (ends : take SEEN ws₁ ≡ take SEEN (sets ws₀ END (map (λ (i : Identifier). i .end) (s .identifiers)))) where
-    module _ (w : Whole s ws₁ ws₂ b) (l : LaysOut ws₂ b ws₃) (k : Keeps (f .n) ws₃ ws₄) where
+    module _ (w : Whole s sheet ws₁ ws₂ b) (l : LaysOut ws₂ b ws₃) (k : Keeps (f .identifiers .count) ws₃ ws₄) where
       low-kept : take SEEN ws₃ ≡ take SEEN (sets ws₀ END (map (λ (i : Identifier). i .end) (s .identifiers)))
       low-kept = take-less SEEN FBOUND ws₃ ws₂ (omega arith) (l .low) ∙ w .low ∙ ends
 
@@ -93,6 +93,7 @@ module _ (s : Sheet) (sheet : List ℕ) (d : Position) (is : sheetReader sheet 0
       rows-kept = rows-above high-kept (omega arith)
 
       mutations-are : mutationsOf ws₄ (b .mutations) ≡ build s .mutations
+      unfolding builtOf
       mutations-are = mutations-kept ws₃ ws₄ (b .mutations) (drop-more SEEN MUTATIONS ws₄ ws₃ (omega arith) (k .high)) ∙ l .mutations ∙ ap (λ (x : Built). x .mutations) (w .built)
 
       index-is : indexOf b ≡ build s .index
@@ -100,7 +101,7 @@ module _ (s : Sheet) (sheet : List ℕ) (d : Position) (is : sheetReader sheet 0
       index-is = ap (λ (x : Built). x .index) (w .built)
 
       pub prepared : Prepared s sheet ws₄ f b
-      unfolding built
+      unfolding built builtOf
       prepared = record {
         describes = describes;
         limited = limited;

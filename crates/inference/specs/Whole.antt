@@ -1,18 +1,19 @@
--- A call on an accepted sheet, stage by stage.
-use Prim.Native.Nat.{ℕ, _+_, _≤_, _<_}
+-- A call stage by stage: what is prepared, and what is answered.
+use Prim.Native.Nat.{ℕ, _+_, _*_, _≤_, _<_}
 use mathlib.Core.Bool.{Bool, false}
 use mathlib.Core.Path.{_≡_}
 use mathlib.Core.List.{List, [], _++_, map}
 use lib.ListN.{length, getD, drop}
 use lib.Dec.{ltb}
-use Rattle.model.specs.Limits.{mostIdentifiers, mostRelations, mostRenders}
+use Rattle.model.specs.Limits.{mostIdentifiers, mostParams, mostContext, mostRelations, mostRenders, placeWidth}
 use Rattle.model.specs.Lists.{pick}
 use Rattle.model.specs.Sheet.{Sheet}
+use Rattle.model.specs.Reading.{Result, got, refused}
 use Rattle.model.specs.State.{State}
 use Rattle.model.specs.Building.{build}
 use Rattle.model.specs.Summary.{built, marked, copied}
 use Rattle.model.specs.Answer.{answer, answerWords, rangesOf, rangeWords, placeWords, section}
-use Rattle.model.specs.Call.{IsSheet, fits}
+use Rattle.model.specs.Call.{IsSheet}
 use Rattle.workspace.specs.Layout.{RECORD, END, SEEN, HANDED}
 use Rattle.workspace.specs.Rows.{Indexed}
 use Rattle.workspace.specs.Pending.{mutationsOf, rendersOf}
@@ -21,13 +22,15 @@ use Rattle.building.specs.Built.{indexOf}
 use Rattle.aliasing.specs.State.{nodesOf, endAt, endsOf, stateOf}
 use Rattle.aliasing.specs.Pending.{Pending}
 use Rattle.writing.specs.Wrote.{Wrote}
+use Rattle.summary.specs.Ranges.{mostRanges}
 use Rattle.summary.specs.Records.{Holds}
+use Rattle.summary.specs.Sections.{mostWalks}
+use Rattle.summary.specs.Simulates.{mostEffects, Left, Walkable}
+use Rattle.diagnostics.specs.Diagnosed.{mostDiagnosed}
 use Rattle.dataflow.specs.declared.function.HirFunction.{HirFunction}
 use Rattle.dataflow.specs.Function.{Limited, Describes, Stands}
-use Rattle.dataflow.specs.declared.parameters.FunctionStep.{FunctionStep}
-use Rattle.dataflow.specs.declared.parameters.FunctionStep.the-variants.{Got, Refused}
-use Rattle.inference.specs.declared.Outcome.{Outcome}
-use Rattle.inference.specs.Outcome.{Came}
+use Rattle.inference.specs.declared.Preparation.{Preparation}
+use Rattle.inference.specs.declared.Preparation.the-variants.{Refused, Ready}
 
 -- unless `copies`, no effect of the sheet is copied
 abbrev pub NoneUnless : Bool → List ℕ → Type 0
@@ -54,27 +57,34 @@ pub record Prepared (s : Sheet) (sheet ws : List ℕ) (f : HirFunction) (b : Bui
   pub fewRelations : b .relations ≤ mostRelations
   pub fewRenders : b .renders ≤ mostRenders
 
+-- the refusal of a reading, the workspace being as it was, or its sheet built
+abbrev pub preparedIs : Result Sheet → List ℕ → List ℕ → List ℕ → Preparation → Type 0
+preparedIs (refused k) sheet ws ws′ (Refused j) = (j ≡ k) × (ws′ ≡ ws)
+preparedIs (refused k) sheet ws ws′ (Ready f b) = ⊥
+preparedIs (got s c) sheet ws ws′ (Refused j) = ⊥
+preparedIs (got s c) sheet ws ws′ (Ready f b) = Prepared s sheet ws′ f b × (length ws′ ≡ length ws)
+
+-- what was prepared by a reading that gave x
+pub record Prepares (x : Result Sheet) (sheet ws ws′ : List ℕ) (r : Preparation) : Type 0 where
+  pub is : preparedIs x sheet ws ws′ r
+
+-- the words of the first three sections
+abbrev pub mostPlaces : ℕ
+mostPlaces = mostRanges + (1 + placeWidth * mostParams) + (1 + placeWidth * mostContext)
+
 -- the ranges, the params and the context of s were written, t having the records of the words
-pub record PlacesPut (sheet ws : List ℕ) (f : HirFunction) (ans ans′ : List ℕ) (r : ℕ) : Type 0 where
+pub record PlacesPut (sheet ws : List ℕ) (f : HirFunction) (ans : List ℕ) (at : ℕ) (ans′ : List ℕ) (r : ℕ) : Type 0 where
   pub wrote : (s : Sheet) (t : State) → Describes s sheet f → Stands s sheet ws → Holds ws t
-      → Wrote (section rangeWords (rangesOf (s .identifiers) (endsOf (nodesOf ws))) ++ (section placeWords (map (marked t) (s .params)) ++ section placeWords (map (marked t) (s .context)))) ans 0 ans′ r
-  pub few : r ≤ 1411
+      → Wrote (section rangeWords (rangesOf (s .identifiers) (endsOf (nodesOf ws))) ++ (section placeWords (map (marked t) (s .params)) ++ section placeWords (map (marked t) (s .context)))) ans at ans′ r
+  pub few : r ≤ at + mostPlaces
 
--- the answer of s was written, as far as there is room, and it is r words long
-pub record AnswerPut (sheet ws : List ℕ) (f : HirFunction) (b : Building) (ans ws′ ans′ : List ℕ) (r : ℕ) : Type 0 where
-  pub wrote : (s : Sheet) → Prepared s sheet ws f b → Wrote (answerWords (answer s)) ans 0 ans′ r
-  pub same : length ws′ ≡ length ws
+-- the words of an answer
+abbrev pub mostAnswer : ℕ
+mostAnswer = mostPlaces + mostDiagnosed + mostEffects + mostWalks
 
--- a refusal is given to no sheet
-abbrev pub preparedIs : Sheet → List ℕ → List ℕ → FunctionStep → Type 0
-preparedIs s sheet ws (Got f b) = Prepared s sheet ws f b
-preparedIs s sheet ws Refused = ⊥
-
--- the accepted sheet was built
-pub record Prepares (sheet ws ws′ : List ℕ) (r : FunctionStep) : Type 0 where
-  pub built : (s : Sheet) → IsSheet sheet s → preparedIs s sheet ws′ r
-  pub same : length ws′ ≡ length ws
-
--- the accepted sheet was answered, if the answer fits
-abbrev pub Answers : List ℕ → List ℕ → List ℕ → Outcome → List ℕ → List ℕ → Type 0
-Answers sheet ws ans r ws′ ans′ = (s : Sheet) → IsSheet sheet s → Came (fits (length ans) (answerWords (answer s))) ws ans r ws′ ans′
+-- the answer of s was written from `at` on, as far as there is room; what all walks left stands in the words, and further ones can run on it
+pub record AnswerPut (sheet ws : List ℕ) (f : HirFunction) (b : Building) (ans : List ℕ) (at : ℕ) (ws′ ans′ : List ℕ) (r : ℕ) : Type 0 where
+  pub wrote : (s : Sheet) → Prepared s sheet ws f b → Wrote (answerWords (answer s)) ans at ans′ r
+  pub left : (s : Sheet) → Prepared s sheet ws f b → Left s ws′ (f .params + f .context + 1) (indexOf b + (f .params + f .context + 1))
+  pub walkable : Walkable ws ws′
+  pub few : r ≤ at + mostAnswer

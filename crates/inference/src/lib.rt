@@ -1,18 +1,18 @@
 // The port of `infer_mutation_aliasing_ranges` up to its second loop over the blocks, and of its Part 3.
-ghost use Prim.Native.Nat.{_≤_};
+ghost use Prim.Native.Nat.{_+_, _≤_};
 ghost use lib.ListN.{length};
 ghost use Rattle.model.specs.Limits.{mostIdentifiers};
 ghost use Rattle.workspace.specs.Layout.{LEAST};
 ghost use Rattle.model.specs.Sheet.{Sheet};
-ghost use Rattle.model.specs.Call.{refusal, IsSheet};
+ghost use Rattle.model.specs.Call.{refusal, read, admit, IsSheet};
 ghost use Rattle.dataflow.specs.Function.{Limited, Describes, Stands};
 ghost use Rattle.inference.specs.Outcome.{Came, Inferred};
-ghost use Rattle.inference.specs.Whole.{NoneUnless, Keeps, Prepared, Prepares, PlacesPut, AnswerPut, Answers};
+ghost use Rattle.writing.specs.Wrote.{farthest};
+ghost use Rattle.inference.specs.Whole.{NoneUnless, Keeps, Prepared, Prepares, mostPlaces, PlacesPut, mostAnswer, AnswerPut};
 use aliasing::process_mutations;
 use building::Building;
 use dataflow::build_blocks;
 use dataflow::function::HirFunction;
-use dataflow::parameters::FunctionStep;
 use dataflow::parameters::read_function;
 use diagnostics::put_diagnostics;
 use reading::Verdict;
@@ -22,16 +22,21 @@ use summary::tracked::put_marked;
 use summary::walks::put_walks;
 use workspace::END;
 use workspace::IDENTIFIERS;
+use workspace::LEAST;
 use workspace::RECORD;
 use workspace::clear;
-
-// The words that a workspace has at least.
-const LEAST: usize = 16384;
+use workspace::clear_from;
 
 // What is said of a call: the number of a refusal, or the answer's length.
 pub enum Outcome {
     Refused(u32),
     Accepted(usize),
+}
+
+// What a sheet comes to before its first mutation: the number of a refusal, or the function and what was built of it.
+pub enum Preparation {
+    Refused(u32),
+    Ready(HirFunction, Building),
 }
 
 // There is no record yet, and the ends are the sheet's n ones. The spans are not cleared: a record whose word is 0 is none.
@@ -43,50 +48,77 @@ fn keep(ws: &mut [u32], n: usize)
     clear(ws, END + n, IDENTIFIERS - n);
 }
 
-// Part 1: builds the data flow graph and lays it out for the walks.
-fn build(sheet: &[u32], ws: &mut [u32], copies: bool) -> FunctionStep
+// Part 1: builds the data flow graph of an accepted sheet and lays it out for the walks. Unless `copies`, its instructions have no effect of kind 14 to 17.
+fn build(sheet: &[u32], ws: &mut [u32], copies: bool) -> Preparation
     requires { ⌜ LEAST ≤ length (now ws) ⌝ }
     requires { ⌜ ((s : Sheet) × IsSheet (now sheet) s) ⌝ }
     requires { ⌜ NoneUnless copies (now sheet) ⌝ }
-    ensures { λ r. ⌜ Prepares (now (sheet .entry)) (now (ws .entry)) (now (ws .exit)) r ⌝ }
+    ensures { λ r. ⌜ Prepares (read (now (sheet .entry))) (now (sheet .entry)) (now (ws .entry)) (now (ws .exit)) r ⌝ }
 {
-    let FunctionStep::Got(mut f, first) = read_function(sheet, ws) else {
-        return FunctionStep::Refused;
-    };
-    f.copies = copies;
-    let built = build_blocks(f.blocks.at, f.count, sheet, ws, first, f.returns);
-    let b = built.building;
-    b.lay_out(ws);
-    keep(ws, f.n as usize);
-    FunctionStep::Got(f, b)
+    let read = read_function(sheet, ws);
+    let mut function = read.function;
+    function.copies = copies;
+    let blocks = function.blocks;
+    let returns = function.returns;
+    let built = build_blocks(
+        blocks.first,
+        blocks.count,
+        sheet,
+        ws,
+        read.building,
+        returns,
+    );
+    let building = built.building;
+    building.lay_out(ws);
+    keep(ws, function.identifiers.count as usize);
+    Preparation::Ready(function, building)
+}
+
+// Reads a sheet and builds it: refusals 1 to 8, which leave the workspace as it was, or the sheet before its first mutation.
+pub fn prepare(sheet: &[u32], ws: &mut [u32]) -> Preparation
+    ensures { λ r. ⌜ Prepares (admit (now (sheet .entry)) (length (now (ws .entry)))) (now (sheet .entry)) (now (ws .entry)) (now (ws .exit)) r ⌝ }
+{
+    if ws.len() < LEAST {
+        return Preparation::Refused(1);
+    }
+    match reading::read(sheet) {
+        Verdict::Refused(k) => Preparation::Refused(k),
+        Verdict::Accepted(t) => {
+            let copies = (0 < t.diagnoses) | (0 < t.renders);
+            build(sheet, ws, copies)
+        }
+    }
 }
 
 // The sections of ranges, params and context.
-fn put_places(sheet: &[u32], ws: &[u32], f: HirFunction, answer: &mut [u32]) -> usize
+fn put_places(sheet: &[u32], ws: &[u32], f: HirFunction, answer: &mut [u32], at: usize) -> usize
     requires { ⌜ Limited f ⌝ }
     requires { ⌜ ((s : Sheet) × (Describes s (now sheet) f × Stands s (now sheet) (now ws))) ⌝ }
-    ensures { λ r. ⌜ PlacesPut (now (sheet .entry)) (now (ws .entry)) f (now (answer .entry)) (now (answer .exit)) r ⌝ }
+    requires { ⌜ at + mostPlaces ≤ farthest ⌝ }
+    ensures { λ r. ⌜ PlacesPut (now (sheet .entry)) (now (ws .entry)) f (now (answer .entry)) at (now (answer .exit)) r ⌝ }
 {
     let params = f.params as usize;
     let context = f.context as usize;
-    let a1 = put_ranges(sheet, f.identifiers, f.n, ws, answer, 0);
+    let a1 = put_ranges(sheet, f.identifiers, ws, answer, at);
     let a2 = put_marked(ws, 0, params, answer, a1);
     put_marked(ws, params, context, answer, a2)
 }
 
-// Runs the mutations, the renders and the simulated mutations, and writes the answer's sections; how long it is.
-fn put_answer(
+// Runs the mutations, the renders and the simulated mutations, and writes the answer's sections from `at` on; where the next word goes.
+pub fn put_answer(
     sheet: &[u32],
     ws: &mut [u32],
     f: HirFunction,
     b: Building,
     answer: &mut [u32],
+    at: usize,
 ) -> usize
     requires { ⌜ ((s : Sheet) × Prepared s (now sheet) (now ws) f b) ⌝ }
-    ensures { λ r. ⌜ AnswerPut (now (sheet .entry)) (now (ws .entry)) f b (now (answer .entry)) (now (ws .exit)) (now (answer .exit)) r ⌝ }
+    requires { ⌜ at + mostAnswer ≤ farthest ⌝ }
+    ensures { λ r. ⌜ AnswerPut (now (sheet .entry)) (now (ws .entry)) f b (now (answer .entry)) at (now (ws .exit)) (now (answer .exit)) r ⌝ }
 {
     let hand = process_mutations(ws, b.mutations, f.errors);
-    let a1 = put_places(sheet, ws, f, answer);
+    let a1 = put_places(sheet, ws, f, answer, at);
     let a2 = put_diagnostics(sheet, ws, f, b.renders, hand, answer, a1);
     let a3 = put_effects(sheet, ws, f, b.index(), answer, a2);
     put_walks(
@@ -99,39 +131,15 @@ fn put_answer(
 }
 
 // A refusal leaves both buffers all 0.
-fn refuse(workspace: &mut [u32], answer: &mut [u32], k: u32) -> Outcome
-    ensures { λ r. ⌜ Came (refusal k) (now (workspace .entry)) (now (answer .entry)) r (now (workspace .exit)) (now (answer .exit)) ⌝ }
+fn refuse(ws: &mut [u32], answer: &mut [u32], k: u32) -> Outcome
+    ensures { λ r. ⌜ Came (refusal k) (now (ws .entry)) (now (answer .entry)) r (now (ws .exit)) (now (answer .exit)) ⌝ }
 {
-    let words = workspace.len();
-    clear(workspace, 0, words);
-    let room = answer.len();
-    clear(answer, 0, room);
+    clear_from(ws, 0);
+    clear_from(answer, 0);
     Outcome::Refused(k)
 }
 
-// An accepted sheet: its answer, or 9 where the buffer is shorter. Unless `copies`, its instructions have no effect of kind 14 to 17.
-fn answer_sheet(sheet: &[u32], workspace: &mut [u32], answer: &mut [u32], copies: bool) -> Outcome
-    requires { ⌜ LEAST ≤ length (now workspace) ⌝ }
-    requires { ⌜ ((s : Sheet) × IsSheet (now sheet) s) ⌝ }
-    requires { ⌜ NoneUnless copies (now sheet) ⌝ }
-    ensures { λ r. ⌜ Answers (now (sheet .entry)) (now (workspace .entry)) (now (answer .entry)) r (now (workspace .exit)) (now (answer .exit)) ⌝ }
-{
-    let FunctionStep::Got(f, b) = build(sheet, workspace, copies) else {
-        return Outcome::Refused(0);
-    };
-    let length = put_answer(sheet, workspace, f, b, answer);
-    let lent = workspace.len();
-    clear(workspace, 0, lent);
-    let room = answer.len();
-    if room < length {
-        clear(answer, 0, room);
-        return Outcome::Refused(9);
-    }
-    clear(answer, length, room - length);
-    Outcome::Accepted(length)
-}
-
-// The whole call.
+// The whole call: the answer of an accepted sheet, or 9 where the buffer is shorter.
 pub fn infer_mutation_aliasing_ranges(
     sheet: &[u32],
     workspace: &mut [u32],
@@ -139,14 +147,16 @@ pub fn infer_mutation_aliasing_ranges(
 ) -> Outcome
     ensures { λ r. ⌜ Inferred (now (sheet .entry)) (now (workspace .entry)) (now (answer .entry)) r (now (workspace .exit)) (now (answer .exit)) ⌝ }
 {
-    if workspace.len() < LEAST {
-        return refuse(workspace, answer, 1);
-    }
-    match reading::read(sheet) {
-        Verdict::Refused(k) => refuse(workspace, answer, k),
-        Verdict::Accepted(t) => {
-            let copies = (0 < t.diagnoses) | (0 < t.renders);
-            answer_sheet(sheet, workspace, answer, copies)
+    match prepare(sheet, workspace) {
+        Preparation::Refused(k) => refuse(workspace, answer, k),
+        Preparation::Ready(f, b) => {
+            let length = put_answer(sheet, workspace, f, b, answer, 0);
+            if answer.len() < length {
+                return refuse(workspace, answer, 9);
+            }
+            clear_from(workspace, 0);
+            clear_from(answer, length);
+            Outcome::Accepted(length)
         }
     }
 }

@@ -9,14 +9,10 @@ use Rattle.model.specs.Lists.{pick, Every}
 use Rattle.model.specs.Sheet.{noPlace, EffectKind, Other, Return, MaybeThrow}
 use Rattle.model.specs.Effects.{kindOf, rowOf, isCreateFunction}
 use Rattle.model.specs.Ranges.{PlaceBelow}
-use Rattle.model.specs.Reading.{Read, _>>=_, word, atMost, below}
+use Rattle.model.specs.Reading.{word, atMost, below}
 use Rattle.model.specs.Sections.{place, unused, extra, effect, effects, instruction, terminalOf, terminal}
-use Rattle.model.proofs.ReadLaws.{Reads, pure-reads, pick-reads, any-reads, bind-reads, below-reads, counted-reads, atMost-reads}
+use Rattle.model.proofs.ReadLaws.{Reads, pure-reads, pick-reads, bind-reads, then-reads, below-reads, counted-reads, atMost-reads}
 use Rattle.instructions.specs.Ranges.{InRange, InstructionInRange, TerminalInRange}
-
--- a part of which nothing is asked
-pub then-reads : {A B : Type 0} (m : Read A) (f : A → Read B) (Q : B → Type 0) → ((a : A) → Reads (f a) Q) → Reads (m >>= f) Q
-then-reads {A} m f Q k = bind-reads m f (λ (a : A). Unit {0}) Q (any-reads m) (λ a u. k a)
 
 pub place-known : (n : ℕ) → n ≤ mostIdentifiers → Reads (place n) (PlaceBelow mostIdentifiers)
 unfolding place

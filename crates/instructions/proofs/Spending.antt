@@ -6,15 +6,17 @@ use mathlib.Core.List.{List, [], _∷_}
 use Rattle.model.specs.Lists.{tally}
 use Rattle.model.specs.Built.{Built}
 use Rattle.building.specs.declared.Building.{Building}
-use Rattle.building.specs.Built.{Sound}
+use Rattle.building.specs.Built.{builtOf, Sound}
+use Rattle.building.proofs.Stages.{steps-then}
 use Rattle.instructions.specs.Cost.{Cost, relationsOnly, sum, costs, Fits}
-use Rattle.instructions.specs.Builds.{Spends}
+use Rattle.instructions.specs.Builds.{SpendsOn, Spends}
 
 module _ {ws : List ℕ} {b : Building} where
   -- nothing is done
   pub spends-none : Sound ws b → Spends (λ (t : Built). t) (relationsOnly 0) ws b ws b
-  spends-none h = record {
+  spends-none h s = record {
     built = refl;
+    holding = λ x. x;
     sound = h;
     relations = omega arith;
     mutations = omega arith;
@@ -26,18 +28,23 @@ module _ {ws : List ℕ} {b : Building} where
   }
 
   -- one step after another
-  pub spends-then : {f g : Built → Built} (j k : Cost) {ws₁ ws₂ : List ℕ} {b₁ b₂ : Building}
-      → Spends f j ws b ws₁ b₁ → Spends g k ws₁ b₁ ws₂ b₂ → Spends (λ (t : Built). g (f t)) (sum j k) ws b ws₂ b₂
-  spends-then {f} {g} j k x y = record {
-    built = y .built ∙ ap g (x .built);
-    sound = y .sound;
-    relations = omega (arith, x .relations, y .relations);
-    mutations = omega (arith, x .mutations, y .mutations);
-    renders = omega (arith, x .renders, y .renders);
-    come = omega (arith, x .come, y .come);
-    low = y .low ∙ x .low;
-    high = y .high ∙ x .high;
-    same = y .same ∙ x .same;
+  pub spends-then : {s : List ℕ} {f g : Built → Built} (j k : Cost) {ws₁ ws₂ : List ℕ} {b₁ b₂ : Building}
+      → SpendsOn s f j ws b ws₁ b₁ → SpendsOn s g k ws₁ b₁ ws₂ b₂ → SpendsOn s (λ (t : Built). g (f t)) (sum j k) ws b ws₂ b₂
+  spends-then j k x y = steps-then (k .relations) (k .mutations) (k .renders) (k .blocks) x y
+
+  -- a step that is another
+  pub spends-as : {s : List ℕ} {f g : Built → Built} {k : Cost} {ws′ : List ℕ} {r : Building} → ((t : Built) → f t ≡ g t) → SpendsOn s f k ws b ws′ r → SpendsOn s g k ws b ws′ r
+  spends-as {s} e x = record {
+    built = x .built ∙ e (builtOf s ws b);
+    holding = x .holding;
+    sound = x .sound;
+    relations = x .relations;
+    mutations = x .mutations;
+    renders = x .renders;
+    come = x .come;
+    low = x .low;
+    high = x .high;
+    same = x .same;
   }
 
 -- there is room for a part of what there is room for
@@ -50,7 +57,7 @@ fits-first j k h = record {
 }
 
 -- and for the rest of it after that
-pub fits-second : {f : Built → Built} (j k : Cost) {ws ws′ : List ℕ} {b r : Building} → Fits (sum j k) b → Spends f j ws b ws′ r → Fits k r
+pub fits-second : {s : List ℕ} {f : Built → Built} (j k : Cost) {ws ws′ : List ℕ} {b r : Building} → Fits (sum j k) b → SpendsOn s f j ws b ws′ r → Fits k r
 fits-second j k h x = record {
   relations = omega (arith, h .relations, x .relations);
   mutations = omega (arith, h .mutations, x .mutations);

@@ -3,7 +3,7 @@ use Prim.Native.Nat.{ℕ, zero, suc, _+_, _≤_, _<_}
 use native.Mathlib.Omega.{arith}
 use mathlib.Core.Path.{_≡_, refl, sym, subst, ap, _∙_}
 use mathlib.Core.List.{List}
-use Rattle.model.specs.Limits.{mostIdentifiers, mostRelations}
+use Rattle.model.specs.Limits.{mostIdentifiers, mostRelations, placeWidth}
 use Rattle.model.specs.Lists.{each, Every, oneIf}
 use Rattle.model.specs.Sheet.{EvaluationOrder, Place, Effect, EffectList, Terminal, Other, Return, MaybeThrow}
 use Rattle.model.specs.Effects.{isAlias}
@@ -18,13 +18,13 @@ use Rattle.hir.specs.declared.at.List.{List as Listed}
 use Rattle.hir.specs.declared.at.Terminal.{Terminal as CodeTerminal}
 use Rattle.hir.specs.declared.at.Terminal.the-variants.{Other as IsOther, Return as IsReturn, MaybeThrow as IsMaybeThrow}
 use Rattle.hir.specs.Says.{placeIs}
-use Rattle.hir.specs.Words.{Part, wordAt, placeWidth, placeAt, several, effectsFrom, terminalOf, terminalFrom}
+use Rattle.hir.specs.Words.{Part, wordAt, placeAt, several, effectsFrom, terminalOf, terminalFrom}
 use Rattle.hir.specs.Parts.{TerminalAt}
 use Rattle.building.specs.declared.Building.{Building}
 use Rattle.instructions.specs.declared.Built.{Built as BuiltPart}
 use Rattle.instructions.specs.Cost.{Cost, relationsOnly, sum, costs, terminalEffectCost, terminalCost, Fits}
 use Rattle.instructions.specs.Ranges.{InRange, TerminalInRange}
-use Rattle.instructions.specs.Builds.{Spends, Ready, Builds}
+use Rattle.instructions.specs.Builds.{SpendsOn, Spends, Ready, Builds}
 use Rattle.instructions.proofs.Spending.{spends-none, spends-then, fits-second, cost-eq, costs-relations}
 use Rattle.instructions.proofs.Building.{ready-as, builds-as, list-ready, list-builds}
 use Rattle.instructions.proofs.Instruction.{oneEffect}
@@ -75,11 +75,11 @@ module _ (s : List ℕ) (c : Position) where
 
 -- ---- built, by what a match found
 module _ (s : List ℕ) (c : Position) {ws : List ℕ} {b : Building} (w : Ready (terminalFrom s c) TerminalInRange terminalCost s ws b) where
-  pub other-builds : (r : Place) {t : CodeTerminal} {d : Position} → t ≡ IsOther d → TerminalAt s c t → Builds (terminalFrom s c) (terminalStep r) terminalCost ws b ws (record { building = b; next = d })
+  pub other-builds : (r : Place) {t : CodeTerminal} {d : Position} → t ≡ IsOther d → TerminalAt s c t → Builds (terminalFrom s c) (terminalStep r) terminalCost s ws b ws (record { building = b; next = d })
   unfolding terminalStep terminalCost
   other-builds r {t} {d} q h =
       let k : TerminalAt s c (IsOther d) = subst (TerminalAt s c) q h in
-      builds-as (other-is s c (k .0)) (record { spends = spends-none (w .sound); next = k .1 })
+      builds-as (other-is s c (k .0)) (record { spends = spends-none (w .sound) s; next = k .1 })
 
   module _ {t : CodeTerminal} {l : Listed} (q : t ≡ IsMaybeThrow l) (h : TerminalAt s c t) where
     throw : TerminalAt s c (IsMaybeThrow l)
@@ -90,17 +90,18 @@ module _ (s : List ℕ) (c : Position) {ws : List ℕ} {b : Building} (w : Ready
         let v = ready-as (throw-is s c (throw .0)) w in
         list-ready oneEffect s (c + 2) (throw .1) (record {
           sound = v .sound;
+          holding = v .holding;
           inside = v .inside;
           range = v .range;
           fits = subst (λ (k : Cost). Fits k b) (throws-cost (wordAt s (c + 1)) (effectsFrom s (c + 2) .what)) (v .fits);
         })
 
-    pub throw-builds : (r : Place) {ws′ : List ℕ} {t : BuiltPart} → Builds (several (l .count) oneEffect s (l .first)) (each terminalEffect) (costs terminalEffectCost) ws b ws′ t → Builds (terminalFrom s c) (terminalStep r) terminalCost ws b ws′ t
+    pub throw-builds : (r : Place) {ws′ : List ℕ} {t : BuiltPart} → Builds (several (l .count) oneEffect s (l .first)) (each terminalEffect) (costs terminalEffectCost) s ws b ws′ t → Builds (terminalFrom s c) (terminalStep r) terminalCost s ws b ws′ t
     unfolding terminalStep
     throw-builds r {ws′} {t} g =
         let o = list-builds oneEffect s (c + 2) (throw .1) g in
         let e : EffectList = effectsFrom s (c + 2) .what in
-        builds-as (throw-is s c (throw .0)) (record { spends = subst (λ (k : Cost). Spends (each terminalEffect e) k ws b ws′ (t .building)) (sym (throws-cost (wordAt s (c + 1)) e)) (o .spends); next = o .next })
+        builds-as (throw-is s c (throw .0)) (record { spends = subst (λ (k : Cost). SpendsOn s (each terminalEffect e) k ws b ws′ (t .building)) (sym (throws-cost (wordAt s (c + 1)) e)) (o .spends); next = o .next })
 
   module _ {t : CodeTerminal} {v : CodePlace} {l : Listed} (q : t ≡ IsReturn v l) (h : TerminalAt s c t) where
     return : TerminalAt s c (IsReturn v l)
@@ -124,19 +125,20 @@ module _ (s : List ℕ) (c : Position) {ws : List ℕ} {b : Building} (w : Ready
     module _ (r : Place) {ws₁ : List ℕ} {b₁ : Building} (x : Spends (between (relate intoAliases) (placeIs v) r) (relationsOnly 1) ws b ws₁ b₁) where
       pub return-ready : Ready (several (l .count) oneEffect s (l .first)) (Every InRange) (costs terminalEffectCost) s ws₁ b₁
       return-ready = list-ready oneEffect s (c + 2 + placeWidth) (return .1 .1) (record {
-        sound = x .sound;
+        sound = x s .sound;
+        holding = x s .holding (w .holding);
         inside = returned .inside;
         range = returned .range .1;
-        fits = fits-second (relationsOnly 1) (costs terminalEffectCost behind) room x;
+        fits = fits-second (relationsOnly 1) (costs terminalEffectCost behind) room (x s);
       })
 
-      pub return-builds : {ws′ : List ℕ} {t : BuiltPart} → Builds (several (l .count) oneEffect s (l .first)) (each terminalEffect) (costs terminalEffectCost) ws₁ b₁ ws′ t → Builds (terminalFrom s c) (terminalStep r) terminalCost ws b ws′ t
+      pub return-builds : {ws′ : List ℕ} {t : BuiltPart} → Builds (several (l .count) oneEffect s (l .first)) (each terminalEffect) (costs terminalEffectCost) s ws₁ b₁ ws′ t → Builds (terminalFrom s c) (terminalStep r) terminalCost s ws b ws′ t
       unfolding terminalStep
       return-builds {ws′} {t} g =
           let o = list-builds oneEffect s (c + 2 + placeWidth) (return .1 .1) g in
           let y = subst (λ (p : Place). Spends (between (relate intoAliases) p r) (relationsOnly 1) ws b ws₁ b₁) (return .1 .0) x in
-          let z = spends-then (relationsOnly 1) (costs terminalEffectCost behind) y (o .spends) in
+          let z = spends-then (relationsOnly 1) (costs terminalEffectCost behind) (y s) (o .spends) in
           builds-as (return-is s c (return .0)) (record {
-            spends = subst (λ (k : Cost). Spends (terminalStep r (returnFrom s c .what)) k ws b ws′ (t .building)) (sym (returns-cost (wordAt s (c + 1)) (placeAt s (c + 2)) behind)) z;
+            spends = subst (λ (k : Cost). SpendsOn s (terminalStep r (returnFrom s c .what)) k ws b ws′ (t .building)) (sym (returns-cost (wordAt s (c + 1)) (placeAt s (c + 2)) behind)) z;
             next = o .next;
           })

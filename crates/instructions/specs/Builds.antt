@@ -8,7 +8,7 @@ use Rattle.model.specs.Built.{Built}
 use Rattle.model.specs.Building.{instructionEffect}
 use Rattle.hir.specs.Words.{Part}
 use Rattle.building.specs.declared.Building.{Building}
-use Rattle.building.specs.Built.{Sound, Steps}
+use Rattle.building.specs.Built.{Sound, Holding, StepsOn, Steps}
 use Rattle.instructions.specs.declared.Built.{Built as BuiltPart}
 use Rattle.instructions.specs.Cost.{Cost, Fits}
 
@@ -16,7 +16,11 @@ use Rattle.instructions.specs.Cost.{Cost, Fits}
 abbrev pub effectStep : EvaluationOrder → Effect → Built → Built
 effectStep o e = instructionEffect (e .kind) o e
 
--- a step of the definition that spends so much
+-- a step of the definition on the sheet s that spends so much
+abbrev pub SpendsOn : List ℕ → (Built → Built) → Cost → List ℕ → Building → List ℕ → Building → Type 0
+SpendsOn s f k ws b ws′ r = StepsOn s f (k .relations) (k .mutations) (k .renders) (k .blocks) ws b ws′ r
+
+-- the same on every sheet
 abbrev pub Spends : (Built → Built) → Cost → List ℕ → Building → List ℕ → Building → Type 0
 Spends f k ws b ws′ r = Steps f (k .relations) (k .mutations) (k .renders) (k .blocks) ws b ws′ r
 
@@ -29,11 +33,12 @@ pub record Buildable {A : Type 0} (x : A) (inRange : A → Type 0) (cost : A →
 -- so can a part of the sheet s, whose words the sheet has
 pub record Ready {A : Type 0} (part : Part A) (inRange : A → Type 0) (cost : A → Cost) (s ws : List ℕ) (b : Building) : Type 0 where
   pub sound : Sound ws b
+  pub holding : Holding s ws b
   pub inside : part .next ≤ length s
   pub range : inRange (part .what)
   pub fits : Fits (cost (part .what)) b
 
 -- the part is built, and the reading goes on after it
-pub record Builds {A : Type 0} (part : Part A) (step : A → Built → Built) (cost : A → Cost) (ws : List ℕ) (b : Building) (ws′ : List ℕ) (r : BuiltPart) : Type 0 where
-  pub spends : Spends (step (part .what)) (cost (part .what)) ws b ws′ (r .building)
+pub record Builds {A : Type 0} (part : Part A) (step : A → Built → Built) (cost : A → Cost) (s ws : List ℕ) (b : Building) (ws′ : List ℕ) (r : BuiltPart) : Type 0 where
+  pub spends : SpendsOn s (step (part .what)) (cost (part .what)) ws b ws′ (r .building)
   pub next : r .next ≡ part .next

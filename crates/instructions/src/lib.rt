@@ -13,7 +13,8 @@ use hir::at::list_at;
 ghost use Rattle.model.specs.Lists.{each, Every};
 ghost use Rattle.model.specs.Building.{instruction as instructionStep};
 ghost use Rattle.hir.specs.Says.{effectIs};
-ghost use Rattle.hir.specs.Words.{effectWidth, wide, effectAt, several, instructionFrom, instructionsFrom};
+ghost use Rattle.hir.specs.Words.{wide, effectAt, several, instructionFrom, instructionsFrom};
+ghost use Rattle.model.specs.Limits.{effectWidth};
 ghost use Rattle.instructions.specs.Cost.{costs, effectCost, instructionCost};
 ghost use Rattle.instructions.specs.Ranges.{InRange, InstructionInRange};
 ghost use Rattle.instructions.specs.Builds.{effectStep, Spends, Buildable, Ready, Builds};
@@ -69,7 +70,7 @@ fn build_effects(
     b: Building,
 ) -> Built
     requires { ⌜ Ready (several (list .count) (wide effectWidth effectAt) (now s) (list .first)) (Every InRange) (costs effectCost) (now s) (now ws) b ⌝ }
-    ensures { λ r. ⌜ Builds (several (list .count) (wide effectWidth effectAt) (now (s .entry)) (list .first)) (each (effectStep (order .0))) (costs effectCost) (now (ws .entry)) b (now (ws .exit)) r ⌝ }
+    ensures { λ r. ⌜ Builds (several (list .count) (wide effectWidth effectAt) (now (s .entry)) (list .first)) (each (effectStep (order .0))) (costs effectCost) (now (s .entry)) (now (ws .entry)) b (now (ws .exit)) r ⌝ }
 {
     let mut left = list.count;
     let mut next = list.first;
@@ -86,7 +87,7 @@ fn build_effects(
 // An instruction: its effects.
 fn build_instruction(at: usize, s: &[u32], ws: &mut [u32], b: Building) -> Built
     requires { ⌜ Ready (instructionFrom (now s) at) InstructionInRange instructionCost (now s) (now ws) b ⌝ }
-    ensures { λ r. ⌜ Builds (instructionFrom (now (s .entry)) at) instructionStep instructionCost (now (ws .entry)) b (now (ws .exit)) r ⌝ }
+    ensures { λ r. ⌜ Builds (instructionFrom (now (s .entry)) at) instructionStep instructionCost (now (s .entry)) (now (ws .entry)) b (now (ws .exit)) r ⌝ }
 {
     let i = instruction_at(s, at);
     build_effects(i.effects, s, i.order, ws, b)
@@ -95,7 +96,7 @@ fn build_instruction(at: usize, s: &[u32], ws: &mut [u32], b: Building) -> Built
 // A block's instructions.
 pub fn build_instructions(at: usize, s: &[u32], ws: &mut [u32], b: Building) -> Built
     requires { ⌜ Ready (instructionsFrom (now s) at) (Every InstructionInRange) (costs instructionCost) (now s) (now ws) b ⌝ }
-    ensures { λ r. ⌜ Builds (instructionsFrom (now (s .entry)) at) (each instructionStep) (costs instructionCost) (now (ws .entry)) b (now (ws .exit)) r ⌝ }
+    ensures { λ r. ⌜ Builds (instructionsFrom (now (s .entry)) at) (each instructionStep) (costs instructionCost) (now (s .entry)) (now (ws .entry)) b (now (ws .exit)) r ⌝ }
 {
     let list = list_at(s, at);
     let mut left = list.count;

@@ -10,11 +10,11 @@ use hir::at::Terminal;
 use hir::at::effect_at;
 use hir::at::terminal_at;
 ghost use Rattle.model.specs.Lists.{each, Every};
-ghost use Rattle.model.specs.Limits.{mostIdentifiers};
+ghost use Rattle.model.specs.Limits.{mostIdentifiers, effectWidth};
 ghost use Rattle.model.specs.Ranges.{PlaceBelow};
 ghost use Rattle.model.specs.Building.{terminalEffect, terminal as terminalStep};
 ghost use Rattle.hir.specs.Says.{placeIs, effectIs};
-ghost use Rattle.hir.specs.Words.{effectWidth, wide, effectAt, several, terminalFrom};
+ghost use Rattle.hir.specs.Words.{wide, effectAt, several, terminalFrom};
 ghost use Rattle.instructions.specs.Cost.{costs, terminalEffectCost, terminalCost};
 ghost use Rattle.instructions.specs.Ranges.{InRange, TerminalInRange};
 ghost use Rattle.instructions.specs.Builds.{Spends, Buildable, Ready, Builds};
@@ -33,7 +33,7 @@ fn build_terminal_effect(e: AliasingEffect, ws: &mut [u32], b: Building) -> Buil
 // The effects of a terminal.
 fn build_terminal_effects(list: List, s: &[u32], ws: &mut [u32], b: Building) -> Built
     requires { ⌜ Ready (several (list .count) (wide effectWidth effectAt) (now s) (list .first)) (Every InRange) (costs terminalEffectCost) (now s) (now ws) b ⌝ }
-    ensures { λ r. ⌜ Builds (several (list .count) (wide effectWidth effectAt) (now (s .entry)) (list .first)) (each terminalEffect) (costs terminalEffectCost) (now (ws .entry)) b (now (ws .exit)) r ⌝ }
+    ensures { λ r. ⌜ Builds (several (list .count) (wide effectWidth effectAt) (now (s .entry)) (list .first)) (each terminalEffect) (costs terminalEffectCost) (now (s .entry)) (now (ws .entry)) b (now (ws .exit)) r ⌝ }
 {
     let mut left = list.count;
     let mut next = list.first;
@@ -51,7 +51,7 @@ fn build_terminal_effects(list: List, s: &[u32], ws: &mut [u32], b: Building) ->
 pub fn build_terminal(at: usize, s: &[u32], ws: &mut [u32], b: Building, returns: Place) -> Built
     requires { ⌜ PlaceBelow mostIdentifiers (placeIs returns) ⌝ }
     requires { ⌜ Ready (terminalFrom (now s) at) TerminalInRange terminalCost (now s) (now ws) b ⌝ }
-    ensures { λ r. ⌜ Builds (terminalFrom (now (s .entry)) at) (terminalStep (placeIs returns)) terminalCost (now (ws .entry)) b (now (ws .exit)) r ⌝ }
+    ensures { λ r. ⌜ Builds (terminalFrom (now (s .entry)) at) (terminalStep (placeIs returns)) terminalCost (now (s .entry)) (now (ws .entry)) b (now (ws .exit)) r ⌝ }
 {
     match terminal_at(s, at) {
         Terminal::Other(next) => Built { building: b, next },

@@ -24,6 +24,7 @@ pub mod Counted
 pub mod Indexes
 -- renders
 pub mod RenderBound
+pub mod Gathers
 pub mod Handed
 -- reading
 pub mod Either

@@ -17,6 +17,10 @@ several ps = length ps ∷ joined ps
 abbrev pub place : ℕ → List ℕ
 place x = x ∷ 0 ∷ 0 ∷ []
 
+-- a place by its three words
+abbrev pub placed : ℕ → ℕ → ℕ → List ℕ
+placed x traits span = x ∷ traits ∷ span ∷ []
+
 -- a place with the Capture mark
 abbrev pub mark : ℕ → List ℕ
 mark x = x ∷ 3 ∷ 0 ∷ []
@@ -41,9 +45,29 @@ operand b x = b ∷ place x
 abbrev pub phi : ℕ → List (List ℕ) → List ℕ
 phi x os = place x ++ several os
 
+-- an instruction of order o with these effects
+abbrev pub instruction : ℕ → List (List ℕ) → List ℕ
+instruction o es = o ∷ several es
+
+-- a terminal of order o
+abbrev pub other : ℕ → List ℕ
+other o = 0 ∷ o ∷ []
+
+-- Return of the place p, with these effects
+abbrev pub returning : ℕ → List ℕ → List (List ℕ) → List ℕ
+returning o p es = 1 ∷ o ∷ (p ++ several es)
+
+-- MaybeThrow with these effects
+abbrev pub throwing : ℕ → List (List ℕ) → List ℕ
+throwing o es = 2 ∷ o ∷ several es
+
+-- block b with phis, instructions and a terminal
+abbrev pub blockOf : ℕ → List (List ℕ) → List (List ℕ) → List ℕ → List ℕ
+blockOf b phis is t = b ∷ (several phis ++ (several is ++ t))
+
 -- block b with phis and one instruction of order 1 with these effects
 abbrev pub block : ℕ → List (List ℕ) → List (List ℕ) → List ℕ
-block b phis es = b ∷ (several phis ++ (1 ∷ 1 ∷ (several es ++ (0 ∷ 0 ∷ []))))
+block b phis es = blockOf b phis (instruction 1 es ∷ []) (other 0)
 
 -- function expression e and validations v
 abbrev pub flags : ℕ → ℕ → List ℕ
@@ -53,21 +77,33 @@ flags e v = 2 ∷ e ∷ v ∷ []
 abbrev pub identifiers : ℕ → List ℕ
 identifiers n = n ∷ replicate (3 * n) 0
 
+-- an identifier by its start, its end and its type
+abbrev pub identifier : ℕ → ℕ → ℕ → List ℕ
+identifier start end type = start ∷ end ∷ type ∷ []
+
 -- inner functions, each by its diagnostics
 abbrev pub functions : List (List ℕ) → List ℕ
 functions ds = several (map (λ (l : List ℕ). length l ∷ l) ds)
 
--- parameters or context
-abbrev pub places : List ℕ → List ℕ
-places xs = several (map place xs)
+-- flags, identifiers, inner functions, parameters, context, returns, then the blocks
+abbrev pub wholeOf : List ℕ → List ℕ → List (List ℕ) → List (List ℕ) → List (List ℕ) → List ℕ → List (List ℕ) → List ℕ
+wholeOf fs ids ds ps cs r bs = joined (fs ∷ ids ∷ functions ds ∷ several ps ∷ several cs ∷ several (r ∷ []) ∷ several bs ∷ [])
 
--- flags, n identifiers, inner functions, parameters, context, returns r, then the blocks
+-- the same with n identifiers of zeros, and places with no traits and no span
 abbrev pub whole : List ℕ → ℕ → List (List ℕ) → List ℕ → List ℕ → ℕ → List (List ℕ) → List ℕ
-whole fs n ds ps cs r bs = joined (fs ∷ identifiers n ∷ functions ds ∷ places ps ∷ places cs ∷ places (r ∷ []) ∷ several bs ∷ [])
+whole fs n ds ps cs r bs = wholeOf fs (identifiers n) ds (map place ps) (map place cs) (place r) bs
 
 -- the same with flags 0 and 1, no inner function and no context
 abbrev pub sheet : ℕ → List ℕ → ℕ → List (List ℕ) → List ℕ
 sheet n ps r bs = whole (flags 0 1) n [] ps [] r bs
+
+-- a range by its start and its end
+abbrev pub range : ℕ → ℕ → List ℕ
+range start end = start ∷ end ∷ []
+
+-- an answer: ranges, params, context, diagnostics, effects, walks
+abbrev pub answered : List (List ℕ) → List (List ℕ) → List (List ℕ) → List ℕ → List (List ℕ) → List ℕ → List ℕ
+answered rs ps cs ds es ws = joined (several rs ∷ several ps ∷ several cs ∷ (length ds ∷ ds) ∷ several es ∷ (length ws ∷ ws) ∷ [])
 
 -- a row of a table
 abbrev pub case : List ℕ → Claim → Case

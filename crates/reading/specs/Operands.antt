@@ -5,7 +5,7 @@ use mathlib.Core.List.{List, [], _∷_}
 use lib.ListN.{getD}
 use Rattle.model.specs.Sheet.{BlockId}
 use Rattle.model.specs.Reading.{Position}
-use Rattle.hir.specs.Words.{operandWidth}
+use Rattle.model.specs.Limits.{operandWidth}
 
 -- whole operands stand from a position up to another
 abbrev pub Whole : Position → Position → Type 0

@@ -15,7 +15,8 @@ use Rattle.workspace.specs.Layout.{VALUE, QUEUE}
 use Rattle.workspace.specs.Rows.{rowsOf, value, rowF, rowB, Good}
 use Rattle.workspace.specs.Graph.{entryRow, ownNode}
 use Rattle.workspace.proofs.Rows.{rows-length}
-use Rattle.aliasing.specs.Pushes.{entryW, entriesW, Pushed, Room, wordsF, wordsB, deg}
+use Rattle.aliasing.specs.Pushes.{entryW, entriesW, Room, wordsF, wordsB, deg}
+use Rattle.writing.specs.Wrote.{Wrote}
 use Rattle.aliasing.proofs.Sizes.{deg-is, list-le}
 use Rattle.aliasing.proofs.PushLaws.{room-then, room-less, pushed-on}
 use Rattle.renders.specs.Renders.{originsW, placesOf}
@@ -77,14 +78,14 @@ module _ (ws : List ℕ) (top x index : ℕ) (room : Room ws top (deg (rowsOf ws
   pub room-created : Room ws top (wordsB (rowsOf ws) (4 * x))
   room-created = room-less _ _ (omega (arith, is)) room
 
-  module _ (ws₁ : List ℕ) (t₁ : ℕ) (p₁ : Pushed ws top (entriesW index 0 0 (rowB (rowsOf ws) (4 * x))) ws₁ t₁) where
+  module _ (ws₁ : List ℕ) (t₁ : ℕ) (p₁ : Wrote (entriesW index 0 0 (rowB (rowsOf ws) (4 * x))) ws top ws₁ t₁) where
     pub room-aliases : Room ws₁ t₁ (wordsB (rowsOf ws₁) (4 * x + 1))
     room-aliases =
         room-then (λ g. wordsB g (4 * x + 1)) (wordsB (rowsOf ws) (4 * x)) (room-less _ _ (omega (arith, is)) room) p₁
         (list-le (rowsOf ws) size (room .good) index 0 0 (4 * x) (omega arith))
 
-    module _ (ws₂ : List ℕ) (t₂ : ℕ) (p₂ : Pushed ws₁ t₁ (entriesW index 0 0 (rowB (rowsOf ws₁) (4 * x + 1))) ws₂ t₂) where
-      two : Pushed ws top (entriesW index 0 0 (rowB (rowsOf ws) (4 * x)) ++ entriesW index 0 0 (rowB (rowsOf ws) (4 * x + 1))) ws₂ t₂
+    module _ (ws₂ : List ℕ) (t₂ : ℕ) (p₂ : Wrote (entriesW index 0 0 (rowB (rowsOf ws₁) (4 * x + 1))) ws₁ t₁ ws₂ t₂) where
+      two : Wrote (entriesW index 0 0 (rowB (rowsOf ws) (4 * x)) ++ entriesW index 0 0 (rowB (rowsOf ws) (4 * x + 1))) ws top ws₂ t₂
       two = pushed-on (λ g. entriesW index 0 0 (rowB g (4 * x + 1))) (room .low) p₁ p₂
 
       pub room-captures : Room ws₂ t₂ (wordsB (rowsOf ws₂) (4 * x + 3))
@@ -97,9 +98,9 @@ module _ (ws : List ℕ) (top x index : ℕ) (room : Room ws top (deg (rowsOf ws
             length-append (entriesW index 0 0 (rowB (rowsOf ws) (4 * x))) (entriesW index 0 0 (rowB (rowsOf ws) (4 * x + 1))),
           ))
 
-      pub all-pushed : (ws₃ : List ℕ) (t₃ : ℕ) → Pushed ws₂ t₂ (entriesW index 0 0 (rowB (rowsOf ws₂) (4 * x + 3))) ws₃ t₃ → Pushed ws top (originsW (rowsOf ws) x index) ws₃ t₃
+      pub all-pushed : (ws₃ : List ℕ) (t₃ : ℕ) → Wrote (entriesW index 0 0 (rowB (rowsOf ws₂) (4 * x + 3))) ws₂ t₂ ws₃ t₃ → Wrote (originsW (rowsOf ws) x index) ws top ws₃ t₃
       unfolding originsW
       all-pushed ws₃ t₃ p₃ =
-          subst (λ (vs : List ℕ). Pushed ws top vs ws₃ t₃)
+          subst (λ (vs : List ℕ). Wrote vs ws top ws₃ t₃)
           (append-assoc (entriesW index 0 0 (rowB (rowsOf ws) (4 * x))) (entriesW index 0 0 (rowB (rowsOf ws) (4 * x + 1))) (entriesW index 0 0 (rowB (rowsOf ws) (4 * x + 3))))
           (pushed-on (λ g. entriesW index 0 0 (rowB g (4 * x + 3))) (room .low) two p₃)

@@ -18,7 +18,8 @@ use Rattle.workspace.specs.Rows.{rowsOf, value, rowF, rowB, Good, Kept}
 use Rattle.workspace.specs.Graph.{valueOf, ownNode, graphOfRows}
 use Rattle.workspace.proofs.Rows.{value-at, rows-length}
 use Rattle.workspace.proofs.Parts.{drop-more}
-use Rattle.aliasing.specs.Pushes.{Pushed, Room, deg}
+use Rattle.aliasing.specs.Pushes.{Room, deg}
+use Rattle.writing.specs.Wrote.{Wrote}
 use Rattle.aliasing.proofs.PushLaws.{pushed-part, pushed-kept}
 use Rattle.aliasing.specs.State.{nodesOf, seenOf, recordsOf, endsOf, stateOf}
 use Rattle.aliasing.specs.Accepts.{functionW}
@@ -155,7 +156,7 @@ module _ (index : ℕ) (ws : List ℕ) (top hand : ℕ) (ready : Ready ws top ha
       }
 
     -- ---- rendered: the function handed over, the entries pushed
-    module _ (wsH : List ℕ) (h : ℕ) (ph : Pushed marked hand (functionW (getD marked (VALUE + placeAt ws top) 0)) wsH h) where
+    module _ (wsH : List ℕ) (h : ℕ) (ph : Wrote (functionW (getD marked (VALUE + placeAt ws top) 0)) marked hand wsH h) where
       hand-room : h + unseen (set (seenOf ws) (placeAt ws top) 1) ≤ MUTATIONS
       hand-room = omega (arith, ph .next, function-one (getD marked (VALUE + placeAt ws top) 0), ready .room, fewer)
 
@@ -177,12 +178,12 @@ module _ (index : ℕ) (ws : List ℕ) (top hand : ℕ) (ready : Ready ws top ha
       }
 
       module _ (passed : passesW (getD marked (VALUE + placeAt ws top) 0) (getD marked (RECORD + placeAt ws top) 0) ≡ false)
-          (ws₂ : List ℕ) (r : ℕ) (p : Pushed wsH (top - 1) (originsW (rowsOf wsH) (placeAt ws top) index) ws₂ r) where
+          (ws₂ : List ℕ) (r : ℕ) (p : Wrote (originsW (rowsOf wsH) (placeAt ws top) index) wsH (top - 1) ws₂ r) where
         abbrev pushed : List ℕ
         pushed = originsW (rowsOf ws) (placeAt ws top) index
 
-        p′ : Pushed wsH (top - 1) pushed ws₂ r
-        p′ = subst (λ (g : List ℕ). Pushed wsH (top - 1) (originsW g (placeAt ws top) index) ws₂ r) rows₁ p
+        p′ : Wrote pushed wsH (top - 1) ws₂ r
+        p′ = subst (λ (g : List ℕ). Wrote (originsW g (placeAt ws top) index) wsH (top - 1) ws₂ r) rows₁ p
 
         few : length pushed ≤ deg (rowsOf ws) (placeAt ws top)
         few = origins-le (rowsOf ws) (rows-length ws (ready .size)) (ready .good) (placeAt ws top) index x-below

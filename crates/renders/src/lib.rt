@@ -4,7 +4,8 @@ ghost use Prim.Native.Nat.{_<_};
 ghost use Rattle.model.specs.Limits.{mostIdentifiers};
 ghost use Rattle.workspace.specs.Layout.{QUEUE};
 ghost use Rattle.workspace.specs.Rows.{Indexed, rowsOf};
-ghost use Rattle.aliasing.specs.Pushes.{Pushed, Room, deg};
+ghost use Rattle.aliasing.specs.Pushes.{Room, deg};
+ghost use Rattle.writing.specs.Wrote.{Wrote};
 ghost use Rattle.renders.specs.Renders.{passesW, originsW, Ready, Stepped, Walked, Rendered};
 use aliasing::StepLeft;
 use aliasing::Taken;
@@ -36,7 +37,7 @@ fn passes_by(v: u32, w: u32) -> bool
 fn push_origins(ws: &mut [u32], x: usize, index: u32, top: usize) -> usize
     requires { ⌜ Room (now ws) top (deg (rowsOf (now ws)) x) ⌝ }
     requires { ⌜ x < mostIdentifiers ⌝ }
-    ensures { λ r. ⌜ Pushed (now (ws .entry)) top (originsW (rowsOf (now (ws .entry))) x index) (now (ws .exit)) r ⌝ }
+    ensures { λ r. ⌜ Wrote (originsW (rowsOf (now (ws .entry))) x index) (now (ws .entry)) top (now (ws .exit)) r ⌝ }
 {
     let a = push_list(ws, 4 * x, index, 0, 0, top);
     let b = push_list(ws, 4 * x + ALIASES as usize, index, 0, 0, a);

@@ -1,10 +1,10 @@
 -- The records of a place as effects.
-use Prim.Native.Nat.{ℕ, zero, suc, _+_, _/_, _%_, _≤_, _<_}
+use Prim.Native.Nat.{ℕ, zero, suc, _+_, _/_, _%_, _≤_, _<_, _*_}
 use native.Mathlib.Omega.{arith}
 use mathlib.Core.Path.{_≡_, refl, sym, ap, _∙_}
 use mathlib.Core.List.{List, [], _∷_, _++_, append-nil}
 use lib.ListN.{length, getD, drop, length-append}
-use Rattle.model.specs.Limits.{mostIdentifiers}
+use Rattle.model.specs.Limits.{mostIdentifiers, effectWidth}
 use Rattle.model.specs.Lists.{gather}
 use Rattle.model.specs.Sheet.{Place, noPlace, EffectKind, Mutate, MutateConditionally, MutateTransitive, MutateTransitiveConditionally, Effect}
 use Rattle.model.specs.Mutation.{reasonOf}
@@ -16,7 +16,7 @@ use Rattle.workspace.specs.Graph.{tab}
 use Rattle.aliasing.specs.State.{infoOf, recordIn, stateOf}
 use Rattle.writing.specs.Wrote.{Wrote}
 use Rattle.writing.proofs.Writing.{wrote-then, wrote-as}
-use Rattle.copies.proofs.Gathers.{gather-append, gather-gather}
+use Rattle.model.proofs.Gathers.{gather-append, gather-gather}
 use Rattle.copies.proofs.Sections.{effects-length}
 use Rattle.copies.proofs.Loops.{Leaves, leaves-all, table-turn, table-end}
 use Rattle.summary.specs.Records.{Holds, levelEffects, Collected}
@@ -47,10 +47,10 @@ level-most (suc zero) c d x p = omega arith
 level-most (suc (suc k)) c d x p = omega arith
 
 -- at most eight words
-level-length : (k : ℕ) (c d : EffectKind) (x : ℕ) (p : Place) → length (gather effectWords (levelEffects k c d x p)) ≤ 8
+level-length : (k : ℕ) (c d : EffectKind) (x : ℕ) (p : Place) → length (gather effectWords (levelEffects k c d x p)) ≤ effectWidth
 level-length k c d x p = omega (arith, effects-length (levelEffects k c d x p), level-most k c d x p)
 
-pub level-wrote : (k : ℕ) (c d : EffectKind) (x : ℕ) (p : Place) {a : List ℕ} {at : ℕ} {a′ : List ℕ} {at′ : ℕ} → Wrote (gather effectWords (levelEffects k c d x p)) a at a′ at′ → at′ ≤ at + 8
+pub level-wrote : (k : ℕ) (c d : EffectKind) (x : ℕ) (p : Place) {a : List ℕ} {at : ℕ} {a′ : List ℕ} {at′ : ℕ} → Wrote (gather effectWords (levelEffects k c d x p)) a at a′ at′ → at′ ≤ at + effectWidth
 level-wrote k c d x p w = omega (arith, w .next, level-length k c d x p)
 
 -- which of the three cases it is
@@ -107,7 +107,7 @@ module _ (ws : List ℕ) (p : Place) (b : p .identifier < mostIdentifiers) where
       ∙ ap (gather effectWords) (sym (collect-words t h) ∙ sym (append-nil (collectParamEffects t p))))
 
   -- at most sixteen words
-  pub collect-length : (t : State) → Holds ws t → length (gather effectWords (collectParamEffects t p)) ≤ 16
+  pub collect-length : (t : State) → Holds ws t → length (gather effectWords (collectParamEffects t p)) ≤ 2 * effectWidth
   collect-length t h =
       let l : List Effect = levelEffects (word % 4) MutateConditionally Mutate (reasonWord (reasonOf (word / 16 % 2))) (withSpan p (getD ws (LSPAN + x) 0)) in
       let r : List Effect = levelEffects (word / 4 % 4) MutateTransitiveConditionally MutateTransitive 0 (withSpan p (getD ws (TSPAN + x) 0)) in
@@ -122,7 +122,7 @@ module _ (ws : List ℕ) (p : Place) (b : p .identifier < mostIdentifiers) where
       )
 
   -- the bound on where the next word goes, in any case
-  pub collected-most : {a : List ℕ} {at : ℕ} {a′ : List ℕ} {at′ : ℕ} → Collected ws (p ∷ []) a at a′ at′ → at′ ≤ at + 16
+  pub collected-most : {a : List ℕ} {at : ℕ} {a′ : List ℕ} {at′ : ℕ} → Collected ws (p ∷ []) a at a′ at′ → at′ ≤ at + 2 * effectWidth
   collected-most {a} {at} {a′} {at′} v =
       let s : State = stateOf ws 0 in
       let e : length (gather effectWords (collectParamEffects s p ++ [])) ≡ length (gather effectWords (collectParamEffects s p)) =

@@ -11,7 +11,7 @@ use Rattle.workspace.proofs.Tables.{tab-length}
 use Rattle.aliasing.specs.Pending.{takenOf}
 use Rattle.writing.specs.Wrote.{Wrote}
 use Rattle.writing.proofs.Writing.{wrote-then, wrote-as}
-use Rattle.copies.proofs.Gathers.{gather-append}
+use Rattle.model.proofs.Gathers.{gather-append}
 use Rattle.copies.proofs.Lengths.{gather-length}
 use Rattle.summary.specs.Sections.{simulatedOf}
 

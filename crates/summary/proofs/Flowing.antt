@@ -7,7 +7,7 @@ use mathlib.Core.List.{List, [], _∷_, append-nil}
 use lib.ListN.{length, drop, getD}
 use lib.Dec.{eqb}
 use borrow.Author.Tests.{eq-eqb, ne-eqb}
-use Rattle.model.specs.Limits.{mostIdentifiers}
+use Rattle.model.specs.Limits.{mostIdentifiers, effectWidth}
 use Rattle.model.specs.Lists.{pick, gather}
 use Rattle.model.specs.Sheet.{Place, EffectKind, Alias, Capture, Effect}
 use Rattle.model.specs.State.{Record, State}
@@ -18,7 +18,7 @@ use Rattle.workspace.specs.Graph.{tab}
 use Rattle.aliasing.specs.State.{stateOf}
 use Rattle.writing.specs.Wrote.{Wrote}
 use Rattle.writing.proofs.Writing.{wrote-as, wrote-none}
-use Rattle.copies.proofs.Gathers.{gather-gather}
+use Rattle.model.proofs.Gathers.{gather-gather}
 use Rattle.copies.proofs.Loops.{Leaves, leaves-all, table-turn, table-end}
 use Rattle.summary.specs.Records.{Holds}
 use Rattle.workspace.specs.Tracked.{trackedAt, trackedOf}
@@ -30,7 +30,7 @@ abbrev pub flowOf : Place → ℕ → Place → State → Place → List Effect
 flowOf r i into t from = pick (flows r i into t from) (flowEffect r into from ∷ []) []
 
 -- at most one effect
-pub pick-most : (x : Bool) (e : Effect) → length (gather effectWords (pick x (e ∷ []) [])) ≤ 8
+pub pick-most : (x : Bool) (e : Effect) → length (gather effectWords (pick x (e ∷ []) [])) ≤ effectWidth
 pick-most true e = omega arith
 pick-most false e = omega arith
 
@@ -79,7 +79,7 @@ module _ (ws : List ℕ) (from into : Place) (index returns : ℕ) (b : from .id
       ∙ ap (λ (x : Bool). gather effectWords (pick x (flowEffect r into from ∷ []) [])) (sym f))
 
   -- at most eight words, in any case
-  pub flow-most : {a : List ℕ} {at : ℕ} {a′ : List ℕ} {at′ : ℕ} → Flow ws from into index returns a at a′ at′ → at′ ≤ at + 8
+  pub flow-most : {a : List ℕ} {at : ℕ} {a′ : List ℕ} {at′ : ℕ} → Flow ws from into index returns a at a′ at′ → at′ ≤ at + effectWidth
   flow-most {a} {at} {a′} {at′} v =
       let r : Place = record { identifier = returns; effect = 0; reactive = false; span = 0 } in
       omega (arith, v r (stateOf ws 0) (held ws 0) refl .next, pick-most (flows r index into (stateOf ws 0) from) (flowEffect r into from))

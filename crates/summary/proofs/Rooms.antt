@@ -5,16 +5,15 @@ use native.Mathlib.Nat.{mul-suc}
 use mathlib.Core.Path.{_≡_, refl, ap, _∙_}
 use mathlib.Core.List.{List, [], _∷_, _++_, map, append-nil}
 use lib.ListN.{length, length-append}
-use Rattle.model.specs.Limits.{mostIdentifiers}
+use Rattle.model.specs.Limits.{mostIdentifiers, identifierWidth, placeWidth, effectWidth}
 use Rattle.model.specs.Lists.{pick, gather}
-use Rattle.model.specs.Sheet.{Identifier, Place, Effect, Sheet}
-use Rattle.model.specs.Reading.{Position, got, times}
-use Rattle.model.specs.Sections.{identifier}
+use Rattle.model.specs.Sheet.{Place, Effect, Sheet}
 use Rattle.model.specs.State.{State}
 use Rattle.model.specs.Summary.{marked, collectParamEffects}
 use Rattle.model.specs.Simulated.{tracked, flows, flowEffect, flowEffects}
 use Rattle.model.specs.Answer.{Range, rangesOf, rangeWords, placeWords, effectWords, countWords, section}
-use Rattle.workspace.specs.Layout.{LEAST}
+use Rattle.hir.specs.declared.at.List.{List as Listed}
+use Rattle.hir.specs.Words.{wide, identifierAt, several}
 use Rattle.workspace.specs.Graph.{tab}
 use Rattle.workspace.proofs.Tables.{tab-length}
 use Rattle.aliasing.specs.State.{nodesOf, endsOf, stateOf}
@@ -23,6 +22,7 @@ use Rattle.writing.specs.Wrote.{Wrote}
 use Rattle.copies.proofs.Lengths.{gather-length}
 use Rattle.summary.specs.Records.{Holds, Collected}
 use Rattle.workspace.specs.Tracked.{trackedAt, trackedOf, trackedFrom}
+use Rattle.summary.specs.Ranges.{rangeWidth, Ranges}
 use Rattle.summary.specs.Sections.{Marked, Flows, simulatedOf}
 use Rattle.summary.proofs.Held.{held}
 use Rattle.workspace.proofs.Places.{tracked-below}
@@ -31,21 +31,20 @@ use Rattle.summary.proofs.Flowing.{pick-most}
 use Rattle.summary.proofs.Starts.{ranges-length}
 use Rattle.summary.proofs.Marking.{marked-table}
 use Rattle.summary.proofs.Counts.{taken-length, simulated-length, counts-length}
-use Rattle.copies.proofs.Gathers.{gather-append, gather-gather}
+use Rattle.model.proofs.Gathers.{gather-append, gather-gather}
 
 module _ {a : List ℕ} {at : ℕ} {a′ : List ℕ} {r : ℕ} where
-  pub ranges-next : (sheet : List ℕ) (c : Position) (n : ℕ) (ws : List ℕ) (ids : List Identifier) (d : Position) → n ≤ mostIdentifiers → LEAST ≤ length ws → times n identifier sheet c ≡ got ids d
-      → Wrote (section rangeWords (rangesOf ids (endsOf (nodesOf ws)))) a at a′ r → r ≡ at + 1 + 2 * n
-  ranges-next sheet c n ws ids d b h g w =
-      let l : List Range = rangesOf ids (endsOf (nodesOf ws)) in
-      omega (arith, w .next, gather-length rangeWords 2 (λ x. refl) l, ranges-length n sheet ws b h c ids d g)
+  pub ranges-next : (sheet : List ℕ) (l : Listed) (ws : List ℕ) → l .count ≤ mostIdentifiers → Ranges sheet l ws a at a′ r → r ≡ at + 1 + rangeWidth * l .count
+  ranges-next sheet l ws b w =
+      let rs : List Range = rangesOf (several (l .count) (wide identifierWidth identifierAt) sheet (l .first) .what) (endsOf (nodesOf ws)) in
+      omega (arith, w .next, gather-length rangeWords rangeWidth (λ x. refl) rs, ranges-length sheet ws (l .count) (l .first) b)
 
-  pub marked-next : (ws : List ℕ) (first count : ℕ) → Marked ws first count a at a′ r → r ≡ at + 1 + 3 * count
+  pub marked-next : (ws : List ℕ) (first count : ℕ) → Marked ws first count a at a′ r → r ≡ at + 1 + placeWidth * count
   marked-next ws first count v =
       let t : State = stateOf ws 0 in
       let l : List Place = map (marked t) (trackedFrom ws first count) in
       let n : length l ≡ count = ap (λ (z : List Place). length z) (marked-table ws first count t) ∙ tab-length count (λ (i : ℕ). marked t (trackedAt ws (first + i))) in
-      omega (arith, v t (held ws 0) .next, gather-length placeWords 3 (λ p. refl) l, n)
+      omega (arith, v t (held ws 0) .next, gather-length placeWords placeWidth (λ p. refl) l, n)
 
   pub walks-next : (ws : List ℕ) (real simulated : ℕ) → Wrote (section countWords (takenOf ws real ++ simulatedOf ws simulated)) a at a′ r → r ≡ at + 1 + real + simulated
   walks-next ws real simulated w =
@@ -66,17 +65,17 @@ tab-most w k zero f h = omega arith
 tab-most w k (suc n) f h = gather-most w k (tab n f) n (f n) (tab-most w k n f h) (h n)
 
 module _ {a : List ℕ} {at : ℕ} {a′ : List ℕ} {r : ℕ} where
-  pub collected-next : (ws : List ℕ) (first count : ℕ) → Collected ws (trackedFrom ws first count) a at a′ r → r ≤ at + 16 * count
+  pub collected-next : (ws : List ℕ) (first count : ℕ) → Collected ws (trackedFrom ws first count) a at a′ r → r ≤ at + 2 * effectWidth * count
   unfolding trackedFrom
   collected-next ws first count v =
       let t : State = stateOf ws 0 in
       let f : ℕ → Place = λ (i : ℕ). trackedAt ws (first + i) in
       let e : length (gather effectWords (gather (collectParamEffects t) (tab count f))) ≡ length (gather (recordWords t) (tab count f)) =
       ap (λ (z : List ℕ). length z) (gather-gather effectWords (collectParamEffects t) (tab count f)) in
-      omega (arith, v t (held ws 0) .next, e, tab-most (recordWords t) 16 count f (λ i. collect-length ws (f i) (tracked-below ws (first + i)) t (held ws 0)))
+      omega (arith, v t (held ws 0) .next, e, tab-most (recordWords t) (2 * effectWidth) count f (λ i. collect-length ws (f i) (tracked-below ws (first + i)) t (held ws 0)))
 
   pub flows-next : (ws : List ℕ) (count : ℕ) (into : Place) (index returns : ℕ) (s : Sheet) (t : State) → Holds ws t → tracked s ≡ trackedOf ws count → s .returns .identifier ≡ returns
-      → Flows ws count into index returns a at a′ r → r ≤ at + 8 * count
+      → Flows ws count into index returns a at a′ r → r ≤ at + effectWidth * count
   unfolding trackedOf flowEffects
   flows-next ws count into index returns s t h e k v =
       let g : Place → List Effect = λ (from : Place). pick (flows (s .returns) index into t from) (flowEffect (s .returns) into from ∷ []) [] in
@@ -86,5 +85,5 @@ module _ {a : List ℕ} {at : ℕ} {a′ : List ℕ} {r : ℕ} where
         arith,
         v s t h e k .next,
         q,
-        tab-most (λ (p : Place). gather effectWords (g p)) 8 count (trackedAt ws) (λ i. pick-most (flows (s .returns) index into t (trackedAt ws i)) (flowEffect (s .returns) into (trackedAt ws i))),
+        tab-most (λ (p : Place). gather effectWords (g p)) effectWidth count (trackedAt ws) (λ i. pick-most (flows (s .returns) index into t (trackedAt ws i)) (flowEffect (s .returns) into (trackedAt ws i))),
       )

@@ -1,116 +1,100 @@
 -- The section of ranges.
-use Prim.Native.Nat.{ℕ, zero, suc, _+_, _*_, _≤_, _<_}
+use Prim.Native.Nat.{ℕ, suc, _+_, _-_, _*_, _≤_, _<_}
 use native.Mathlib.Omega.{arith}
 use mathlib.Core.Path.{_≡_, refl, sym, ap, _∙_}
 use mathlib.Core.List.{List, [], _∷_}
-use lib.ListN.{length, getD, drop}
-use lib.Seq.{drop-cons}
-use Rattle.model.specs.Limits.{mostIdentifiers}
+use lib.ListN.{length, getD}
+use lib.Seq.{slice, ext-getD, length-slice}
+use Rattle.model.specs.Limits.{mostIdentifiers, identifierWidth}
 use Rattle.model.specs.Lists.{gather}
 use Rattle.model.specs.Sheet.{Identifier, EvaluationOrder}
-use Rattle.model.specs.Reading.{Position, got, times}
-use Rattle.model.specs.Sections.{identifier}
-use Rattle.model.specs.Answer.{Range, rangesOf, rangeWords, section}
-use Rattle.model.proofs.Got.{times-step, times-done}
-use Rattle.hir.proofs.Standing.{value-is, next-is, identifier-stands}
-use Rattle.workspace.specs.Layout.{LEAST, END}
+use Rattle.model.specs.Reading.{Position}
+use Rattle.model.specs.Answer.{rangesOf, rangeWords}
+use Rattle.hir.specs.declared.at.List.{List as Listed}
+use Rattle.hir.specs.Words.{Part, wide, identifierAt, several}
+use Rattle.hir.proofs.Widths.{wide-rises}
+use Rattle.hir.proofs.Several.{several-next, first-inside, several-none, several-length}
+use Rattle.workspace.specs.Layout.{LEAST, END, SEEN}
 use Rattle.workspace.specs.Graph.{tab}
-use Rattle.workspace.proofs.Tables.{tab-length, tab-at, tab-drop, tab-end}
+use Rattle.workspace.proofs.Parts.{slice-at}
+use Rattle.workspace.proofs.Tables.{tab-length, tab-at}
 use Rattle.aliasing.specs.State.{nodesOf, endAt, endsOf}
 use Rattle.writing.specs.Wrote.{Wrote}
 use Rattle.writing.proofs.Writing.{wrote-then, wrote-as}
-use Rattle.copies.proofs.Loops.{Leaves, leaves-all, table-turn, table-end}
-use Rattle.copies.proofs.Accepted.{identifiers-are}
+use Rattle.copies.proofs.Loops.{Leaves, leaves-all, leaves-then, leaves-none, leaves-same, slice-next}
 use Rattle.summary.specs.Ranges.{Ranges}
 use Rattle.summary.proofs.Held.{node-word}
 
--- ---- the ends in the words
-pub ends-length : (ws : List ℕ) → length (endsOf (nodesOf ws)) ≡ mostIdentifiers
+-- ---- as many ranges as identifiers
+ends-length : (ws : List ℕ) → length (endsOf (nodesOf ws)) ≡ mostIdentifiers
 unfolding endsOf
 ends-length ws = tab-length mostIdentifiers (endAt (nodesOf ws))
-
-pub end-word : (ws : List ℕ) (i : ℕ) → i < mostIdentifiers → getD (endsOf (nodesOf ws)) i 0 ≡ getD ws (END + i) 0
-unfolding endsOf
-end-word ws i h = tab-at mostIdentifiers (endAt (nodesOf ws)) i 0 h ∙ node-word ws (END + i) (omega (arith, h))
-
--- ---- as many ranges as identifiers
-times-count : (k : ℕ) (sheet : List ℕ) (c : Position) (l : List Identifier) (d : Position) → times k identifier sheet c ≡ got l d → length l ≡ k
-times-count zero sheet c l d h = ap (λ (r : List Identifier). length r) (times-done identifier sheet c l d h .0)
-times-count (suc k) sheet c l d h =
-    let s = times-step k identifier sheet c l d h in
-    ap (λ (r : List Identifier). length r) (s .whole) ∙ ap suc (times-count k sheet (s .next) (s .tail) d (s .rest))
 
 ranges-count : (l : List Identifier) (ends : List EvaluationOrder) → length l ≤ length ends → length (rangesOf l ends) ≡ length l
 ranges-count [] ends h = refl
 ranges-count (i ∷ l) [] h = absurd (omega (arith, h))
 ranges-count (i ∷ l) (e ∷ ends) h = ap suc (ranges-count l ends (omega (arith, h)))
 
-pub ranges-length : (n : ℕ) (sheet ws : List ℕ) → n ≤ mostIdentifiers → LEAST ≤ length ws → (c : Position) (ids : List Identifier) (d : Position) → times n identifier sheet c ≡ got ids d → length (rangesOf ids (endsOf (nodesOf ws))) ≡ n
-ranges-length n sheet ws b h c ids d g =
-    let k : length ids ≡ n = times-count n sheet c ids d g in
-    ranges-count ids (endsOf (nodesOf ws)) (omega (arith, k, b, ends-length ws)) ∙ k
+abbrev identifiersAt : List ℕ → ℕ → Position → Part (List Identifier)
+identifiersAt sheet k c = several k (wide identifierWidth identifierAt) sheet c
 
--- ---- the ranges as they stand
-module _ (sheet : List ℕ) (c : Position) (n : ℕ) (ws : List ℕ) where
-  abbrev pub rangeAt : ℕ → Range
-  rangeAt i = record { start = getD sheet (c + 3 * i) 0; end = getD ws (END + i) 0 }
+pub ranges-length : (sheet ws : List ℕ) (k : ℕ) (c : Position) → k ≤ mostIdentifiers → length (rangesOf (several k (wide identifierWidth identifierAt) sheet c .what) (endsOf (nodesOf ws))) ≡ k
+ranges-length sheet ws k c b =
+    let n : length (identifiersAt sheet k c .what) ≡ k = several-length (wide identifierWidth identifierAt) sheet k c in
+    ranges-count (identifiersAt sheet k c .what) (endsOf (nodesOf ws)) (omega (arith, n, b, ends-length ws)) ∙ n
 
-  abbrev pub rangesAt : List Range
-  rangesAt = tab n rangeAt
+-- the ends are the words from END on
+ends-words : (ws : List ℕ) → LEAST ≤ length ws → endsOf (nodesOf ws) ≡ slice END SEEN ws
+unfolding endsOf
+ends-words ws h =
+    ext-getD 0 (tab mostIdentifiers (endAt (nodesOf ws))) (slice END SEEN ws) (omega (arith, tab-length mostIdentifiers (endAt (nodesOf ws)), length-slice END SEEN ws (omega (arith, h))))
+    (λ i k.
+    let l : i < mostIdentifiers = omega (arith, k, tab-length mostIdentifiers (endAt (nodesOf ws))) in
+    tab-at mostIdentifiers (endAt (nodesOf ws)) i 0 l ∙ node-word ws (END + i) (omega (arith, l)) ∙ sym (slice-at END SEEN i ws (omega (arith, l))))
 
-  module _ (b : n ≤ mostIdentifiers) (h : LEAST ≤ length ws) where
-    -- of n identifiers the last k, after i
-    ranges-from : (k i : ℕ) → i + k ≡ n → (p : Position) → p ≡ c + 3 * i → (l : List Identifier) (d : Position) → times k identifier sheet p ≡ got l d
-        → rangesOf l (drop i (endsOf (nodesOf ws))) ≡ drop i rangesAt
-    ranges-from zero i e p q l d g =
-        ap (λ (r : List Identifier). rangesOf r (drop i (endsOf (nodesOf ws)))) (times-done identifier sheet p l d g .0) ∙ sym (tab-end n rangeAt i (omega (arith, e)))
-    ranges-from (suc k) i e p q l d g =
-        let ends : List ℕ = endsOf (nodesOf ws) in
-        let s = times-step k identifier sheet p l d g in
-        let x = identifier-stands sheet p (s .head) (s .next) (s .first) in
-        let start : s .head .start ≡ getD sheet (c + 3 * i) 0 = ap (λ (a : Identifier). a .start) (sym (value-is x)) ∙ ap (λ (j : ℕ). getD sheet j 0) q in
-        let one : i + 1 ≡ suc i = omega arith in
-        let rest : rangesOf (s .tail) (drop (suc i) ends) ≡ drop (i + 1) rangesAt =
-        ap (λ (j : ℕ). rangesOf (s .tail) (drop j ends)) (sym one)
-        ∙ ranges-from k (i + 1) (omega (arith, e)) (s .next) (omega (arith, next-is x, q)) (s .tail) d (s .rest) in
-        ap (λ (r : List Identifier). rangesOf r (drop i ends)) (s .whole)
-        ∙ ap (λ (r : List ℕ). rangesOf (s .head ∷ s .tail) r) (drop-cons ends i 0 (omega (arith, e, b, ends-length ws)))
-        ∙ (λ j. record { start = start j; end = end-word ws i (omega (arith, e, b)) j } ∷ rest j)
-        ∙ sym (tab-drop n rangeAt i (omega (arith, e)))
+-- ---- the loop: k identifiers from c on are left, with the ends from word e on
+module _ (sheet ws : List ℕ) where
+  abbrev rangesFrom : ℕ → Position → ℕ → List ℕ
+  rangesFrom k c e = gather rangeWords (rangesOf (identifiersAt sheet k c .what) (slice e SEEN ws))
 
-    ranges-are : (ids : List Identifier) (d : Position) → times n identifier sheet c ≡ got ids d → rangesOf ids (endsOf (nodesOf ws)) ≡ rangesAt
-    ranges-are ids d g = ranges-from n 0 (omega arith) c (omega arith) ids d g
+  pub record Starting (k₀ : ℕ) (c₀ : Position) (e₀ : ℕ) (a₀ : List ℕ) (at₀ k : ℕ) (c : Position) (e : ℕ) (a : List ℕ) (at : ℕ) : Type 0 where
+    pub leaves : Leaves (rangesFrom k₀ c₀ e₀) (rangesFrom k c e) a₀ at₀ a at
+    pub next : identifiersAt sheet k c .next ≡ identifiersAt sheet k₀ c₀ .next
+    pub number : e + k ≡ e₀ + k₀
+    pub room : at + 2 * k ≡ at₀ + 2 * k₀
 
-    -- all were written, after their number
-    pub ranges-stand : {a a₁ a₂ : List ℕ} {at at₁ at₂ : ℕ} → Wrote (n ∷ []) a at a₁ at₁ → Wrote (gather rangeWords rangesAt) a₁ at₁ a₂ at₂ → Ranges sheet c n ws a at a₂ at₂
-    ranges-stand v w ids d g =
-        let e = sym (ranges-are ids d g) in
-        let m : n ≡ length (rangesOf ids (endsOf (nodesOf ws))) = sym (ranges-length n sheet ws b h c ids d g) in
-        wrote-as (wrote-then v w) (λ j. m j ∷ gather rangeWords (e j))
+  pub starting-start : (k : ℕ) (c : Position) (e : ℕ) (a : List ℕ) (at : ℕ) → Starting k c e a at k c e a at
+  starting-start k c e a at = record { leaves = leaves-all (rangesFrom k c e) a at; next = refl; number = refl; room = refl }
 
-  -- the loop: i of them are written
-  pub record Starting (a₀ : List ℕ) (at₀ i : ℕ) (a : List ℕ) (at : ℕ) : Type 0 where
-    pub leaves : Leaves (gather rangeWords rangesAt) (gather rangeWords (drop i rangesAt)) a₀ at₀ a at
-    pub next : at ≡ at₀ + 2 * i
-    pub same : length a ≡ length a₀
+  module _ {k₀ : ℕ} {c₀ : Position} {e₀ : ℕ} {a₀ : List ℕ} {at₀ k : ℕ} {c : Position} {e : ℕ} {a : List ℕ} {at : ℕ} (v : Starting k₀ c₀ e₀ a₀ at₀ k c e a at) where
+    pub starting-same : length a ≡ length a₀
+    starting-same = leaves-same (v .leaves)
 
-  pub starting-start : (a : List ℕ) (at : ℕ) → Starting a at 0 a at
-  starting-start a at = record { leaves = leaves-all (gather rangeWords rangesAt) a at; next = omega arith; same = refl }
+    pub starting-inside : 0 < k → identifiersAt sheet k₀ c₀ .next ≤ length sheet → c + identifierWidth ≤ length sheet
+    starting-inside h i = first-inside (wide identifierWidth identifierAt) sheet k c (wide-rises identifierWidth identifierAt) h (omega (arith, v .next, i))
 
-  module _ {a₀ : List ℕ} {at₀ i : ℕ} {a : List ℕ} {at : ℕ} (v : Starting a₀ at₀ i a at) where
-    pub starting-turn : i < n → {a₁ a₂ : List ℕ} {at₁ at₂ : ℕ} → Wrote (getD sheet (c + 3 * i) 0 ∷ []) a at a₁ at₁ → Wrote (getD ws (END + i) 0 ∷ []) a₁ at₁ a₂ at₂
-        → length a₁ ≡ length a → length a₂ ≡ length a₁ → Starting a₀ at₀ (i + 1) a₂ at₂
-    starting-turn h p q e f = record {
-      leaves = table-turn rangeWords n rangeAt i (v .leaves) h (wrote-then p q);
-      next = omega (arith, v .next, p .next, q .next);
-      same = f ∙ e ∙ v .same;
-    }
+    pub starting-turn : 0 < k → e < SEEN → LEAST ≤ length ws → {s : ℕ} → s ≡ identifierAt sheet c .start → {a₁ a₂ : List ℕ} {at₁ at₂ : ℕ} → Wrote (s ∷ []) a at a₁ at₁ → Wrote (getD ws e 0 ∷ []) a₁ at₁ a₂ at₂
+        → Starting k₀ c₀ e₀ a₀ at₀ (k - 1) (c + identifierWidth) (e + 1) a₂ at₂
+    starting-turn h b size {s} is p q =
+        let first = several-next (wide identifierWidth identifierAt) sheet k c h in
+        let word = slice-next e SEEN ws b (omega (arith, size)) in
+        record {
+          leaves =
+              leaves-then (v .leaves) (wrote-then p q)
+              (ap (λ (x : Part (List Identifier)). gather rangeWords (rangesOf (x .what) (slice e SEEN ws))) first
+              ∙ ap (λ (l : List ℕ). gather rangeWords (rangesOf (identifierAt sheet c ∷ identifiersAt sheet (k - 1) (c + identifierWidth) .what) l)) word
+              ∙ ap (λ (x : ℕ). x ∷ getD ws e 0 ∷ rangesFrom (k - 1) (c + identifierWidth) (e + 1)) (sym is));
+          next = ap (λ (x : Part (List Identifier)). x .next) (sym first) ∙ v .next;
+          number = omega (arith, v .number, h);
+          room = omega (arith, v .room, p .next, q .next, h);
+        }
 
-    pub starting-end : n ≤ mostIdentifiers → LEAST ≤ length ws → n ≤ i → {a₁ : List ℕ} {at₁ : ℕ} → Wrote (n ∷ []) a₁ at₁ a₀ at₀ → Ranges sheet c n ws a₁ at₁ a at
-    starting-end b h z w = ranges-stand b h w (table-end rangeWords n rangeAt i (v .leaves) z)
-
--- the sheet ends before the last of them: then there is none, or nothing is claimed
-pub no-ranges : (sheet : List ℕ) (c : Position) (n : ℕ) (ws : List ℕ) → length sheet < c + 3 * n → {a a′ : List ℕ} {at at′ : ℕ} → Wrote (n ∷ []) a at a′ at′ → Ranges sheet c n ws a at a′ at′
-no-ranges sheet c zero ws e v ids d g =
-    wrote-as v (ap (λ (r : List Identifier). section rangeWords (rangesOf r (endsOf (nodesOf ws)))) (sym (times-done identifier sheet c ids d g .0)))
-no-ranges sheet c (suc k) ws e v ids d g = absurd (omega (arith, e, identifiers-are (suc k) sheet c ids d g k (omega arith) .1))
+-- all were written, after their number
+pub starting-end : (sheet ws : List ℕ) {l : Listed} {a₀ : List ℕ} {at₀ k : ℕ} {c : Position} {e : ℕ} {a : List ℕ} {at : ℕ} → Starting sheet ws (l .count) (l .first) END a₀ at₀ k c e a at
+    → l .count ≤ mostIdentifiers → LEAST ≤ length ws → k ≤ 0 → {a₁ : List ℕ} {at₁ : ℕ} → Wrote (l .count ∷ []) a₁ at₁ a₀ at₀ → Ranges sheet l ws a₁ at₁ a at
+starting-end sheet ws {l} {k = k} {c} {e} v b size z w =
+    let ids : List Identifier = identifiersAt sheet (l .count) (l .first) .what in
+    let all = leaves-none (v .leaves) (ap (λ (x : Part (List Identifier)). gather rangeWords (rangesOf (x .what) (slice e SEEN ws))) (several-none (wide identifierWidth identifierAt) sheet k c z)) in
+    wrote-as (wrote-then w all)
+    (ap (λ (n : ℕ). n ∷ gather rangeWords (rangesOf ids (slice END SEEN ws))) (sym (ranges-length sheet ws (l .count) (l .first) b))
+    ∙ ap (λ (x : List ℕ). length (rangesOf ids (endsOf (nodesOf ws))) ∷ gather rangeWords (rangesOf ids x)) (sym (ends-words ws size)))

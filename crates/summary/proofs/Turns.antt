@@ -6,17 +6,17 @@ use mathlib.Core.Path.{_≡_, refl, sym, ap, subst, _∙_}
 use mathlib.Core.List.{List, [], _∷_, _++_}
 use lib.ListN.{length, getD, set, drop}
 use lib.Seq.{slice, slice-empty, getD-set-same, getD-set-other}
+use Rattle.model.specs.Limits.{effectWidth}
 use Rattle.model.specs.Lists.{gather}
 use Rattle.model.specs.Sheet.{Place, noPlace, Effect, Sheet}
 use Rattle.model.specs.Mutation.{Mutation}
 use Rattle.model.specs.Building.{build}
 use Rattle.model.specs.State.{State, Mode, simulated}
 use Rattle.model.specs.Walks.{Walk, mutate}
-use Rattle.model.specs.Simulated.{tracked, simulation, flowEffects, simulate}
+use Rattle.model.specs.Simulated.{tracked, simulation, flowEffects, Simulated, simulate}
 use Rattle.model.specs.Answer.{effectWords}
 use Rattle.model.proofs.Handed.{withHanded}
 use Rattle.model.proofs.Simulating.{takenBy, After, after-start, after-turn, after-done}
-use Rattle.hir.specs.Words.{effectWidth}
 use Rattle.workspace.specs.Layout.{LEAST, HANDED, MUTATIONS, SIMULATED, TRACKED}
 use Rattle.workspace.specs.Rows.{rowsOf, Good, Indexed, Kept}
 use Rattle.workspace.specs.Graph.{tab}
@@ -32,13 +32,13 @@ use Rattle.aliasing.proofs.Begin.{Remarked, remarked, unmarked-handing}
 use Rattle.aliasing.proofs.Steps.{state-same}
 use Rattle.writing.specs.Wrote.{Wrote}
 use Rattle.writing.proofs.Writing.{wrote-none, wrote-then, wrote-as}
-use Rattle.copies.proofs.Gathers.{gather-append}
+use Rattle.model.proofs.Gathers.{gather-append}
 use Rattle.workspace.specs.Tracked.{mostTracked, trackedAt, trackedOf}
 use Rattle.summary.specs.Sections.{Flows, simulatedOf}
 use Rattle.summary.proofs.Held.{holds-state}
 use Rattle.workspace.proofs.Places.{tracked-kept}
 use Rattle.summary.proofs.Rooms.{flows-next}
-use Rattle.summary.specs.Simulates.{Marked, Simulates}
+use Rattle.summary.specs.Simulates.{Marked, Walkable, Simulates}
 
 -- ---- tables in the words
 tracked-length : (ws : List ℕ) (n : ℕ) → length (trackedOf ws n) ≡ n
@@ -78,14 +78,12 @@ pub record SoFar (s : Sheet) (answer₀ : List ℕ) (at : ℕ) (ws answer : List
 
 pub record Turned (ws₀ : List ℕ) (count index returns : ℕ) (answer₀ : List ℕ) (at : ℕ) (ws answer : List ℕ) (to i next : ℕ) : Type 0 where
   pub sofar : (s : Sheet) → Marked s ws₀ count index returns → SoFar s answer₀ at ws answer to i
-  pub indexed : Indexed ws
-  pub handing : Handing ws HANDED
+  pub walkable : Walkable ws₀ ws
   pub mid : i ≤ count
   pub number : next ≡ index + i
   pub places : drop TRACKED ws ≡ drop TRACKED ws₀
   pub kept : slice MUTATIONS SIMULATED ws ≡ slice MUTATIONS SIMULATED ws₀
   pub few : to ≤ at + effectWidth * mostTracked * i
-  pub same : length ws ≡ length ws₀
   pub buffer : length answer ≡ length answer₀
 
 pub turned-start : (ws : List ℕ) (count index returns : ℕ) (answer : List ℕ) (at : ℕ) → Indexed ws → Handing ws HANDED → Turned ws count index returns answer at ws answer at 0 index
@@ -95,14 +93,12 @@ turned-start ws count index returns answer at indexed handing = record {
     after = after-as s (after-start s) (sym (m .state)) (sym (counts-none ws));
     wrote = wrote-none answer at;
   };
-  indexed = indexed;
-  handing = handing;
+  walkable = record { graph = refl; indexed = indexed; handing = handing; same = refl };
   mid = omega arith;
   number = omega arith;
   places = refl;
   kept = refl;
   few = omega arith;
-  same = refl;
   buffer = refl;
 }
 
@@ -111,7 +107,7 @@ module _ {ws₀ : List ℕ} {count index returns : ℕ} {answer₀ : List ℕ} {
     {m : CodeMutation} (said : (mutationSays m ≡ simulation next into) × ((modeSays m ≡ simulated) × Callable m)) {ws₁ : List ℕ} {c h : ℕ} (w : Mutated m ws HANDED ws₁ c h) where
   -- the count has room
   pub long : SIMULATED + i < length ws₁
-  long = omega (arith, w .aside .same, p .indexed .size)
+  long = omega (arith, w .aside .same, p .walkable .indexed .size)
 
   abbrev stored : List ℕ
   stored = set ws₁ (SIMULATED + i) c
@@ -120,7 +116,7 @@ module _ {ws₀ : List ℕ} {count index returns : ℕ} {answer₀ : List ℕ} {
   stored-kept = kept-set (kept-none SIMULATED TRACKED ws₁) (SIMULATED + i) c (omega arith) (omega arith)
 
   pub stored-size : LEAST ≤ length stored
-  stored-size = omega (arith, stored-kept .same, w .aside .same, p .indexed .size)
+  stored-size = omega (arith, stored-kept .same, w .aside .same, p .walkable .indexed .size)
 
   stored-rows : rowsOf stored ≡ rowsOf ws
   stored-rows = rows-below stored-kept (omega arith) ∙ w .aside .graph
@@ -169,7 +165,7 @@ module _ {ws₀ : List ℕ} {count index returns : ℕ} {answer₀ : List ℕ} {
       places-are : tracked s ≡ trackedOf stored count
       places-are = d .places ∙ sym (tracked-kept ws₀ stored count stored-places)
 
-      flows-few : to′ ≤ to + 8 * count
+      flows-few : to′ ≤ to + effectWidth * count
       flows-few = flows-next stored count into next returns s (walk .state) (holds-state stored h state-is) places-are (d .identifier) f
 
       found : Wrote (gather effectWords (flowEffects s (build s .index + i) (getD (tracked s) i noPlace) (walk .state))) answer to answer′ to′
@@ -192,14 +188,17 @@ module _ {ws₀ : List ℕ} {count index returns : ℕ} {answer₀ : List ℕ} {
       → Turned ws₀ count index returns answer₀ at stored answer′ to′ (i + 1) (next + 1)
   turned-turn sd f e = record {
     sofar = λ s d. sofar-next s d f (p .sofar s d);
-    indexed = record { size = stored-size; good = subst Good (sym stored-rows) (p .indexed .good) };
-    handing = handing-anew (handing-behind h stored-kept (omega arith) (w .handing));
+    walkable = record {
+      graph = stored-rows ∙ p .walkable .graph;
+      indexed = record { size = stored-size; good = subst Good (sym stored-rows) (p .walkable .indexed .good) };
+      handing = handing-anew (handing-behind h stored-kept (omega arith) (w .handing));
+      same = stored-kept .same ∙ w .aside .same ∙ p .walkable .same;
+    };
     mid = omega arith;
     number = omega (arith, p .number);
     places = stored-places;
     kept = stored-slice;
     few = omega (arith, p .few, flows-few (sd .0) (sd .1) f);
-    same = stored-kept .same ∙ w .aside .same ∙ p .same;
     buffer = e ∙ p .buffer;
   }
 
@@ -208,15 +207,25 @@ pub turned-end : {ws₀ : List ℕ} {count index returns : ℕ} {answer₀ : Lis
 turned-end {ws₀} {count} {index} {returns} {answer₀} {at} {ws} {answer} {to} {i} p done =
     let e : count ≡ i = omega (arith, p .mid) in
     record {
-      wrote = λ s d. let a = p .sofar s d in wrote-as (a .wrote) (ap (gather effectWords) (sym (over s d .1)));
-      counts = λ s d. ap (simulatedOf ws) e ∙ sym (over s d .0);
+      wrote = λ s d. wrote-as (p .sofar s d .wrote) (ap (gather effectWords) (sym (p .sofar s d .after .found) ∙ ap (λ (m : Simulated). m .effects) (over s d)));
+      left = λ s d.
+          let a = p .sofar s d .after in
+          record {
+            counts = ap (simulatedOf ws) e ∙ sym (a .counts) ∙ ap (λ (m : Simulated). takenBy (m .walks)) (over s d);
+            state = sym (a .state) ∙ ap (λ (m : Simulated). withHanded [] (m .state)) (over s d);
+            unused = omega (arith, d .first, e, a .index, ap (λ (m : Simulated). m .index) (over s d));
+          };
+      walkable = p .walkable;
       kept = p .kept;
       few = omega (arith, p .few, e);
-      same = p .same;
     }
   where
-    over : (s : Sheet) (d : Marked s ws₀ count index returns) → (takenBy (simulate s .walks) ≡ simulatedOf ws i) × (simulate s .effects ≡ p .sofar s d .effects)
+    over : (s : Sheet) (d : Marked s ws₀ count index returns) → p .sofar s d .after .made ≡ simulate s
     over s d = after-done s (omega (arith, ap (λ (l : List Place). length l) (d .places), tracked-length ws₀ count)) (p .sofar s d .after)
+
+-- from words with the same graph
+pub walkable-from : {ws ws₁ ws₂ : List ℕ} → rowsOf ws₁ ≡ rowsOf ws → length ws₁ ≡ length ws → Walkable ws₁ ws₂ → Walkable ws ws₂
+walkable-from g n p = record { graph = p .graph ∙ g; indexed = p .indexed; handing = p .handing; same = p .same ∙ n }
 
 -- ---- the same from the words before the marks were cleared
 module _ (ws : List ℕ) (indexed : Indexed ws) (l : List ℕ) (clear : Unmarked ws l) where
@@ -237,8 +246,8 @@ module _ (ws : List ℕ) (indexed : Indexed ws) (l : List ℕ) (clear : Unmarked
   pub cleared-end : {count index returns : ℕ} {answer : List ℕ} {at : ℕ} {ws′ answer′ : List ℕ} {r : ℕ} → Simulates l count index returns answer at ws′ answer′ r → Simulates ws count index returns answer at ws′ answer′ r
   cleared-end p = record {
     wrote = λ s d. p .wrote s (cleared-marked s d);
-    counts = λ s d. p .counts s (cleared-marked s d);
+    left = λ s d. p .left s (cleared-marked s d);
+    walkable = walkable-from (u .aside .graph) (u .aside .same) (p .walkable);
     kept = p .kept ∙ slice-drop MUTATIONS MUTATIONS SIMULATED l ws (omega arith) (omega arith) (u .aside .behind);
     few = p .few;
-    same = p .same ∙ u .aside .same;
   }

@@ -5,14 +5,14 @@ use mathlib.Core.Path.{_≡_, sym, ap, subst, _∙_}
 use mathlib.Core.Bool.{false}
 use mathlib.Core.List.{List, [], _∷_, _++_}
 use lib.ListN.{length, set}
-use Rattle.model.specs.Limits.{mostParams, mostContext}
+use Rattle.model.specs.Limits.{mostParams, mostContext, effectWidth}
 use Rattle.model.specs.Lists.{gather}
 use Rattle.model.specs.Sheet.{Place, Effect, Sheet}
 use Rattle.model.specs.Summary.{afterRenders, copied, collectParamEffects, createReturns}
 use Rattle.model.specs.Simulated.{simulate}
 use Rattle.model.specs.Answer.{effectWords, section, summary}
 use Rattle.hir.specs.Says.{placeIs}
-use Rattle.hir.specs.Words.{effectWidth, identifierAt, several, blockFrom}
+use Rattle.hir.specs.Words.{identifierAt, several, blockFrom}
 use Rattle.workspace.specs.Layout.{HANDED, MUTATIONS, SIMULATED}
 use Rattle.workspace.specs.Rows.{Good, Indexed}
 use Rattle.aliasing.proofs.Parts.{slice-below, nodes-below, rows-below}
@@ -23,17 +23,18 @@ use Rattle.copies.specs.Copies.{Copies}
 use Rattle.copies.specs.Words.{blockWords}
 use Rattle.copies.specs.Returns.{identifierFrom, createOf}
 use Rattle.copies.specs.declared.effect_lists.Section.the-variants.{Effects}
-use Rattle.copies.proofs.Gathers.{gather-append}
+use Rattle.model.proofs.Gathers.{gather-append}
 use Rattle.copies.proofs.Sections.{copied-words, section-patched, effects-count}
 use Rattle.summary.specs.Records.{Holds, Collected}
 use Rattle.workspace.specs.Tracked.{trackedOf, trackedFrom}
 use Rattle.summary.specs.Tracked.{Marks}
 use Rattle.summary.proofs.Held.{holds-state}
 use Rattle.summary.proofs.Rooms.{collected-next}
+use Rattle.summary.proofs.Turns.{walkable-from}
 use Rattle.summary.proofs.Whole.{params-tracked, context-tracked, marks-tracked}
 use Rattle.dataflow.specs.declared.function.HirFunction.{HirFunction}
 use Rattle.dataflow.specs.Function.{Limited}
-use Rattle.dataflow.proofs.Described.{blocks-stand, returns-create}
+use Rattle.dataflow.proofs.Described.{returns-create}
 use Rattle.summary.specs.Simulates.{mostFlows, mostEffects, Marked, Simulates, CopiedPut, Before, EffectsPut}
 
 -- the words hold the records that the walks and renders left
@@ -58,9 +59,9 @@ summary-words s =
 
 -- ---- the copied effects
 module _ (sheet : List ℕ) (f : HirFunction) (a : List ℕ) (at : ℕ) where
-  pub copied-put : several (f .count) blockFrom sheet (f .blocks .at) .next ≤ length sheet → {a′ : List ℕ} {at′ next : ℕ} → Copies (several (f .count) blockFrom) (gather (blockWords Effects)) sheet (f .blocks .at) a at a′ at′ next
+  pub copied-put : several (f .blocks .count) blockFrom sheet (f .blocks .first) .next ≤ length sheet → {a′ : List ℕ} {at′ next : ℕ} → Copies (several (f .blocks .count) blockFrom) (gather (blockWords Effects)) sheet (f .blocks .first) a at a′ at′ next
       → CopiedPut sheet f a at a′ at′
-  copied-put h c = record { wrote = λ s d. wrote-as (c .wrote) (ap (gather (blockWords Effects)) (blocks-stand d) ∙ copied-words s); few = omega (arith, c .few, c .after, h) }
+  copied-put h c = record { wrote = λ s d. wrote-as (c .wrote) (ap (gather (blockWords Effects)) (d .blocks) ∙ copied-words s); few = omega (arith, c .few, c .after, h) }
 
   pub copied-not : f .copies ≡ false → CopiedPut sheet f a at a at
   copied-not e = record { wrote = λ s d. wrote-as (wrote-none a at) (ap (gather effectWords) (sym (d .copies e))); few = omega arith }
@@ -72,7 +73,7 @@ indexed-after i m = record { size = omega (arith, i .size, m .kept .same); good 
 module _ (sheet ws : List ℕ) (f : HirFunction) (index : ℕ) (limited : Limited f) where
   -- Create for returns, by the type that stands in the sheet
   abbrev ReturnsWrote : List ℕ → ℕ → List ℕ → ℕ → Type 0
-  ReturnsWrote = Wrote (effectWords (createOf (placeIs (f .returns)) (identifierAt sheet (identifierFrom (f .identifiers .at) (f .returns .identifier .0)) .type)))
+  ReturnsWrote = Wrote (effectWords (createOf (placeIs (f .returns)) (identifierAt sheet (identifierFrom (f .identifiers .first) (f .returns .identifier .0)) .type)))
 
   -- ---- each part, for a sheet
   module _ (s : Sheet) (b : Before s sheet ws f index) where
@@ -157,8 +158,8 @@ module _ (sheet ws : List ℕ) (f : HirFunction) (index : ℕ) (limited : Limite
                     let k : (at₆ - at₁) / 8 ≡ length (summary s) = ap (λ (n : ℕ). (at₆ - n) / 8) (put .next) ∙ effects-count (summary s) (all-parts s b) in
                     let w : Wrote (section effectWords (summary s)) a at (set a₆ at (length (summary s))) at₆ = section-patched effectWords (summary s) (all-parts s b) in
                     record { words = e ∙ ap (λ (n : ℕ). set a₆ at n) k ∙ w .words; next = w .next };
-                counts = λ s b. walks .counts s (marked-before s b marks);
+                left = λ s b. walks .left s (marked-before s b marks);
+                walkable = walkable-from (rows-below (marks .kept) (omega arith)) (marks .kept .same) (walks .walkable);
                 kept = walks .kept ∙ slice-below (marks .kept) MUTATIONS SIMULATED (omega arith);
                 few = after-walks;
-                same = walks .same ∙ marks .kept .same;
               }

@@ -1,15 +1,22 @@
 -- The section of ranges: the sheet's starts with the ends in the words.
-use Prim.Native.Nat.{ℕ}
+use Prim.Native.Nat.{ℕ, _+_, _*_}
 use mathlib.Core.List.{List}
-use mathlib.Core.Path.{_≡_}
-use Rattle.model.specs.Sheet.{Identifier}
-use Rattle.model.specs.Reading.{Position, got, times}
-use Rattle.model.specs.Sections.{identifier}
+use Rattle.model.specs.Limits.{mostIdentifiers}
 use Rattle.model.specs.Answer.{rangesOf, rangeWords, section}
+use Rattle.hir.specs.declared.at.List.{List as Listed}
+use Rattle.hir.specs.Words.{wide, identifierAt, several}
+use Rattle.model.specs.Limits.{identifierWidth}
 use Rattle.aliasing.specs.State.{nodesOf, endsOf}
 use Rattle.writing.specs.Wrote.{Wrote}
 
--- the ranges of n identifiers that stand from c on
-abbrev pub Ranges : List ℕ → Position → ℕ → List ℕ → List ℕ → ℕ → List ℕ → ℕ → Type 0
-Ranges sheet c n ws answer at answer′ r =
-    (ids : List Identifier) (d : Position) → times n identifier sheet c ≡ got ids d → Wrote (section rangeWords (rangesOf ids (endsOf (nodesOf ws)))) answer at answer′ r
+-- "ranges (start, end)"
+abbrev pub rangeWidth : ℕ
+rangeWidth = 2
+
+-- the words of the section: its count, and the ranges
+abbrev pub mostRanges : ℕ
+mostRanges = 1 + rangeWidth * mostIdentifiers
+
+-- the ranges of the identifiers that stand in a list
+abbrev pub Ranges : List ℕ → Listed → List ℕ → List ℕ → ℕ → List ℕ → ℕ → Type 0
+Ranges sheet l ws = Wrote (section rangeWords (rangesOf (several (l .count) (wide identifierWidth identifierAt) sheet (l .first) .what) (endsOf (nodesOf ws))))

@@ -3,6 +3,7 @@ use Prim.Native.Nat.{ℕ, _+_}
 use mathlib.Core.List.{List, [], _∷_, map}
 use mathlib.Core.Path.{_≡_}
 use lib.ListN.{getD}
+use Rattle.model.specs.Limits.{mostMutations}
 use Rattle.model.specs.Lists.{pick, gather}
 use Rattle.model.specs.Sheet.{Place, Sheet}
 use Rattle.model.specs.State.{State}
@@ -13,7 +14,7 @@ use Rattle.workspace.specs.Layout.{SIMULATED}
 use Rattle.workspace.specs.Graph.{tab}
 use Rattle.writing.specs.Wrote.{Wrote}
 use Rattle.summary.specs.Records.{Holds}
-use Rattle.workspace.specs.Tracked.{trackedOf, trackedFrom}
+use Rattle.workspace.specs.Tracked.{mostTracked, trackedOf, trackedFrom}
 
 -- the params or the context: `count` tracked places from `first` on, with their marks
 abbrev pub Marked : List ℕ → ℕ → ℕ → List ℕ → ℕ → List ℕ → ℕ → Type 0
@@ -30,6 +31,10 @@ abbrev pub Flows : List ℕ → ℕ → Place → ℕ → ℕ → List ℕ → �
 Flows ws count into index returns answer at answer′ r =
     (s : Sheet) (t : State) → Holds ws t → tracked s ≡ trackedOf ws count → s .returns .identifier ≡ returns
     → Wrote (gather effectWords (flowEffects s index into t)) answer at answer′ r
+
+-- the words of the section of walks: its count, and one for each real and each simulated walk
+abbrev pub mostWalks : ℕ
+mostWalks = 1 + mostMutations + mostTracked
 
 -- the entries that each simulated walk took
 unfoldable pub simulatedOf : List ℕ → ℕ → List ℕ

@@ -3,7 +3,7 @@ ghost use mathlib.Core.Path.{_≡_};
 ghost use Prim.Native.Nat.{_+_, _*_, _≤_, _<_};
 ghost use lib.ListN.{length};
 ghost use lib.Dec.{eqb};
-ghost use Rattle.model.specs.Limits.{mostIdentifiers};
+ghost use Rattle.model.specs.Limits.{mostIdentifiers, effectWidth};
 ghost use Rattle.workspace.specs.Layout.{LEAST};
 ghost use Rattle.workspace.specs.Tracked.{mostTracked};
 ghost use Rattle.model.specs.Lists.{pick};
@@ -42,7 +42,7 @@ fn put_flow(
     at: usize,
 ) -> usize
     requires { ⌜ (from .identifier .0 < mostIdentifiers) × (LEAST ≤ length (now ws)) ⌝ }
-    requires { ⌜ at + 8 ≤ farthest ⌝ }
+    requires { ⌜ at + effectWidth ≤ farthest ⌝ }
     ensures { λ r. ⌜ Flow (now (ws .entry)) (placeIs from) (placeIs into) index (returns .0) (now (answer .entry)) at (now (answer .exit)) r ⌝ }
 {
     let x = from.identifier;
@@ -77,7 +77,7 @@ pub fn put_flows(
     at: usize,
 ) -> usize
     requires { ⌜ (count ≤ mostTracked) × (LEAST ≤ length (now ws)) ⌝ }
-    requires { ⌜ at + 8 * count ≤ farthest ⌝ }
+    requires { ⌜ at + effectWidth * count ≤ farthest ⌝ }
     ensures { λ r. ⌜ Flows (now (ws .entry)) count (placeIs into) index (returns .0) (now (answer .entry)) at (now (answer .exit)) r ⌝ }
 {
     let mut to = at;

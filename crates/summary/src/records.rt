@@ -3,7 +3,7 @@ ghost use mathlib.Core.Path.{_≡_};
 ghost use mathlib.Core.List.{[], _∷_};
 ghost use Prim.Native.Nat.{_+_, _*_, _≤_, _<_};
 ghost use lib.ListN.{length};
-ghost use Rattle.model.specs.Limits.{mostIdentifiers};
+ghost use Rattle.model.specs.Limits.{mostIdentifiers, effectWidth};
 ghost use Rattle.workspace.specs.Layout.{LEAST};
 ghost use Rattle.model.specs.Lists.{gather};
 ghost use Rattle.model.specs.Mutation.{reasonOf};
@@ -41,7 +41,7 @@ fn put_record(
     reason: u32,
     p: Place,
 ) -> usize
-    requires { ⌜ at + 8 ≤ farthest ⌝ }
+    requires { ⌜ at + effectWidth ≤ farthest ⌝ }
     ensures { λ r. ⌜ Wrote (gather effectWords (levelEffects level (kindSays conditional) (kindSays definite) reason (placeIs p))) (now (answer .entry)) at (now (answer .exit)) r ⌝ }
 {
     if level == 0 {
@@ -68,7 +68,7 @@ fn put_record(
 // The records of a place's identifier as effects: the local one first.
 fn collect_param_effects(ws: &[u32], p: Place, answer: &mut [u32], at: usize) -> usize
     requires { ⌜ (p .identifier .0 < mostIdentifiers) × (LEAST ≤ length (now ws)) ⌝ }
-    requires { ⌜ at + 16 ≤ farthest ⌝ }
+    requires { ⌜ at + 2 * effectWidth ≤ farthest ⌝ }
     ensures { λ r. ⌜ Collected (now (ws .entry)) (placeIs p ∷ []) (now (answer .entry)) at (now (answer .exit)) r ⌝ }
 {
     let identifier = p.identifier;
@@ -116,7 +116,7 @@ pub fn collect_effects(
     at: usize,
 ) -> usize
     requires { ⌜ (first + count ≤ mostTracked) × (LEAST ≤ length (now ws)) ⌝ }
-    requires { ⌜ at + 16 * count ≤ farthest ⌝ }
+    requires { ⌜ at + 2 * effectWidth * count ≤ farthest ⌝ }
     ensures { λ r. ⌜ Collected (now (ws .entry)) (trackedFrom (now (ws .entry)) first count) (now (answer .entry)) at (now (answer .exit)) r ⌝ }
 {
     let mut to = at;

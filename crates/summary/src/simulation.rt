@@ -15,6 +15,7 @@ ghost use Rattle.aliasing.specs.Walks.{Callable};
 ghost use Rattle.writing.specs.Wrote.{farthest};
 ghost use Rattle.dataflow.specs.Function.{Limited};
 ghost use Rattle.summary.specs.Simulates.{mostFlows, mostEffects, Marked, Simulates, CopiedPut, Before, EffectsPut};
+ghost use Rattle.workspace.specs.Pending.{mostIndex};
 use crate::flows::put_flows;
 use crate::records::collect_effects;
 use crate::tracked::mark_tracked;
@@ -37,7 +38,7 @@ use writing::put;
 
 // The simulated mutation of a place: transitive, Conditional, moving no end.
 fn simulated(index: u32, into: Place) -> Mutation
-    requires { ⌜ (into .identifier .0 < mostIdentifiers) × (index < 134217728) ⌝ }
+    requires { ⌜ (into .identifier .0 < mostIdentifiers) × (index ≤ mostIndex + mostTracked) ⌝ }
     ensures { λ r. ⌜ (mutationSays r ≡ simulation index (placeIs into)) × ((modeSays r ≡ simulated) × Callable r) ⌝ }
 {
     let start = into.identifier;
@@ -64,7 +65,7 @@ fn simulate(
 ) -> usize
     requires { ⌜ Indexed (now ws) ⌝ }
     requires { ⌜ ((s : Sheet) × Marked s (now ws) count index (returns .0)) ⌝ }
-    requires { ⌜ (count ≤ mostTracked) × ((index ≤ 4096) × (at + mostFlows ≤ farthest)) ⌝ }
+    requires { ⌜ (count ≤ mostTracked) × ((index ≤ mostIndex) × (at + mostFlows ≤ farthest)) ⌝ }
     ensures { λ r. ⌜ Simulates (now (ws .entry)) count index (returns .0) (now (answer .entry)) at (now (ws .exit)) (now (answer .exit)) r ⌝ }
 {
     clear_marks(ws);
@@ -84,13 +85,20 @@ fn simulate(
 
 // The effects of instructions that are copied: where there is none, no pass over the sheet.
 fn put_copied(sheet: &[u32], f: HirFunction, answer: &mut [u32], at: usize) -> usize
-    requires { ⌜ several (f .count) blockFrom (now sheet) (f .blocks .at) .next ≤ length (now sheet) ⌝ }
+    requires { ⌜ several (f .blocks .count) blockFrom (now sheet) (f .blocks .first) .next ≤ length (now sheet) ⌝ }
     requires { ⌜ at + length (now sheet) ≤ farthest ⌝ }
     ensures { λ r. ⌜ CopiedPut (now (sheet .entry)) f (now (answer .entry)) at (now (answer .exit)) r ⌝ }
 {
     if f.copies {
         let blocks = f.blocks;
-        let r = copy_effects(sheet, blocks.at, f.count, Section::Effects, answer, at);
+        let r = copy_effects(
+            sheet,
+            blocks.first,
+            blocks.count,
+            Section::Effects,
+            answer,
+            at,
+        );
         return r.at;
     }
     at
@@ -108,7 +116,7 @@ pub fn put_effects(
     requires { ⌜ Limited f ⌝ }
     requires { ⌜ Indexed (now ws) ⌝ }
     requires { ⌜ ((s : Sheet) × Before s (now sheet) (now ws) f index) ⌝ }
-    requires { ⌜ (index ≤ 4096) × (at + mostEffects ≤ farthest) ⌝ }
+    requires { ⌜ (index ≤ mostIndex) × (at + mostEffects ≤ farthest) ⌝ }
     ensures { λ r. ⌜ EffectsPut (now (sheet .entry)) (now (ws .entry)) f index (now (answer .entry)) at (now (ws .exit)) (now (answer .exit)) r ⌝ }
 {
     let params = f.params as usize;
@@ -119,7 +127,7 @@ pub fn put_effects(
     let a2 = put_copied(sheet, f, answer, a1);
     let a3 = collect_effects(ws, params, context, answer, a2);
     let a4 = collect_effects(ws, 0, params, answer, a3);
-    let a5 = put_create_returns(sheet, identifiers.at, returns, answer, a4);
+    let a5 = put_create_returns(sheet, identifiers.first, returns, answer, a4);
     mark_tracked(ws, params + context);
     let a6 = simulate(
         ws,

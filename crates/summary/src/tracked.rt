@@ -2,7 +2,7 @@
 ghost use mathlib.Core.Path.{_≡_};
 ghost use Prim.Native.Nat.{_+_, _*_, _≤_, _<_};
 ghost use lib.ListN.{length};
-ghost use Rattle.model.specs.Limits.{mostIdentifiers};
+ghost use Rattle.model.specs.Limits.{mostIdentifiers, placeWidth};
 ghost use Rattle.model.specs.Summary.{marked};
 ghost use Rattle.model.specs.State.{State, hasRecord};
 ghost use Rattle.aliasing.specs.State.{nodesOf, recordAt};
@@ -49,7 +49,7 @@ fn marked(ws: &[u32], p: Place) -> Place
 // The section of params or of context: `count` tracked places from `first` on, with their marks.
 pub fn put_marked(ws: &[u32], first: usize, count: usize, answer: &mut [u32], at: usize) -> usize
     requires { ⌜ (first + count ≤ mostTracked) × (LEAST ≤ length (now ws)) ⌝ }
-    requires { ⌜ at + 1 + 3 * count ≤ farthest ⌝ }
+    requires { ⌜ at + 1 + placeWidth * count ≤ farthest ⌝ }
     ensures { λ r. ⌜ Marked (now (ws .entry)) first count (now (answer .entry)) at (now (answer .exit)) r ⌝ }
 {
     let mut to = put(answer, at, count as u32);

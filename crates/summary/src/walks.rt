@@ -9,7 +9,7 @@ ghost use Rattle.model.specs.Lists.{gather};
 ghost use Rattle.model.specs.Answer.{countWords, section};
 ghost use Rattle.aliasing.specs.Pending.{takenOf};
 ghost use Rattle.writing.specs.Wrote.{Wrote, farthest};
-ghost use Rattle.summary.specs.Sections.{simulatedOf};
+ghost use Rattle.summary.specs.Sections.{mostWalks, simulatedOf};
 use workspace::MUTATIONS;
 use workspace::SIMULATED;
 use writing::put;
@@ -47,7 +47,7 @@ fn put_simulated(ws: &[u32], count: usize, answer: &mut [u32], at: usize) -> usi
 // The section of walks.
 pub fn put_walks(ws: &[u32], real: usize, simulated: usize, answer: &mut [u32], at: usize) -> usize
     requires { ⌜ (real ≤ mostMutations) × ((simulated ≤ mostTracked) × (LEAST ≤ length (now ws))) ⌝ }
-    requires { ⌜ at + 642 ≤ farthest ⌝ }
+    requires { ⌜ at + mostWalks ≤ farthest ⌝ }
     ensures { λ r. ⌜ Wrote (section countWords (takenOf (now (ws .entry)) real ++ simulatedOf (now (ws .entry)) simulated)) (now (answer .entry)) at (now (answer .exit)) r ⌝ }
 {
     let a = put(answer, at, (real + simulated) as u32);

@@ -86,10 +86,6 @@ slice-push f e w ws h =
     let q : f + (e + 1) ≡ suc (f + e) = omega arith in
     ap (λ (j : ℕ). slice f j (set ws (f + e) w)) q ∙ slice-more f (f + e) w ws (omega arith) h
 
--- a later part of a slice
-pub slice-less : (f f′ t : ℕ) (l l′ : List ℕ) → f ≤ f′ → slice f t l ≡ slice f t l′ → slice f′ t l ≡ slice f′ t l′
-slice-less f f′ t l l′ h p = drop-more f f′ (take t l) (take t l′) h p
-
 -- ---- a run of words
 pub take-sets : (n : ℕ) (vs l : List ℕ) (top : ℕ) → n ≤ top → take n (sets l top vs) ≡ take n l
 take-sets n [] l top h = refl

@@ -1,9 +1,10 @@
 -- The lent workspace: where each part of it begins. The parts stand side by side, in the order in which they are named here.
 use Prim.Native.Nat.{ℕ}
+use Rattle.model.specs.Limits.{leastWorkspace}
 
 -- the words that a workspace has at least
 abbrev pub LEAST : ℕ
-LEAST = 16384
+LEAST = leastWorkspace
 
 -- the fields of the nodes, 512 words each: the record's word, which is the local kind (0 none, 1 Conditional, 2 Definite) + 4 * the transitive kind
 -- + 16 * the reason (0 none, 1 AssignCurrentProperty) + 32 * the largest index of a mutation
@@ -62,13 +63,9 @@ EDGES = 7683
 abbrev pub ENTRIES : ℕ
 ENTRIES = 8707
 
--- the predecessors that phi operands wait for, 1,024 words
-abbrev pub PREDS : ℕ
-PREDS = 9731
-
--- the relations of those operands, 1,024 words
-abbrev pub RELATIONS : ℕ
-RELATIONS = 10755
+-- the phis that have operands, 2,048 words
+abbrev pub PHIS : ℕ
+PHIS = 9731
 
 -- the functions whose diagnostics are handed over, 512 words
 abbrev pub HANDED : ℕ

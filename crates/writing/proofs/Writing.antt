@@ -1,10 +1,10 @@
--- Words written one after another; a word patched later; the whole buffer once all is written.
-use Prim.Native.Nat.{ℕ, suc, _+_, _-_, _≤_, _<_}
+-- Words written one after another; a word patched later; what stands in the buffer once all is written.
+use Prim.Native.Nat.{ℕ, suc, _+_, _≤_, _<_}
 use native.Mathlib.Omega.{arith}
 use mathlib.Core.Path.{_≡_, refl, sym, ap, _∙_}
-use mathlib.Core.List.{List, [], _∷_, _++_, append-nil}
-use lib.ListN.{length, set, replicate, length-append, length-replicate, drop-of-length-le}
-use lib.Seq.{sets, sets-eq, set-set, set-comm}
+use mathlib.Core.List.{List, [], _∷_, _++_}
+use lib.ListN.{length, set, take, drop, length-append}
+use lib.Seq.{sets, sets-eq, set-set, set-comm, length-take-le, take-at}
 use Rattle.workspace.proofs.Parts.{sets-append}
 use Rattle.writing.specs.Wrote.{Wrote}
 
@@ -33,16 +33,8 @@ set-before a i at y (v ∷ vs) h =
 pub patched : (a : List ℕ) (at x y : ℕ) (vs : List ℕ) → set (sets a at (x ∷ vs)) at y ≡ sets a at (y ∷ vs)
 patched a at x y vs = set-before (set a at x) at (suc at) y vs (omega arith) ∙ ap (λ (l : List ℕ). sets l (suc at) vs) (set-set a at x y)
 
--- words that fit, and zeros behind them, are the whole buffer
-pub filled : (a vs : List ℕ) → length vs ≤ length a → sets (sets a 0 vs) (length vs) (replicate (length a - length vs) 0) ≡ vs ++ replicate (length a - length vs) 0
-filled a vs h =
-    let zs : List ℕ = replicate (length a - length vs) 0 in
-    let n : length zs ≡ length a - length vs = length-replicate {A = ℕ} (length a - length vs) 0 in
-    let m : length (vs ++ zs) ≡ length a = omega (arith, length-append vs zs, n, h) in
-    let z : length vs ≡ 0 + length vs = omega arith in
-    ap (λ (i : ℕ). sets (sets a 0 vs) i zs) z ∙ sets-append vs zs a 0 ∙ whole (vs ++ zs) m
-  where
-    whole : (ws : List ℕ) → length ws ≡ length a → sets a 0 ws ≡ ws
-    whole ws e =
-        let n : length a ≤ 0 + length ws = omega (arith, e) in
-        sets-eq ws a 0 (omega (arith, e)) ∙ ap (λ (l : List ℕ). ws ++ l) (drop-of-length-le a n) ∙ append-nil ws
+-- words that fit stand behind what was there before them
+pub written : (a : List ℕ) (at : ℕ) (vs : List ℕ) → at + length vs ≤ length a → take (at + length vs) (sets a at vs) ≡ take at a ++ vs
+written a at vs h =
+    let n : length (take at a ++ vs) ≡ at + length vs = omega (arith, length-append (take at a) vs, length-take-le at a (omega (arith, h))) in
+    ap (take (at + length vs)) (sets-eq vs a at h) ∙ take-at (take at a ++ vs) (drop (at + length vs) a) (at + length vs) n

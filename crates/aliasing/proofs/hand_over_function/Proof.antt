@@ -1,4 +1,4 @@
-use Rattle.aliasing.proofs.PushLaws.{pushed-none}
+use Rattle.writing.proofs.Writing.{wrote-none}
 use Rattle.aliasing.specs.Accepts.{functionW}
 use mathlib.Core.Path.{refl}
 use borrow.Author.Tests.{lt-ltb, le-ltb}
@@ -17,7 +17,7 @@ slice-read-v c = search needs
 
 returns : tie.Need-returns
 unfolding functionW
-returns c = simp (lt-ltb _ 3 (c .if1 .taken)) (pushed-none _ _)
+returns c = simp (lt-ltb _ 3 (c .if1 .taken)) (wrote-none _ _)
 
 mul-ws : tie.Need-mul-ws
 mul-ws c = search needs

@@ -1,4 +1,4 @@
-use Rattle.aliasing.proofs.PushLaws.{pushed-none}
+use Rattle.writing.proofs.Writing.{wrote-none}
 use Rattle.aliasing.specs.Accepts.{handW}
 use borrow.Author.Tests.{eq-eqb, ne-eqb}
 use borrow.Author.Needs.{needs}
@@ -32,11 +32,11 @@ returns c =
 
 returns-2 : tie.Need-returns-2
 unfolding handW
-returns-2 c = simp (c .before .before .if1 .taken, ne-eqb _ 0 (c .if2 .left)) (pushed-none _ _)
+returns-2 c = simp (c .before .before .if1 .taken, ne-eqb _ 0 (c .if2 .left)) (wrote-none _ _)
 
 returns-3 : tie.Need-returns-3
 unfolding handW
-returns-3 c = simp (c .if1 .left) (pushed-none _ _)
+returns-3 c = simp (c .if1 .left) (wrote-none _ _)
 
 pub record-errors-spec : {M : Type 1} → statement M
 record-errors-spec =

@@ -1,5 +1,4 @@
 use Rattle.copies.proofs.Errors.{functions-again, handed-room}
-use Rattle.dataflow.proofs.Described.{blocks-inside}
 use Rattle.diagnostics.proofs.Diagnosing.{HandedPut, handed-put, handed-not, handed-as, count-least, section-few, diagnostics-put}
 use native.Mathlib.Omega.{arith}
 use mathlib.Core.Logic.{⊎-elim}
@@ -17,7 +16,7 @@ put-recorded-requires c κs =
     let b3 = c .before .before .before in
     let b8 = b3 .before .before .before .before .before in
     let d = b8 .pre .1 .1 .0 .1 .0 in
-    (blocks-inside d, omega (arith, b3 .put .ensures .next, d .short, b8 .pre .1 .1 .1 .1 .1))
+    (d .blocksInside, omega (arith, b3 .put .ensures .next, d .short, b8 .pre .1 .1 .1 .1 .1))
 
 put-handed-requires : tie.Need-put-handed-requires
 put-handed-requires c κs =

@@ -3,11 +3,11 @@ use borrow.Author.Needs.{needs}
 use Rattle.inference.proofs.refuse.Statement.{statement}
 use Rattle.inference.proofs.refuse.Tie as tie
 
-clear-requires : tie.Need-clear-requires
-clear-requires c κs = search needs
+clear-from-requires : tie.Need-clear-from-requires
+clear-from-requires c κs = search needs
 
-clear-requires-2 : tie.Need-clear-requires-2
-clear-requires-2 c κs = search needs
+clear-from-requires-2 : tie.Need-clear-from-requires-2
+clear-from-requires-2 c κs = search needs
 
 same-length : tie.Need-same-length
 same-length c = search needs
@@ -16,8 +16,11 @@ same-length-2 : tie.Need-same-length-2
 same-length-2 c = search needs
 
 returns : tie.Need-returns
-returns c = refused-all (c .before .before .before .before .before .before .clear .ensures) (c .before .before .clear2 .ensures)
+returns c =
+    let b6 = c .before .before .before .before .before .before in
+    refused-all (b6 .clear-from .ensures) (c .before .before .clear-from2 .ensures)
 
 pub refuse-spec : {M : Type 1} → statement M
 refuse-spec =
-    tie.close (tie.spec clear-requires clear-requires-2 same-length same-length-2 returns)
+    tie.close
+    (tie.spec clear-from-requires clear-from-requires-2 same-length same-length-2 returns)

@@ -119,7 +119,7 @@ push-render-requires c κs =
     render-can (b6 .args .e) (c .before .enum-told12 .given .1) refl (b6 .pre)
 
 same-length : tie.Need-same-length
-same-length c = c .before .before .push-mutation .ensures .same
+same-length c = omega arith
 
 returns : tie.Need-returns
 unfolding instructionEffect kindCost rowOf
@@ -129,7 +129,7 @@ returns c =
     effect-of (a .e) (b4 .enum-told .given .1) (a .order .0) (c .before .before .push-mutation .ensures)
 
 same-length-2 : tie.Need-same-length-2
-same-length-2 c = c .before .before .push-mutation2 .ensures .same
+same-length-2 c = omega arith
 
 returns-2 : tie.Need-returns-2
 unfolding instructionEffect kindCost rowOf
@@ -139,7 +139,7 @@ returns-2 c =
     effect-of (a .e) (b4 .enum-told2 .given .1) (a .order .0) (c .before .before .push-mutation2 .ensures)
 
 same-length-3 : tie.Need-same-length-3
-same-length-3 c = c .before .before .push-mutation3 .ensures .same
+same-length-3 c = omega arith
 
 returns-3 : tie.Need-returns-3
 unfolding instructionEffect kindCost rowOf
@@ -149,7 +149,7 @@ returns-3 c =
     effect-of (a .e) (b4 .enum-told3 .given .1) (a .order .0) (c .before .before .push-mutation3 .ensures)
 
 same-length-4 : tie.Need-same-length-4
-same-length-4 c = c .before .before .push-mutation4 .ensures .same
+same-length-4 c = omega arith
 
 returns-4 : tie.Need-returns-4
 unfolding instructionEffect kindCost rowOf
@@ -159,7 +159,7 @@ returns-4 c =
     effect-of (a .e) (b4 .enum-told4 .given .1) (a .order .0) (c .before .before .push-mutation4 .ensures)
 
 same-length-5 : tie.Need-same-length-5
-same-length-5 c = c .before .before .capture .ensures .same
+same-length-5 c = omega arith
 
 returns-5 : tie.Need-returns-5
 unfolding instructionEffect kindCost rowOf
@@ -169,7 +169,7 @@ returns-5 c =
     effect-of (a .e) (b4 .enum-told5 .given .1) (a .order .0) (c .before .before .capture .ensures)
 
 same-length-6 : tie.Need-same-length-6
-same-length-6 c = c .before .before .assign .ensures .same
+same-length-6 c = omega arith
 
 returns-6 : tie.Need-returns-6
 unfolding instructionEffect kindCost rowOf
@@ -179,7 +179,7 @@ returns-6 c =
     effect-of (a .e) (b4 .enum-told6 .given .1) (a .order .0) (c .before .before .assign .ensures)
 
 same-length-7 : tie.Need-same-length-7
-same-length-7 c = c .before .before .maybe-alias .ensures .same
+same-length-7 c = omega arith
 
 returns-7 : tie.Need-returns-7
 unfolding instructionEffect kindCost rowOf
@@ -189,7 +189,7 @@ returns-7 c =
     effect-of (a .e) (b4 .enum-told7 .given .1) (a .order .0) (c .before .before .maybe-alias .ensures)
 
 same-length-8 : tie.Need-same-length-8
-same-length-8 c = c .before .before .assign-effect .ensures .same
+same-length-8 c = omega arith
 
 returns-8 : tie.Need-returns-8
 unfolding instructionEffect kindCost rowOf
@@ -199,7 +199,7 @@ returns-8 c =
     effect-of (a .e) (b4 .enum-told8 .given .1) (a .order .0) (c .before .before .assign-effect .ensures)
 
 same-length-9 : tie.Need-same-length-9
-same-length-9 c = c .before .before .create .ensures .same
+same-length-9 c = omega arith
 
 returns-9 : tie.Need-returns-9
 unfolding instructionEffect kindCost rowOf
@@ -209,7 +209,7 @@ returns-9 c =
     effect-of (a .e) (b4 .enum-told9 .given .1) (a .order .0) (c .before .before .create .ensures)
 
 same-length-10 : tie.Need-same-length-10
-same-length-10 c = c .before .before .create-from .ensures .same
+same-length-10 c = omega arith
 
 returns-10 : tie.Need-returns-10
 unfolding instructionEffect kindCost rowOf
@@ -219,7 +219,7 @@ returns-10 c =
     effect-of (a .e) (b4 .enum-told10 .given .1) (a .order .0) (c .before .before .create-from .ensures)
 
 same-length-11 : tie.Need-same-length-11
-same-length-11 c = c .before .before .create2 .ensures .same
+same-length-11 c = omega arith
 
 returns-11 : tie.Need-returns-11
 unfolding instructionEffect kindCost rowOf
@@ -229,7 +229,7 @@ returns-11 c =
     effect-of (a .e) (b4 .enum-told11 .given .1) (a .order .0) (c .before .before .create2 .ensures)
 
 same-length-12 : tie.Need-same-length-12
-same-length-12 c = c .before .before .push-render .ensures .same
+same-length-12 c = omega arith
 
 returns-12 : tie.Need-returns-12
 unfolding instructionEffect kindCost rowOf

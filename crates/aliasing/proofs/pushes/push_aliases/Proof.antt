@@ -4,9 +4,11 @@ use mathlib.Core.List.{List}
 use mathlib.Core.Path.{sym, ap, subst, _∙_}
 use Rattle.workspace.specs.Graph.{ALIASES, MAYBE}
 use Rattle.workspace.specs.Rows.{rowsOf, rowB}
-use Rattle.aliasing.specs.Pushes.{entriesW, Pushed, wordsB, blockedW}
+use Rattle.aliasing.specs.Pushes.{entriesW, wordsB, blockedW}
+use Rattle.writing.specs.Wrote.{Wrote}
 use Rattle.workspace.proofs.Rows.{value-at, rows-length}
-use Rattle.aliasing.proofs.PushLaws.{room-then, room-less, pushed-on, pushed-none, aliases-open, aliases-shut}
+use Rattle.aliasing.proofs.PushLaws.{room-then, room-less, pushed-on, aliases-open, aliases-shut}
+use Rattle.writing.proofs.Writing.{wrote-none}
 use Rattle.aliasing.proofs.Sizes.{list-le}
 use borrow.Author.Needs.{needs}
 use Rattle.aliasing.proofs.pushes.push_aliases.Statement.{statement}
@@ -28,7 +30,7 @@ returns : tie.Need-returns
 returns c =
     let b3 = c .before .before .before in
     let s = b3 .before in
-    let g = rowsOf (s .args .ws .now) in subst (λ (vs : List ℕ). Pushed (s .args .ws .now) (s .args .top) vs (s .args .ws .now) (s .args .top)) (aliases-shut g (s .args .x) (s .args .direction) (s .args .index) (s .args .transitive) (s .args .kind) (ap (λ (v : ℕ). blockedW v (s .args .direction)) (value-at (s .args .ws .now) (s .pre .0 .size) (s .args .x) (s .pre .1 .0)) ∙ sym (c .before .blocked .ensures) ∙ c .if1 .taken)) (pushed-none (s .args .ws .now) (s .args .top))
+    let g = rowsOf (s .args .ws .now) in subst (λ (vs : List ℕ). Wrote vs (s .args .ws .now) (s .args .top) (s .args .ws .now) (s .args .top)) (aliases-shut g (s .args .x) (s .args .direction) (s .args .index) (s .args .transitive) (s .args .kind) (ap (λ (v : ℕ). blockedW v (s .args .direction)) (value-at (s .args .ws .now) (s .pre .0 .size) (s .args .x) (s .pre .1 .0)) ∙ sym (c .before .blocked .ensures) ∙ c .if1 .taken)) (wrote-none (s .args .ws .now) (s .args .top))
 
 mul-push-list : tie.Need-mul-push-list
 mul-push-list c = omega arith
@@ -74,7 +76,7 @@ returns-2 c =
     let b11 = b9 .before .before in
     let s = b11 .before in
     let a = s .args in
-    let g = rowsOf (a .ws .now) in subst (λ (vs : List ℕ). Pushed (a .ws .now) (a .top) vs (c .before .before .push-list2 .last .0) (c .before .before .push-list2 .result)) (aliases-open g (a .x) (a .direction) (a .index) (a .transitive) (a .kind) (ap (λ (v : ℕ). blockedW v (a .direction)) (value-at (a .ws .now) (s .pre .0 .size) (a .x) (s .pre .1 .0)) ∙ sym (b9 .blocked .ensures) ∙ b8 .if1 .left)) (pushed-on (λ g. entriesW (a .index) (a .transitive) 0 (rowB g (4 * a .x + MAYBE))) (s .pre .0 .low) (b6 .push-list .ensures) (c .before .before .push-list2 .ensures))
+    let g = rowsOf (a .ws .now) in subst (λ (vs : List ℕ). Wrote vs (a .ws .now) (a .top) (c .before .before .push-list2 .last .0) (c .before .before .push-list2 .result)) (aliases-open g (a .x) (a .direction) (a .index) (a .transitive) (a .kind) (ap (λ (v : ℕ). blockedW v (a .direction)) (value-at (a .ws .now) (s .pre .0 .size) (a .x) (s .pre .1 .0)) ∙ sym (b9 .blocked .ensures) ∙ b8 .if1 .left)) (pushed-on (λ g. entriesW (a .index) (a .transitive) 0 (rowB g (4 * a .x + MAYBE))) (s .pre .0 .low) (b6 .push-list .ensures) (c .before .before .push-list2 .ensures))
 
 pub push-aliases-spec : {M : Type 1} → statement M
 push-aliases-spec =

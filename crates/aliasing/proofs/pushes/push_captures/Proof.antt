@@ -3,8 +3,9 @@ use native.Mathlib.Omega.{arith}
 use mathlib.Core.List.{List}
 use mathlib.Core.Path.{subst}
 use Rattle.workspace.specs.Rows.{rowsOf}
-use Rattle.aliasing.specs.Pushes.{Pushed}
-use Rattle.aliasing.proofs.PushLaws.{pushed-none, captures-open, captures-shut}
+use Rattle.writing.specs.Wrote.{Wrote}
+use Rattle.aliasing.proofs.PushLaws.{captures-open, captures-shut}
+use Rattle.writing.proofs.Writing.{wrote-none}
 use borrow.Author.Needs.{needs}
 use Rattle.aliasing.proofs.pushes.push_captures.Statement.{statement}
 use Rattle.aliasing.proofs.pushes.push_captures.Tie as tie
@@ -31,14 +32,14 @@ returns c =
     let b4 = c .before .before .before .before in
     let b5 = b4 .before in
     let s = b5 .before in
-    let a = s .args in subst (λ (vs : List ℕ). Pushed (a .ws .now) (a .top) vs (c .before .before .push-list .last .0) (c .before .before .push-list .result)) (captures-open (rowsOf (a .ws .now)) (a .x) (a .index) (a .transitive) (a .kind) (b4 .if1 .taken)) (c .before .before .push-list .ensures)
+    let a = s .args in subst (λ (vs : List ℕ). Wrote vs (a .ws .now) (a .top) (c .before .before .push-list .last .0) (c .before .before .push-list .result)) (captures-open (rowsOf (a .ws .now)) (a .x) (a .index) (a .transitive) (a .kind) (b4 .if1 .taken)) (c .before .before .push-list .ensures)
 
 returns-2 : tie.Need-returns-2
 returns-2 c =
     let s = c .before .before in
     let a = s .args in
-    subst (λ (vs : List ℕ). Pushed (a .ws .now) (a .top) vs (a .ws .now) (a .top))
-    (captures-shut (rowsOf (a .ws .now)) (a .x) (a .index) (a .transitive) (a .kind) (c .if1 .left)) (pushed-none (a .ws .now) (a .top))
+    subst (λ (vs : List ℕ). Wrote vs (a .ws .now) (a .top) (a .ws .now) (a .top))
+    (captures-shut (rowsOf (a .ws .now)) (a .x) (a .index) (a .transitive) (a .kind) (c .if1 .left)) (wrote-none (a .ws .now) (a .top))
 
 pub push-captures-spec : {M : Type 1} → statement M
 push-captures-spec =

@@ -4,7 +4,8 @@ use mathlib.Core.List.{List}
 use mathlib.Core.Path.{subst}
 use Rattle.workspace.specs.Layout.{FBOUND}
 use Rattle.workspace.specs.Rows.{rowsOf, fb}
-use Rattle.aliasing.specs.Pushes.{forwardW, Pushed}
+use Rattle.aliasing.specs.Pushes.{forwardW}
+use Rattle.writing.specs.Wrote.{Wrote}
 use Rattle.workspace.proofs.Rows.{Bounds, edge-bounds, rowF-at}
 use Rattle.aliasing.proofs.pushes.push_edges.Statement.{statement}
 use Rattle.aliasing.proofs.pushes.push_edges.Tie as tie
@@ -73,7 +74,7 @@ returns c =
     let lo : ℕ = b8 .wide .result - b6 .wide2 .result in
     let hi : ℕ = b8 .wide .result - b4 .wide3 .result in
     let b = bounds s in
-    subst (λ (row : List ℕ). Pushed (s .args .ws .now) (s .args .top) (forwardW (s .args .index) (s .args .transitive) (s .args .kind) row) (b2 .push-forward .last .0) (b2 .push-forward .result))
+    subst (λ (row : List ℕ). Wrote (forwardW (s .args .index) (s .args .transitive) (s .args .kind) row) (s .args .ws .now) (s .args .top) (b2 .push-forward .last .0) (b2 .push-forward .result))
     (rowF-at (s .args .ws .now) (s .pre .0 .size) (s .args .x) lo hi (omega (arith, b)) (omega (arith, b)) (omega (arith, b))) (b2 .push-forward .ensures)
 
 pub push-edges-spec : {M : Type 1} → statement M

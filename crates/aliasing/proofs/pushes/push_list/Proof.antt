@@ -4,7 +4,8 @@ use mathlib.Core.List.{List}
 use mathlib.Core.Path.{subst}
 use Rattle.workspace.specs.Layout.{BBOUND}
 use Rattle.workspace.specs.Rows.{rowsOf, bb}
-use Rattle.aliasing.specs.Pushes.{entriesW, Pushed}
+use Rattle.aliasing.specs.Pushes.{entriesW}
+use Rattle.writing.specs.Wrote.{Wrote}
 use Rattle.workspace.proofs.Rows.{Bounds, list-bounds, rowB-at}
 use Rattle.aliasing.proofs.pushes.push_list.Statement.{statement}
 use Rattle.aliasing.proofs.pushes.push_list.Tie as tie
@@ -73,7 +74,7 @@ returns c =
     let lo : ℕ = b8 .wide .result - b6 .wide2 .result in
     let hi : ℕ = b8 .wide .result - b4 .wide3 .result in
     let b = bounds s in
-    subst (λ (row : List ℕ). Pushed (s .args .ws .now) (s .args .top) (entriesW (s .args .index) (s .args .transitive) (s .args .kind) row) (b2 .push-entries .last .0) (b2 .push-entries .result))
+    subst (λ (row : List ℕ). Wrote (entriesW (s .args .index) (s .args .transitive) (s .args .kind) row) (s .args .ws .now) (s .args .top) (b2 .push-entries .last .0) (b2 .push-entries .result))
     (rowB-at (s .args .ws .now) (s .pre .0 .size) (s .args .k) lo hi (omega (arith, b)) (omega (arith, b)) (omega (arith, b))) (b2 .push-entries .ensures)
 
 pub push-list-spec : {M : Type 1} → statement M

@@ -15,8 +15,8 @@ mul-ws c = omega arith
 slice-write-ws : tie.Need-slice-write-ws
 slice-write-ws c = omega arith
 
-add-t7 : tie.Need-add-t7
-add-t7 c = omega arith
+add-t6 : tie.Need-add-t6
+add-t6 c = omega arith
 
 same-length : tie.Need-same-length
 same-length c = search needs
@@ -25,4 +25,4 @@ returns : tie.Need-returns
 returns c = edge-builds _ _ _ (c .pre .0) (c .pre .1)
 
 pub add-edge-spec : {M : Type 1} → statement M
-add-edge-spec = tie.close (tie.spec add-ws mul-ws slice-write-ws add-t7 same-length returns)
+add-edge-spec = tie.close (tie.spec add-ws mul-ws slice-write-ws add-t6 same-length returns)

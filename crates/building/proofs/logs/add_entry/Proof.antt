@@ -28,8 +28,8 @@ mul-ws c = omega arith
 slice-write-ws : tie.Need-slice-write-ws
 slice-write-ws c = omega arith
 
-add-t10 : tie.Need-add-t10
-add-t10 c = omega arith
+add-t9 : tie.Need-add-t9
+add-t9 c = omega arith
 
 same-length-2 : tie.Need-same-length-2
 same-length-2 c = search needs
@@ -49,6 +49,6 @@ add-entry-spec =
     add-ws
     mul-ws
     slice-write-ws
-    add-t10
+    add-t9
     same-length-2
     returns-2)

@@ -1,9 +1,10 @@
 use native.Mathlib.Omega.{arith}
 use Rattle.hir.specs.Words.{instructionFrom}
 use Rattle.hir.proofs.Widths.{listed-rises}
+use Rattle.hir.proofs.Several.{list-inside}
 use Rattle.copies.specs.Words.{instructionWords}
 use Rattle.copies.proofs.Blocks.{instruction-follows}
-use Rattle.copies.proofs.Copying.{list-inside, Copying, copying-start, copying-turn, copying-inside, copying-end, copies-listed}
+use Rattle.copies.proofs.Copying.{Copying, copying-start, copying-turn, copying-inside, copying-end, copies-listed}
 use Rattle.copies.proofs.Loops.{leaves-same}
 use Rattle.copies.proofs.effect_lists.copy_instructions.Statement.{statement}
 use Rattle.copies.proofs.effect_lists.copy_instructions.Tie as tie

@@ -1,5 +1,6 @@
 use native.Mathlib.Omega.{arith}
-use Rattle.hir.specs.Words.{effectWidth, wide, effectAt}
+use Rattle.hir.specs.Words.{wide, effectAt}
+use Rattle.model.specs.Limits.{effectWidth}
 use Rattle.hir.proofs.Widths.{wide-rises}
 use Rattle.copies.specs.Words.{copyWords}
 use Rattle.copies.proofs.Copying.{Copying, copying-start, copying-turn, copying-inside, copying-end}

@@ -1,6 +1,7 @@
 use native.Mathlib.Omega.{arith}
 use Rattle.hir.proofs.Widths.{wide-rises}
-use Rattle.hir.specs.Words.{diagnosticWidth, diagnosticAt}
+use Rattle.hir.specs.Words.{diagnosticAt}
+use Rattle.model.specs.Limits.{diagnosticWidth}
 use Rattle.model.specs.Answer.{diagnosticWords}
 use Rattle.copies.proofs.Copying.{Copying, copying-start, copying-turn, copying-inside, copying-end}
 use Rattle.copies.proofs.Errors.{diagnosticFrom, copies-diagnostic, diagnostics-room}

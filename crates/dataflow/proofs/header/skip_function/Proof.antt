@@ -1,30 +1,29 @@
-use Rattle.hir.specs.Says.{wordSays}
-use Rattle.hir.proofs.Answers.{says}
-use Rattle.model.proofs.Got.{not-both}
-use Rattle.dataflow.proofs.Functions.{function-got, skip-reads}
+use native.Mathlib.Omega.{arith}
+use Rattle.hir.proofs.Widths.{function-rises}
+use Rattle.dataflow.proofs.Storing.{function-end}
 use borrow.Author.Needs.{needs}
 use Rattle.dataflow.proofs.header.skip_function.Statement.{statement}
 use Rattle.dataflow.proofs.header.skip_function.Tie as tie
 
-count-requires : tie.Need-count-requires
-count-requires c κs = search needs
+list-at-requires : tie.Need-list-at-requires
+list-at-requires c κs = omega (arith, function-rises (c .before .args .sheet .now) (c .before .args .at), c .before .pre)
 
-enum-known-k : tie.Need-enum-known-k
-enum-known-k c = search needs
+cast-result : tie.Need-cast-result
+cast-result c = search needs
 
-skip-diagnostics-requires : tie.Need-skip-diagnostics-requires
-skip-diagnostics-requires c κs = search needs
+mul-result : tie.Need-mul-result
+mul-result c = search needs
 
-enum-told : tie.Need-enum-told
-enum-told c = search needs
+add-result : tie.Need-add-result
+add-result c =
+    let b4 = c .before .before .before .before in
+    omega (arith, function-end (b4 .args .sheet .now) (b4 .args .at) (c .before .before .list-at .ensures), b4 .pre)
 
 returns : tie.Need-returns
-returns c = record { read = λ f d e. skip-reads _ _ _ f d e (says wordSays (c .before .before .k .given .1) (c .before .before .before .before .count .ensures)) (c .skip-diagnostics .ensures .read) }
-
-returns-2 : tie.Need-returns-2
-returns-2 c = record { read = λ f d e. absurd (not-both (function-got _ _ f d e .counts) (says wordSays (c .enum-told .given .1) (c .before .before .count .ensures))) }
+returns c =
+    let b4 = c .before .before .before .before in
+    function-end (b4 .args .sheet .now) (b4 .args .at) (c .before .before .list-at .ensures)
 
 pub skip-function-spec : {M : Type 1} → statement M
 skip-function-spec =
-    tie.close
-    (tie.spec count-requires enum-known-k skip-diagnostics-requires enum-told returns returns-2)
+    tie.close (tie.spec list-at-requires cast-result mul-result add-result returns)

@@ -1,3 +1,4 @@
+use mathlib.Core.List.{[]}
 use mathlib.Core.Path.{_∙_}
 use borrow.Author.Needs.{needs}
 use Rattle.hir.specs.Says.{placeIs}
@@ -47,7 +48,7 @@ returns c =
     other-builds _ _ (b6 .pre .1) (placeIs (b6 .args .returns)) (c .before .next .given .1) (b3 .terminal-at .ensures)
 
 same-length : tie.Need-same-length
-same-length c = c .before .before .build-terminal-effects .ensures .spends .same ∙ c .before .before .before .before .before .before .assign .ensures .same
+same-length c = c .before .before .build-terminal-effects .ensures .spends .same ∙ c .before .before .before .before .before .before .assign .ensures [] .same
 
 returns-2 : tie.Need-returns-2
 returns-2 c =

@@ -1,3 +1,4 @@
+use Rattle.model.specs.Limits.{effectWidth}
 use Rattle.workspace.proofs.Places.{is-below}
 use Rattle.summary.proofs.Flowing.{Flowing, flowing-start, flowing-turn, flowing-end, flow-most}
 use Rattle.hir.specs.Says.{placeIs}
@@ -9,7 +10,7 @@ use Rattle.summary.proofs.flows.put_flows.Statement.{statement}
 use Rattle.summary.proofs.flows.put_flows.Tie as tie
 
 abbrev Inv-loop : tie.InvT-loop
-Inv-loop ws count into index returns answer₀ at to₀ i₀ answer to i = Flowing ws count (placeIs into) index (returns .0) answer₀ at i answer to × (to + 8 * (count - i) ≤ at + 8 * count) × (length answer ≡ length answer₀)
+Inv-loop ws count into index returns answer₀ at to₀ i₀ answer to i = Flowing ws count (placeIs into) index (returns .0) answer₀ at i answer to × (to + effectWidth * (count - i) ≤ at + effectWidth * count) × (length answer ≡ length answer₀)
 
 abbrev μ-loop : tie.MeasureT-loop
 μ-loop ws count into index returns answer₀ at to₀ i₀ answer to i = count - i

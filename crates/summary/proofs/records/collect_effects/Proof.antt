@@ -1,3 +1,4 @@
+use Rattle.model.specs.Limits.{effectWidth}
 use Rattle.workspace.proofs.Places.{is-below}
 use Rattle.summary.proofs.Collecting.{Collecting, collecting-start, collecting-turn, collecting-end, collected-most}
 use lib.ListN.{length}
@@ -8,7 +9,7 @@ use Rattle.summary.proofs.records.collect_effects.Statement.{statement}
 use Rattle.summary.proofs.records.collect_effects.Tie as tie
 
 abbrev Inv-loop : tie.InvT-loop
-Inv-loop ws first count answer₀ at to₀ i₀ answer to i = Collecting ws first count answer₀ at i answer to × (to + 16 * (count - i) ≤ at + 16 * count) × (length answer ≡ length answer₀)
+Inv-loop ws first count answer₀ at to₀ i₀ answer to i = Collecting ws first count answer₀ at i answer to × (to + 2 * effectWidth * (count - i) ≤ at + 2 * effectWidth * count) × (length answer ≡ length answer₀)
 
 abbrev μ-loop : tie.MeasureT-loop
 μ-loop ws first count answer₀ at to₀ i₀ answer to i = count - i

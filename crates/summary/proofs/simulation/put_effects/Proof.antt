@@ -1,6 +1,6 @@
 use native.Mathlib.Omega.{arith}
 use mathlib.Core.Path.{_∙_}
-use Rattle.dataflow.proofs.Described.{blocks-inside, returns-inside}
+use Rattle.dataflow.proofs.Described.{returns-inside}
 use Rattle.summary.proofs.Written.{indexed-after, after-context, after-params, after-returns, some-marked, after-walks, rises, effects-put}
 use borrow.Author.Needs.{needs}
 use Rattle.summary.proofs.simulation.put_effects.Statement.{statement}
@@ -25,7 +25,7 @@ put-copied-requires : tie.Need-put-copied-requires
 put-copied-requires c κs =
     let b3 = c .before .before .before in
     let b12 = b3 .before .before .before .before .before .before .before .before .before in
-    (blocks-inside (b12 .pre .1 .1 .0 .1 .describes), omega (arith, b3 .put .ensures .next, b12 .pre .1 .1 .0 .1 .describes .short, b12 .pre .1 .1 .1))
+    (b12 .pre .1 .1 .0 .1 .describes .blocksInside, omega (arith, b3 .put .ensures .next, b12 .pre .1 .1 .0 .1 .describes .short, b12 .pre .1 .1 .1))
 
 collect-effects-requires : tie.Need-collect-effects-requires
 collect-effects-requires c κs =

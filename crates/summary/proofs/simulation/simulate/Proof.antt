@@ -21,7 +21,7 @@ loop-holds c =
     let b6 = b5 .before in cleared-start (b6 .args .ws .now) (b6 .pre .0) (c .before .before .clear-marks .last .0) (c .before .before .clear-marks .ensures) (b6 .args .count) (b6 .args .index) (b6 .args .returns .0) (b6 .args .answer .now) (b6 .args .at)
 
 tracked-requires : tie.Need-tracked-requires Inv-loop μ-loop
-tracked-requires c κs = (omega arith, c .before .before .loop .inv .indexed .size)
+tracked-requires c κs = (omega arith, c .before .before .loop .inv .walkable .indexed .size)
 
 simulated-requires : tie.Need-simulated-requires Inv-loop μ-loop
 simulated-requires c κs =
@@ -33,7 +33,7 @@ simulated-requires c κs =
 mutate-requires : tie.Need-mutate-requires Inv-loop μ-loop
 mutate-requires c κs =
     let b5 = c .before .before .before .before .before in
-    (b5 .loop .inv .indexed, (b5 .loop .inv .handing, c .simulated .ensures .1 .1))
+    (b5 .loop .inv .walkable .indexed, (b5 .loop .inv .walkable .handing, c .simulated .ensures .1 .1))
 
 add-ws : tie.Need-add-ws Inv-loop μ-loop
 add-ws c =
@@ -97,7 +97,7 @@ loop-again c =
 same-length : tie.Need-same-length Inv-loop μ-loop
 same-length c =
     let b3 = c .before .before .before in
-    let b4 = b3 .before in c .before .loop .inv .same ∙ b4 .clear-marks .kept .0
+    let b4 = b3 .before in c .before .loop .inv .walkable .same ∙ b4 .clear-marks .kept .0
 
 same-length-2 : tie.Need-same-length-2 Inv-loop μ-loop
 same-length-2 c = c .before .loop .inv .buffer
