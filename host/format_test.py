@@ -75,7 +75,7 @@ def said_once(pattern):
 REACTIVE = said_once(r"plus ([\d,]+) if the place is reactive")
 CREATE = said_once(r"\| ([\d,]+) × reason \+ value kind")
 ASSIGN_CURRENT_PROPERTY = said_once(r"\| ([\d,]+) is AssignCurrentProperty")
-FUNCTION_DIAGNOSTICS = said_once(r"a count, at most ([\d,]+), and so many diagnostic numbers")
+FUNCTION_DIAGNOSTICS = said_once(r"a count, at most ([\d,]+), and so many diagnostics")
 LIST = said_once(r"A \*\*list of effects\*\* is a count, at most ([\d,]+),")
 for part in ("phis", "operands", "instructions"):
     assert LIST == said_once(rf"[Aa] count of {part}, at most ([\d,]+),"), part
@@ -91,6 +91,13 @@ def effect(kind, *places, extra=0):
     assert len(places) == PLACES[kind] and extra <= MOST_EXTRA[kind]
     words = [KIND[kind]] + sum(places, [])
     return words + [0] * (7 - len(words)) + [extra]
+
+
+def diagnosis(kind, place, identity, instance):
+    """MutateFrozen, MutateGlobal or Impure."""
+    words = effect(kind, place, extra=identity)
+    words[4] = instance
+    return words
 
 
 def create(into, value, reason):
@@ -128,11 +135,11 @@ def block(number, phis, instructions, terminal):
 
 
 def sheet(identifiers, returns, blocks=(), functions=(), params=(), context=(), flags=(0, 1)):
-    """Identifiers are (start, end, type), functions lists of diagnostic numbers."""
+    """Identifiers are (start, end, type), functions lists of diagnostics, each [identity, instance]."""
     return (
         counted([[flag] for flag in flags])
         + counted([[start, end, TYPE[kind]] for start, end, kind in identifiers])
-        + counted([counted([[diagnostic] for diagnostic in function]) for function in functions])
+        + counted([counted(function) for function in functions])
         + counted(params)
         + counted(context)
         + counted([returns])
@@ -198,7 +205,7 @@ EVERY_PART = sheet(
         (0, 0, "Other"),  # item
         (0, 1_000_000, "Other"),  # rest
     ],
-    functions=[[500, 501], [600]],
+    functions=[[[500, 31], [501, 30]], [[600, 0]]],
     params=[place(PROPS, "Read", reactive=True, span=11), place(REST, "Store", span=12)],
     context=[place(THEME, "ConditionallyMutate", span=13)],
     returns=place(RESULT, "Freeze", reactive=True, span=14),
@@ -239,7 +246,7 @@ EVERY_PART = sheet(
                 instruction(
                     5,
                     create(place(LABEL), "Primitive", "StoreLocal"),
-                    effect("Impure", place(LABEL, "Read", span=75), extra=700),
+                    diagnosis("Impure", place(LABEL, "Read", span=75), 700, 65_535),
                 ),
                 instruction(6, effect("MutateTransitive", place(PICKED, "Mutate", span=77))),  # 6
             ],
@@ -289,12 +296,12 @@ EVERY_PART = sheet(
 # Mutation 3 (conditional, item, order 3, span 70): item pushes theme, from which it was created,
 #   now transitive; theme pushes item; item-. 3 entries. Ends of item and theme: 4.
 # Mutation 6 (transitive, picked, order 6, span 77): picked pushes props, list (not result, 10);
-#   list pushes picked, props, changed; changed hands over its diagnostic 600 and pushes list (not
+#   list pushes picked, props, changed; changed hands over its diagnostic 600/0 and pushes list (not
 #   shown, 7); list-, props pushes list, picked; picked-, list-, picked-, props-. 9 entries. Ends of
 #   picked, list, changed and props: 7.
 # Mutation 9 (rest, order 8, span 99, AssignCurrentProperty): 1 entry. The end of rest stays
 #   1,000,000, which is more than 9.
-# Render 8 (shown): has no record, hands over 500 and 501, and pushes changed, which has a record and
+# Render 8 (shown): has no record, hands over 500/31 and 501/30, and pushes changed, which has a record and
 #   is passed by.
 #
 # Then the simulated walks, which follow all relations.
@@ -314,11 +321,11 @@ EVERY_PART_ANSWER = [
     "params 2 0 11 11 9 3 12",
     "context 1 1 3 13",
     # Impure's while building, then those handed over by the mutation, then by the render.
-    "diagnostics 4 700 600 500 501",
+    "diagnostics 4 700 65535 600 0 500 31 501 30",
     " ".join(
         [
             "effects 7",
-            "16 5 2 75 0 0 0 700",  # Impure label
+            "16 5 2 75 65535 0 0 700",  # Impure label
             "17 3 10 88 0 0 0 0",  # Render shown
             # Context first, then parameters: the sheet's traits, the mutation's span.
             "4 1 5 70 0 0 0 0",  # MutateTransitiveConditionally theme
@@ -370,7 +377,7 @@ def names():
             text = f"Render x0{'' if name == 'Unknown' else ' ' + name}{' reactive' if reactive else ''}"
             add(text, effect("Render", place(0, name, reactive)))
     for name in KIND:
-        behind = {"CreateFunction": " function f0"}.get(name, " diagnostic 0" if MOST_EXTRA[name] > 100 else "")
+        behind = {"CreateFunction": " function f0"}.get(name, " diagnostic 0/0" if MOST_EXTRA[name] > 100 else "")
         places = ["", " x0", " x0 into x1"][PLACES[name]]
         add(name + places + behind, effect(name, *[place(0), place(1)][:PLACES[name]]))
     for name in REASON:
@@ -425,7 +432,8 @@ def limits():
     head += [2, 0, 0, 0, 0, 0, 0]
     word("inner functions", head, COUNT["inner functions"], 4)
     word("an inner function's diagnostics", head + [1], FUNCTION_DIAGNOSTICS, 4)
-    word("diagnostic number", head + [1, 1], most("diagnostic number"), 5)
+    word("identity", head + [1, 1], most("a diagnostic's identity"), 5)
+    word("instance", head + [1, 1, 0], most("a diagnostic's instance"), 5)
     head += [1, 0]
     word("parameters", head, COUNT["parameters"], 4)
     check(MOST["a place's identifier"], "N - 1", "a place's identifier")
@@ -454,7 +462,9 @@ def limits():
     for kind in KIND:
         words = head + [1, 0, 1] + effect(kind, *[place(0), place(0)][:PLACES[kind]])
         for at in range(3 * PLACES[kind], 6):
-            word(f"word of a place that {kind} does not use", cut(words, 7 - at), 0, 5)
+            instance = at == 3 and kind in ("MutateFrozen", "MutateGlobal", "Impure")
+            largest = most("a diagnostic's instance") if instance else 0
+            word(f"word of a place that {kind} does not use", cut(words, 7 - at), largest, 5)
         word(f"extra word of {kind}", cut(words, 1), 0 if kind == "CreateFunction" else MOST_EXTRA[kind], 5)
     many = sheet([(0, 0, "Other")], place(0), [[7] + counted([]) + [1, 0, 1]], [[]] * COUNT["inner functions"])
     word("extra word of CreateFunction", many + [KIND["CreateFunction"]] + [0] * 6, MOST_EXTRA["CreateFunction"], 5)
@@ -537,13 +547,13 @@ def longest():
     effects += [effect("Capture", place(i + 1), place(i)) for i in ids[:-1]]
     effects += [effect("Render", place(0))] * TOTAL["renders"]
     lists = [instruction(1, *effects[at:at + LIST]) for at in range(0, len(effects), LIST)]
-    words = sheet([(0, 0, "Other")] * len(ids), place(0), [block(0, [], lists, other(2))], [[9] * FUNCTION_DIAGNOSTICS])
+    words = sheet([(0, 0, "Other")] * len(ids), place(0), [block(0, [], lists, other(2))], [[[9, 8]] * FUNCTION_DIAGNOSTICS])
     said = answer(words)
     counts = f"a sheet of {len(words):,} words", f"with {int(said[3].split()[1]):,} diagnostics"
     for count in counts:
         check(count in TEXT, True, f"the page has `{count}`")
     places, effects = COUNT["parameters"] + COUNT["context"], 16_384 // 8
-    most = 6 + 2 * len(ids) + 3 * places + effects + len(ids) * TOTAL["renders"] * FUNCTION_DIAGNOSTICS
+    most = 6 + 2 * len(ids) + 3 * places + 2 * (effects + len(ids) * TOTAL["renders"] * FUNCTION_DIAGNOSTICS)
     most += 8 * (effects + 2 * places + 1 + places * places) + TOTAL["mutations"] + places + 1
     check(f"No answer has more than {most:,} words" in TEXT, True, f"the longest answer is {most:,} words")
 

@@ -27,12 +27,12 @@ extern "C" {
 #define SERVICE_LEAST_WORKSPACE 16384
 #define SERVICE_MOST_SHEET 16384
 
-/* How many words an answer has at most, some 34 megabytes: with a buffer so long no call is refused
+/* How many words an answer has at most, some 68 megabytes: with a buffer so long no call is refused
  * 9. 16,384 words are enough for nearly every sheet. Where they are not, lend more and call again,
  * 16 times as many each time until this number is reached: a refused call takes no serial and
  * leaves nothing behind. Every word lent is cleared, so that a long buffer for every call would
  * cost time. A host that wants no answer so long takes 9 as the last word. */
-#define SERVICE_MOST_ANSWER 8542223
+#define SERVICE_MOST_ANSWER 16932879
 
 /* Why a call was refused. The lower number is checked first, but 3 to 6 come from one reading from
  * left to right: the first faulty word decides. */
@@ -80,7 +80,8 @@ enum ServiceEffect {
 
 #define SERVICE_REACTIVE 8
 
-/* The kind of an effect: its first word. Behind each its places and its extra word, the last. */
+/* The kind of an effect: its first word. Behind each its places and its extra word, the last. Kinds
+ * 14 to 16 have the instance of their diagnostic in the first word of the second place. */
 enum ServiceKind {
     SERVICE_KIND_FREEZE = 0,                          /* 1; a reason */
     SERVICE_KIND_MUTATE = 1,                          /* 1; SERVICE_ASSIGN_CURRENT_PROPERTY or 0 */
@@ -96,9 +97,9 @@ enum ServiceKind {
     SERVICE_KIND_IMMUTABLE_CAPTURE = 11,              /* 2: from, into; 0 */
     SERVICE_KIND_APPLY = 12,                          /* 0; 0 */
     SERVICE_KIND_CREATE_FUNCTION = 13,                /* 1; an inner function's number */
-    SERVICE_KIND_MUTATE_FROZEN = 14,                  /* 1; a diagnostic's number */
-    SERVICE_KIND_MUTATE_GLOBAL = 15,                  /* 1; a diagnostic's number */
-    SERVICE_KIND_IMPURE = 16,                         /* 1; a diagnostic's number */
+    SERVICE_KIND_MUTATE_FROZEN = 14,                  /* 1; a diagnostic's identity */
+    SERVICE_KIND_MUTATE_GLOBAL = 15,                  /* 1; a diagnostic's identity */
+    SERVICE_KIND_IMPURE = 16,                         /* 1; a diagnostic's identity */
     SERVICE_KIND_RENDER = 17                          /* 1; 0 */
 };
 
@@ -163,7 +164,7 @@ struct Reply {
  * other, the sheet or the state.
  *
  * An answer has six sections, each a count and then so many records: ranges (2 words: start,
- * end), params and context (places of 3 words), diagnostics (1), effects (8), walks (1). */
+ * end), params and context (places of 3 words), diagnostics (2: identity, instance), effects (8), walks (1). */
 struct Reply service_infer(struct ServiceState *state,
                            const uint32_t *sheet, size_t sheet_words,
                            uint32_t *workspace, size_t workspace_words,

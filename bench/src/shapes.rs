@@ -1,11 +1,16 @@
 //! Sheets: panels as they are written, the limits, and the worst for each side.
 
 use oracle::dense::{block, place, sheet, two};
-use oracle::plain::sheet::{Block, Effect, Instruction, Phi, Sheet, Terminal};
+use oracle::plain::sheet::{Block, Diagnostic, Effect, Instruction, Phi, Sheet, Terminal};
 use oracle::random::Random;
 
 fn one(kind: u32, identifier: usize) -> Effect {
     Effect { kind, first: place(identifier), ..Effect::default() }
+}
+
+/// So many diagnostics, with rising identities.
+fn diagnostics(first: u32, count: u32) -> Vec<Diagnostic> {
+    (first..first + count).map(|i| Diagnostic { identity: i, instance: i }).collect()
 }
 
 /// The smallest sheet: one identifier, which is returned, and no block.
@@ -19,7 +24,7 @@ pub fn panel(random: &mut Random, identifiers: usize) -> Sheet {
     let mut sheet = sheet(identifiers, Vec::new());
     let context = (identifiers / 10).min(8).min(identifiers - 2);
     sheet.context = (1..=context).map(place).collect();
-    sheet.functions = vec![vec![7, 8], vec![9]];
+    sheet.functions = vec![diagnostics(7, 2), diagnostics(9, 1)];
     let mut made = context + 1;
     let mut order = 0;
     let mut number = 0;
@@ -168,7 +173,7 @@ pub fn renders(nodes: usize, renders: usize) -> Sheet {
     effects.extend((1..nodes).map(|i| two(5, i, i - 1)));
     effects.extend((0..renders).map(|_| one(17, 0)));
     let mut sheet = sheet(nodes + 1, vec![block(0, Vec::new(), &effects)]);
-    sheet.functions = vec![(0..64).collect()];
+    sheet.functions = vec![diagnostics(0, 64)];
     sheet.params = Vec::new();
     sheet
 }

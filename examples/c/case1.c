@@ -26,7 +26,7 @@ static const struct {
     const char *name;
     size_t words; /* of a record */
 } sections[] = {
-    {"ranges", 2}, {"params", 3}, {"context", 3}, {"diagnostics", 1}, {"effects", 8}, {"walks", 1},
+    {"ranges", 2}, {"params", 3}, {"context", 3}, {"diagnostics", 2}, {"effects", 8}, {"walks", 1},
 };
 
 #define COUNT(array) (sizeof(array) / sizeof((array)[0]))

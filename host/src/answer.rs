@@ -3,7 +3,7 @@
 use std::fmt;
 
 use crate::parts::{
-    AliasingEffect, DiagnosticId, EvaluationOrder, IdentifierId, MutableRange, Place,
+    AliasingDiagnostic, AliasingEffect, EvaluationOrder, IdentifierId, MutableRange, Place,
 };
 
 /// The name of each section and how many words a record of it has.
@@ -11,7 +11,7 @@ const SECTIONS: [(&str, usize); 6] = [
     ("ranges", 2),
     ("params", 3),
     ("context", 3),
-    ("diagnostics", 1),
+    ("diagnostics", 2),
     ("effects", 8),
     ("walks", 1),
 ];
@@ -74,8 +74,10 @@ impl<'s> Answer<'s> {
     }
 
     /// The diagnostics, in the order in which they were recorded.
-    pub fn diagnostics(&self) -> impl ExactSizeIterator<Item = DiagnosticId> + use<'s> {
-        self.sections[3].iter().map(|&number| DiagnosticId(number))
+    pub fn diagnostics(&self) -> impl ExactSizeIterator<Item = AliasingDiagnostic> + use<'s> {
+        let diagnostic =
+            |&[identity, instance]: &[u32; 2]| AliasingDiagnostic::new(identity, instance);
+        self.sections[3].as_chunks().0.iter().map(diagnostic)
     }
 
     /// What a call of the function does, in the original's order.

@@ -4,8 +4,8 @@ use std::fmt;
 
 use crate::limits;
 use crate::parts::{
-    AliasingEffect, BlockId, DiagnosticId, EvaluationOrder, FunctionId, Identifier, IdentifierId,
-    Place,
+    AliasingDiagnostic, AliasingEffect, BlockId, EvaluationOrder, FunctionId, Identifier,
+    IdentifierId, Place,
 };
 use crate::sheet::{Block, Instruction, Operand, Phi, Sheet, Terminal};
 
@@ -123,6 +123,12 @@ pub(crate) fn at_most(what: &'static str, number: u32, most: u32) -> Taken {
     if number <= most { Ok(()) } else { Err(PartError::TooLarge { what, number, most }) }
 }
 
+/// Both halves of a diagnostic.
+pub(crate) fn within_limits(diagnostic: &AliasingDiagnostic) -> Taken {
+    at_most("a diagnostic's identity", diagnostic.identity.0, limits::DIAGNOSTIC)?;
+    at_most("a diagnostic's instance", diagnostic.instance.0, limits::DIAGNOSTIC)
+}
+
 impl SheetBuilder {
     /// No parts yet, and both flags unset.
     pub fn new() -> SheetBuilder {
@@ -160,16 +166,14 @@ impl SheetBuilder {
     }
 
     /// Adds an inner function with its diagnostics and gives its number.
-    pub fn function(&mut self, diagnostics: &[DiagnosticId]) -> Taken<FunctionId> {
+    pub fn function(&mut self, diagnostics: &[AliasingDiagnostic]) -> Taken<FunctionId> {
         let sheet = &mut self.sheet;
         room(&sheet.functions, "inner functions", limits::FUNCTIONS)?;
         let most = limits::FUNCTION_DIAGNOSTICS;
         if diagnostics.len() > most {
             return Err(PartError::TooMany { what: "diagnostics of an inner function", most });
         }
-        for diagnostic in diagnostics {
-            at_most("a diagnostic number", diagnostic.0, limits::DIAGNOSTIC)?;
-        }
+        diagnostics.iter().try_for_each(within_limits)?;
         sheet.functions.push(diagnostics.to_vec());
         Ok(FunctionId(sheet.functions.len() as u32 - 1))
     }
@@ -314,7 +318,7 @@ impl SheetBuilder {
             AliasingEffect::MutateFrozen { error, .. }
             | AliasingEffect::MutateGlobal { error, .. }
             | AliasingEffect::Impure { error, .. } => {
-                at_most("a diagnostic number", error.0, limits::DIAGNOSTIC)?;
+                within_limits(&error)?;
             }
             _ => {}
         }

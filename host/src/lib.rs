@@ -56,8 +56,9 @@ pub mod text;
 pub use answer::Answer;
 pub use builder::{PartError, SheetBuilder};
 pub use parts::{
-    AliasingEffect, BlockId, DiagnosticId, Effect, EffectKind, EvaluationOrder, FunctionId,
-    Identifier, IdentifierId, MutableRange, MutationReason, Place, Type, ValueKind, ValueReason,
+    AliasingDiagnostic, AliasingEffect, BlockId, DiagnosticId, DiagnosticInstanceId, Effect,
+    EffectKind, EvaluationOrder, FunctionId, Identifier, IdentifierId, MutableRange,
+    MutationReason, Place, Type, ValueKind, ValueReason,
 };
 pub use reading::ReadError;
 pub use refusal::Refusal;

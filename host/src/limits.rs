@@ -22,7 +22,7 @@ pub const RANGE: u32 = 1_000_000;
 pub const ORDER: u32 = 999_999;
 /// Of a block's number.
 pub const BLOCK_NUMBER: u32 = 65_535;
-/// Of a diagnostic's number.
+/// Of each half of a diagnostic.
 pub const DIAGNOSTIC: u32 = 65_535;
 
 /// Of relation effects, phi operands and Return values in the whole sheet; see
@@ -38,7 +38,7 @@ pub const RENDERS: usize = 256;
 pub const ANSWER: usize = 6
     + 2 * IDENTIFIERS
     + 3 * TRACKED
-    + (EFFECTS + IDENTIFIERS * RENDERS * FUNCTION_DIAGNOSTICS)
+    + 2 * (EFFECTS + IDENTIFIERS * RENDERS * FUNCTION_DIAGNOSTICS)
     + 8 * (EFFECTS + 2 * TRACKED + 1 + TRACKED * TRACKED)
     + (MUTATIONS + TRACKED + 1);
 

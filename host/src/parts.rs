@@ -2,6 +2,8 @@
 
 use std::fmt;
 
+use crate::limits;
+
 /// Defines an enum whose cases stand for the words 0, 1, 2, ..
 macro_rules! numbered {
     ($(#[$doc:meta])* $name:ident: $($(#[$case_doc:meta])* $case:ident),+ $(,)?) => {
@@ -60,9 +62,43 @@ pub struct BlockId(pub u32);
 #[derive(Debug, Clone, Copy, PartialEq, Eq, PartialOrd, Ord, Hash, Default)]
 pub struct FunctionId(pub u32);
 
-/// A diagnostic's number, at most 65,535.
+/// A diagnostic's identity, at most 65,535: what it says.
 #[derive(Debug, Clone, Copy, PartialEq, Eq, PartialOrd, Ord, Hash, Default)]
 pub struct DiagnosticId(pub u32);
+
+/// A diagnostic's instance, at most 65,535: where it was raised.
+#[derive(Debug, Clone, Copy, PartialEq, Eq, PartialOrd, Ord, Hash, Default)]
+pub struct DiagnosticInstanceId(pub u32);
+
+/// A diagnostic: its identity and its instance, both the host's own numbers.
+#[derive(Debug, Clone, Copy, PartialEq, Eq, PartialOrd, Ord, Hash, Default)]
+pub struct AliasingDiagnostic {
+    /// What it says.
+    pub identity: DiagnosticId,
+    /// Where it was raised.
+    pub instance: DiagnosticInstanceId,
+}
+
+impl AliasingDiagnostic {
+    /// The diagnostic of these two numbers.
+    pub const fn new(identity: u32, instance: u32) -> AliasingDiagnostic {
+        AliasingDiagnostic {
+            identity: DiagnosticId(identity),
+            instance: DiagnosticInstanceId(instance),
+        }
+    }
+
+    /// The diagnostic's two words, the identity first.
+    pub const fn words(self) -> [u32; 2] {
+        [self.identity.0, self.instance.0]
+    }
+}
+
+impl fmt::Display for AliasingDiagnostic {
+    fn fmt(&self, f: &mut fmt::Formatter) -> fmt::Result {
+        write!(f, "{}/{}", self.identity.0, self.instance.0)
+    }
+}
 
 /// An instruction's order (at most 999,999), and each end of a range (at most 1,000,000).
 #[derive(Debug, Clone, Copy, PartialEq, Eq, PartialOrd, Ord, Hash, Default)]
@@ -285,9 +321,15 @@ impl EffectKind {
             Mutate => 1,
             Create => 71,
             CreateFunction => 63,
-            MutateFrozen | MutateGlobal | Impure => 65_535,
+            MutateFrozen | MutateGlobal | Impure => limits::DIAGNOSTIC,
             _ => 0,
         }
+    }
+
+    /// Whether it has a diagnostic: its identity is the extra word, its instance the first word of
+    /// the second place.
+    pub const fn is_diagnosis(self) -> bool {
+        matches!(self, EffectKind::MutateFrozen | EffectKind::MutateGlobal | EffectKind::Impure)
     }
 
     /// Whether it relates two values in an instruction, and so counts towards 1,024.
@@ -403,21 +445,21 @@ pub enum AliasingEffect {
         /// What it is about.
         place: Place,
         /// The diagnostic that is recorded.
-        error: DiagnosticId,
+        error: AliasingDiagnostic,
     },
     /// A global value is changed: an error.
     MutateGlobal {
         /// What it is about.
         place: Place,
         /// The diagnostic that is recorded.
-        error: DiagnosticId,
+        error: AliasingDiagnostic,
     },
     /// Something impure is done: an error.
     Impure {
         /// What it is about.
         place: Place,
         /// The diagnostic that is recorded.
-        error: DiagnosticId,
+        error: AliasingDiagnostic,
     },
     /// The value is used while rendering.
     Render {
@@ -488,6 +530,17 @@ impl AliasingEffect {
         }
     }
 
+    /// The diagnostic of MutateFrozen, MutateGlobal and Impure.
+    pub const fn diagnostic(&self) -> Option<AliasingDiagnostic> {
+        use AliasingEffect::*;
+        match *self {
+            MutateFrozen { error, .. } | MutateGlobal { error, .. } | Impure { error, .. } => {
+                Some(error)
+            }
+            _ => None,
+        }
+    }
+
     /// The extra word.
     pub const fn extra(&self) -> u32 {
         use AliasingEffect::*;
@@ -497,7 +550,7 @@ impl AliasingEffect {
             Create { value, reason, .. } => 6 * reason.number() + value.number(),
             CreateFunction { function_id, .. } => function_id.0,
             MutateFrozen { error, .. } | MutateGlobal { error, .. } | Impure { error, .. } => {
-                error.0
+                error.identity.0
             }
             _ => 0,
         }
@@ -507,7 +560,8 @@ impl AliasingEffect {
     pub fn words(&self) -> [u32; 8] {
         let (first, second) = self.places();
         let [a, b, c] = first.map_or([0; 3], |place| place.words());
-        let [d, e, f] = second.map_or([0; 3], |place| place.words());
+        let instance = self.diagnostic().map_or(0, |error| error.instance.0);
+        let [d, e, f] = second.map_or([instance, 0, 0], |place| place.words());
         [self.kind().number(), a, b, c, d, e, f, self.extra()]
     }
 
@@ -522,8 +576,8 @@ impl AliasingEffect {
         (effect.words() == words).then_some(effect)
     }
 
-    /// The effect of these parts, of which the kind uses some; none if the extra word is above
-    /// its limit.
+    /// The effect of these parts, of which the kind uses some; none if the extra word or the
+    /// instance is above its limit.
     pub(crate) fn of(
         kind: EffectKind,
         first: Place,
@@ -534,6 +588,10 @@ impl AliasingEffect {
             return None;
         }
         let (from, into) = (first, second);
+        let error = AliasingDiagnostic::new(extra, second.identifier.0);
+        if kind.is_diagnosis() && error.instance.0 > limits::DIAGNOSTIC {
+            return None;
+        }
         Some(match kind {
             EffectKind::Freeze => {
                 AliasingEffect::Freeze { value: first, reason: ValueReason::from_number(extra)? }
@@ -562,15 +620,9 @@ impl AliasingEffect {
             EffectKind::CreateFunction => {
                 AliasingEffect::CreateFunction { into: first, function_id: FunctionId(extra) }
             }
-            EffectKind::MutateFrozen => {
-                AliasingEffect::MutateFrozen { place: first, error: DiagnosticId(extra) }
-            }
-            EffectKind::MutateGlobal => {
-                AliasingEffect::MutateGlobal { place: first, error: DiagnosticId(extra) }
-            }
-            EffectKind::Impure => {
-                AliasingEffect::Impure { place: first, error: DiagnosticId(extra) }
-            }
+            EffectKind::MutateFrozen => AliasingEffect::MutateFrozen { place: first, error },
+            EffectKind::MutateGlobal => AliasingEffect::MutateGlobal { place: first, error },
+            EffectKind::Impure => AliasingEffect::Impure { place: first, error },
             EffectKind::Render => AliasingEffect::Render { place: first },
         })
     }

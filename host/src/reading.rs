@@ -4,8 +4,8 @@ use std::fmt;
 
 use crate::limits;
 use crate::parts::{
-    AliasingEffect, BlockId, DiagnosticId, EffectKind, EvaluationOrder, Identifier, IdentifierId,
-    MutableRange, Place, Type,
+    AliasingDiagnostic, AliasingEffect, BlockId, EffectKind, EvaluationOrder, Identifier,
+    IdentifierId, MutableRange, Place, Type,
 };
 use crate::refusal::Refusal;
 use crate::sheet::{Block, Instruction, Operand, Phi, Sheet, Terminal};
@@ -137,11 +137,15 @@ impl Reader<'_> {
         Ok(Identifier { range: MutableRange { start, end }, type_ })
     }
 
-    fn function(&mut self) -> Read<Vec<DiagnosticId>> {
+    fn diagnostic(&mut self) -> Read<AliasingDiagnostic> {
+        let identity = self.at_most("a diagnostic's identity", limits::DIAGNOSTIC)?;
+        let instance = self.at_most("a diagnostic's instance", limits::DIAGNOSTIC)?;
+        Ok(AliasingDiagnostic::new(identity, instance))
+    }
+
+    fn function(&mut self) -> Read<Vec<AliasingDiagnostic>> {
         let count = self.count("an inner function's diagnostics", limits::FUNCTION_DIAGNOSTICS)?;
-        self.times("diagnostic", count, |r| {
-            Ok(DiagnosticId(r.at_most("a diagnostic number", limits::DIAGNOSTIC)?))
-        })
+        self.times("diagnostic", count, Self::diagnostic)
     }
 
     fn place(&mut self) -> Read<Place> {
@@ -156,17 +160,31 @@ impl Reader<'_> {
         if used {
             return self.place();
         }
-        for _ in 0..3 {
-            self.zero(format_args!("a word of a place that {kind} does not use"))?;
-        }
+        self.unused(3, kind)?;
         Ok(Place::of(IdentifierId(0)))
+    }
+
+    fn unused(&mut self, words: usize, kind: EffectKind) -> Read<()> {
+        (0..words)
+            .try_for_each(|_| self.zero(format_args!("a word of a place that {kind} does not use")))
+    }
+
+    /// The second place; for a diagnosis its first word is the instance, and the others are 0.
+    fn second_place(&mut self, kind: EffectKind) -> Read<Place> {
+        if !kind.is_diagnosis() {
+            return self.effect_place(kind.places() >= 2, kind);
+        }
+        let what = format_args!("the instance of {kind}'s diagnostic");
+        let instance = self.at_most(what, limits::DIAGNOSTIC)?;
+        self.unused(2, kind)?;
+        Ok(Place::of(IdentifierId(instance)))
     }
 
     fn effect(&mut self) -> Read<AliasingEffect> {
         let kind = self.at_most("an effect kind", 17)?;
         let kind = EffectKind::ALL[kind as usize];
         let first = self.effect_place(kind.places() >= 1, kind)?;
-        let second = self.effect_place(kind.places() >= 2, kind)?;
+        let second = self.second_place(kind)?;
         let extra = match (kind, kind.most_extra()) {
             (EffectKind::CreateFunction, _) => {
                 self.below("an inner function's number", self.functions)?

@@ -1,8 +1,8 @@
 //! A sheet as typed parts, and its words.
 
 use crate::parts::{
-    AliasingEffect, BlockId, DiagnosticId, EffectKind, EvaluationOrder, Identifier, IdentifierId,
-    Place,
+    AliasingDiagnostic, AliasingEffect, BlockId, EffectKind, EvaluationOrder, Identifier,
+    IdentifierId, Place,
 };
 use crate::reading::{self, ReadError};
 use crate::{limits, refusal::Refusal};
@@ -14,7 +14,7 @@ pub struct Sheet {
     pub(crate) function_expression: bool,
     pub(crate) validations: bool,
     pub(crate) identifiers: Vec<Identifier>,
-    pub(crate) functions: Vec<Vec<DiagnosticId>>,
+    pub(crate) functions: Vec<Vec<AliasingDiagnostic>>,
     pub(crate) params: Vec<Place>,
     pub(crate) context: Vec<Place>,
     pub(crate) returns: Place,
@@ -145,7 +145,7 @@ impl Sheet {
     }
 
     /// The diagnostics of each inner function; the position is the number.
-    pub fn functions(&self) -> &[Vec<DiagnosticId>] {
+    pub fn functions(&self) -> &[Vec<AliasingDiagnostic>] {
         &self.functions
     }
 
@@ -211,7 +211,7 @@ impl Sheet {
         words.push(self.functions.len() as u32);
         for diagnostics in &self.functions {
             words.push(diagnostics.len() as u32);
-            words.extend(diagnostics.iter().map(|d| d.0));
+            words.extend(diagnostics.iter().flat_map(|d| d.words()));
         }
         for places in [&self.params[..], &self.context, &[self.returns]] {
             words.push(places.len() as u32);

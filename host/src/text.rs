@@ -23,10 +23,9 @@
 use std::collections::HashMap;
 use std::fmt::{self, Write};
 
-use crate::builder::{SheetBuilder, at_most};
-use crate::limits;
+use crate::builder::{SheetBuilder, within_limits};
 use crate::parts::{
-    AliasingEffect, BlockId, DiagnosticId, Effect, EffectKind, EvaluationOrder, FunctionId,
+    AliasingDiagnostic, AliasingEffect, BlockId, Effect, EffectKind, EvaluationOrder, FunctionId,
     Identifier, IdentifierId, MutableRange, MutationReason, Place, Type, ValueKind, ValueReason,
 };
 use crate::sheet::{Sheet, Terminal};
@@ -104,7 +103,7 @@ impl Names {
             }
             AliasingEffect::MutateFrozen { error, .. }
             | AliasingEffect::MutateGlobal { error, .. }
-            | AliasingEffect::Impure { error, .. } => text += &format!(" diagnostic {}", error.0),
+            | AliasingEffect::Impure { error, .. } => text += &format!(" diagnostic {error}"),
             _ => {}
         }
         text
@@ -147,7 +146,7 @@ fn put_sheet(text: &mut String, sheet: &Sheet, names: &Names) -> fmt::Result {
             write!(text, " diagnostics")?;
         }
         for diagnostic in diagnostics {
-            write!(text, " {}", diagnostic.0)?;
+            write!(text, " {diagnostic}")?;
         }
         writeln!(text)?;
     }
@@ -283,6 +282,22 @@ impl<'t> Words<'t> {
             return Err(format!("{word} is too large for {what}"));
         }
         self.expected(&format!("{what} (a number)"))
+    }
+
+    /// Identity and instance, parted by a slash; an instance left out is 0.
+    fn diagnostic(&mut self) -> Parsed<AliasingDiagnostic> {
+        const WHAT: &str = "a diagnostic (IDENTITY/INSTANCE)";
+        let Some(word) = self.rest.peek().copied() else { return self.expected(WHAT) };
+        let (identity, instance) = word.split_once('/').unwrap_or((word, "0"));
+        let half = |half: &str| half.bytes().all(|byte| byte.is_ascii_digit()) && !half.is_empty();
+        if !half(identity) || !half(instance) {
+            return self.expected(WHAT);
+        }
+        let (Ok(identity), Ok(instance)) = (identity.parse(), instance.parse()) else {
+            return Err(format!("{word} is too large for a diagnostic"));
+        };
+        self.rest.next();
+        Ok(AliasingDiagnostic::new(identity, instance))
     }
 
     /// Takes the next word if it names one of these.
@@ -466,10 +481,10 @@ impl Parser {
         let mut diagnostics = Vec::new();
         if words.take("diagnostics") {
             while words.rest.peek().is_some() {
-                diagnostics.push(DiagnosticId(words.number("a diagnostic number")?));
+                diagnostics.push(words.diagnostic()?);
             }
         }
-        words.end_or(&["diagnostics NUMBER .."])?;
+        words.end_or(&["diagnostics IDENTITY/INSTANCE .."])?;
         let id = self.builder.function(&diagnostics).map_err(|e| e.to_string())?;
         self.names.functions.push(name.clone());
         self.functions.insert(name, id);
@@ -580,13 +595,14 @@ impl Parser {
                 places[1] = self.place(words)?;
             }
         }
-        let extra = self.extra(kind, words)?;
-        let [first, second] = places;
+        let [first, mut second] = places;
+        let extra = self.extra(kind, words, &mut second)?;
         Ok(AliasingEffect::of(kind, first, second, extra).expect("the extra word is in range"))
     }
 
-    /// The extra word, and the end of the line.
-    fn extra(&self, kind: EffectKind, words: &mut Words) -> Parsed<u32> {
+    /// The extra word, and the end of the line. The instance of a diagnostic goes into the second
+    /// place.
+    fn extra(&self, kind: EffectKind, words: &mut Words, second: &mut Place) -> Parsed<u32> {
         let reason = |words: &mut Words| {
             if words.take("reason") {
                 words.named("a reason", ValueReason::from_name, ValueReason::NAMES)
@@ -635,14 +651,14 @@ impl Parser {
             }
             EffectKind::MutateFrozen | EffectKind::MutateGlobal | EffectKind::Impure => {
                 if !words.take("diagnostic") {
-                    let what = format!("{MORE_OF_PLACE} or `diagnostic NUMBER`");
+                    let what = format!("{MORE_OF_PLACE} or `diagnostic IDENTITY/INSTANCE`");
                     return words.expected_name(&what, more_of_place(&["diagnostic"]));
                 }
-                let number = words.number("a diagnostic number")?;
+                let diagnostic = words.diagnostic()?;
                 words.end()?;
-                at_most("a diagnostic number", number, limits::DIAGNOSTIC)
-                    .map_err(|e| e.to_string())?;
-                Ok(number)
+                within_limits(&diagnostic).map_err(|e| e.to_string())?;
+                *second = Place::of(IdentifierId(diagnostic.instance.0));
+                Ok(diagnostic.identity.0)
             }
             EffectKind::Apply => {
                 words.end()?;

@@ -9,8 +9,8 @@ use oracle::plain::{self as oracle_plain, Outcome};
 use oracle::random::Random;
 use service_host::ffi::{self, Reply, ServiceState};
 use service_host::{
-    AliasingEffect, DiagnosticId, Effect, EvaluationOrder, Identifier, IdentifierId, MutableRange,
-    Place, Refusal, Service, SheetBuilder, limits,
+    AliasingDiagnostic, AliasingEffect, Effect, EvaluationOrder, Identifier, IdentifierId,
+    MutableRange, Place, Refusal, Service, SheetBuilder, limits,
 };
 
 fn place(identifier: u32) -> Place {
@@ -201,7 +201,7 @@ fn longest_answer() -> Vec<u32> {
     let mut sheet = SheetBuilder::new();
     sheet.validations(true);
     let ids: Vec<_> = (0..512).map(|_| sheet.identifier(Identifier::default()).unwrap()).collect();
-    let list: Vec<_> = (0..64).map(|d| DiagnosticId(1_000 + d)).collect();
+    let list: Vec<_> = (0..64).map(|d| AliasingDiagnostic::new(1_000 + d, d)).collect();
     let function_id = sheet.function(&list).unwrap();
     sheet.block(service_host::BlockId(0)).unwrap();
     let mut effects = Vec::new();
@@ -228,9 +228,9 @@ fn answers_of_any_length() {
     let mut service = Service::new();
     let answer = service.infer(&sheet).unwrap();
     assert_eq!(answer.serial(), 0, "attempts with too short a buffer take no serial");
-    assert_eq!((sheet.len(), answer.diagnostics().len()), (11_854, 8_388_608));
+    assert_eq!((sheet.len(), answer.diagnostics().len()), (11_918, 8_388_608));
     assert!(answer.words().len() <= limits::ANSWER);
-    assert!(answer.diagnostics().zip((0..64).cycle()).all(|(d, i)| d.0 == 1_000 + i));
+    assert!(answer.diagnostics().zip((0..64).cycle()).all(|(d, i)| d.words() == [1_000 + i, i]));
     // The next call is a small one again.
     let answer = service.infer(&case_1()).unwrap();
     assert_eq!((answer.serial(), answer.words().len()), (1, 42));
@@ -292,7 +292,8 @@ fn answers_are_the_oracles() {
                     AliasingEffect::from_words([e.kind, a, b, c, d, f, g, e.extra]).unwrap()
                 });
                 assert!(answer.effects().eq(effects));
-                assert!(answer.diagnostics().map(|d| d.0).eq(original.diagnostics));
+                let diagnostics = original.diagnostics.iter().map(|d| [d.identity, d.instance]);
+                assert!(answer.diagnostics().map(|d| d.words()).eq(diagnostics));
                 let ranges = answer.ranges().map(|r| (r.start.0, r.end.0));
                 assert!(ranges.eq(original.ranges));
                 assert_eq!(answer.params().len(), original.params.len());

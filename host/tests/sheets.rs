@@ -5,7 +5,7 @@ use oracle::generate;
 use oracle::random::Random;
 use service_host::text::{self, Names};
 use service_host::{
-    AliasingEffect, BlockId, DiagnosticId, Effect, EvaluationOrder, FunctionId, Identifier,
+    AliasingDiagnostic, AliasingEffect, BlockId, Effect, EvaluationOrder, FunctionId, Identifier,
     IdentifierId, MutableRange, PartError, Place, Service, Sheet, SheetBuilder, Terminal, limits,
 };
 
@@ -182,7 +182,7 @@ fn every_count_has_its_limit() {
     terminal.terminal(Terminal::MaybeThrow { order: order(0) }).unwrap();
     full(terminal, 1_024, |b, _| b.effect(AliasingEffect::Apply));
 
-    let diagnostics = [DiagnosticId(0); 65];
+    let diagnostics = [AliasingDiagnostic::default(); 65];
     assert!(builder(0).function(&diagnostics[..64]).is_ok());
     assert!(builder(0).function(&diagnostics).is_err());
 }
@@ -204,7 +204,10 @@ fn every_number_has_its_limit() {
     };
     at_limit(limits::RANGE, |n| identifier(n, 0));
     at_limit(limits::RANGE, |n| identifier(0, n));
-    at_limit(limits::DIAGNOSTIC, |n| builder(0).function(&[DiagnosticId(n)]).map(drop));
+    let halves = |n| [AliasingDiagnostic::new(n, 0), AliasingDiagnostic::new(0, n)];
+    for half in 0..2 {
+        at_limit(limits::DIAGNOSTIC, |n| builder(0).function(&[halves(n)[half]]).map(drop));
+    }
     at_limit(limits::BLOCK_NUMBER, |n| builder(0).block(BlockId(n)));
     let mut open = builder(1);
     open.block(BlockId(0)).unwrap();
@@ -215,11 +218,13 @@ fn every_number_has_its_limit() {
         phi.phi(place(0))?;
         phi.operand(BlockId(n), place(0))
     });
-    at_limit(limits::DIAGNOSTIC, |n| {
-        let mut instruction = open.clone();
-        instruction.instruction(order(0))?;
-        instruction.effect(AliasingEffect::Impure { place: place(0), error: DiagnosticId(n) })
-    });
+    for half in 0..2 {
+        at_limit(limits::DIAGNOSTIC, |n| {
+            let mut instruction = open.clone();
+            instruction.instruction(order(0))?;
+            instruction.effect(AliasingEffect::Impure { place: place(0), error: halves(n)[half] })
+        });
+    }
 }
 
 #[test]
@@ -312,7 +317,7 @@ fn no_sheet_that_is_refused_3_to_7() {
                     })
                     .map(drop),
                 1 => b.identifier(Identifier::default()).map(drop),
-                2 => b.function(&[DiagnosticId(near)]).map(drop),
+                2 => b.function(&[AliasingDiagnostic::new(0, near)]).map(drop),
                 3 => b.param(p),
                 4 => b.context(p),
                 5 => b.block(BlockId(near)),
@@ -362,7 +367,7 @@ fn case_1_as_text() {
 
 #[test]
 fn faults_in_text_name_the_line_and_what_was_expected() {
-    let head = "identifier a\nidentifier b\nfunction f diagnostics 1 2\nreturns b\n";
+    let head = "identifier a\nidentifier b\nfunction f diagnostics 1/3 2\nreturns b\n";
     let error = |lines: &str| text::parse(&format!("{head}{lines}")).unwrap_err().to_string();
     let block = |lines: &str| error(&format!("block 0\n{lines}"));
 
@@ -441,7 +446,15 @@ fn faults_in_text_name_the_line_and_what_was_expected() {
     );
     assert_eq!(
         effect("Impure a diagnostic 65536"),
-        "line 7: 65536 is too large for a diagnostic number, which is at most 65535"
+        "line 7: 65536 is too large for a diagnostic's identity, which is at most 65535"
+    );
+    assert_eq!(
+        effect("Impure a diagnostic 1/65536"),
+        "line 7: 65536 is too large for a diagnostic's instance, which is at most 65535"
+    );
+    assert_eq!(
+        effect("Impure a diagnostic 1/x"),
+        "line 7: expected a diagnostic (IDENTITY/INSTANCE), found `1/x`"
     );
     assert!(
         effect("Freeze a reason Frost")

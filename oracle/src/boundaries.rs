@@ -36,17 +36,18 @@ struct Described {
 const IDENTIFIERS: u32 = 3;
 const FUNCTIONS: u32 = 2;
 
-/// The table of document 01: kinds, places, largest extra word.
-const TABLE: [(&[u32], u32, u32); 8] = [
-    (&[0], 1, 11),
-    (&[1], 1, 1),
-    (&[2, 3, 4, 17], 1, 0),
-    (&[5, 6, 7, 8, 10, 11], 2, 0),
-    (&[9], 1, 71),
-    (&[12], 0, 0),
+/// The table of document 01: kinds, places, largest extra word; and largest first word of an
+/// unused second place, which for kinds 14 to 16 is the instance.
+const TABLE: [(&[u32], u32, u32, u32); 8] = [
+    (&[0], 1, 11, 0),
+    (&[1], 1, 1, 0),
+    (&[2, 3, 4, 17], 1, 0, 0),
+    (&[5, 6, 7, 8, 10, 11], 2, 0, 0),
+    (&[9], 1, 71, 0),
+    (&[12], 0, 0, 0),
     // Below the count of inner functions.
-    (&[13], 1, FUNCTIONS - 1),
-    (&[14, 15, 16], 1, 65_535),
+    (&[13], 1, FUNCTIONS - 1, 0),
+    (&[14, 15, 16], 1, 65_535, 65_535),
 ];
 
 impl Described {
@@ -61,21 +62,24 @@ impl Described {
         self.put(&format!("{of}: span"), 0, Nothing);
     }
 
-    fn place_if(&mut self, of: &str, used: bool, identifier: u32) {
+    /// A place, or an unused one with the largest first word that it may have.
+    fn place_if(&mut self, of: &str, used: bool, identifier: u32, instance: u32) {
         if used {
             return self.place(of, identifier);
         }
-        for word in ["first", "second", "third"] {
+        self.put(&format!("{of}, unused: first word"), instance, Range(instance));
+        for word in ["second", "third"] {
             self.put(&format!("{of}, unused: {word} word"), 0, Range(0));
         }
     }
 
     /// An effect whose extra word is its largest.
     fn effect(&mut self, of: &str, kind: u32) {
-        let (_, places, most) = TABLE.iter().find(|row| row.0.contains(&kind)).expect("a row");
+        let (_, places, most, instance) =
+            TABLE.iter().find(|row| row.0.contains(&kind)).expect("a row");
         self.put(&format!("{of}: kind"), kind, Kind(17));
-        self.place_if(&format!("{of}: first place"), 1 <= *places, 0);
-        self.place_if(&format!("{of}: second place"), 2 <= *places, 1);
+        self.place_if(&format!("{of}: first place"), 1 <= *places, 0, 0);
+        self.place_if(&format!("{of}: second place"), 2 <= *places, 1, *instance);
         self.put(&format!("{of}: extra"), *most, Range(*most));
     }
 
@@ -102,7 +106,9 @@ impl Described {
         for f in 0..FUNCTIONS {
             self.put(&format!("diagnostics of function {f}"), 2, Count(64));
             for d in 0..2 {
-                self.put(&format!("diagnostic {d} of function {f}"), 2 * f + d, Range(65_535));
+                let of = format!("diagnostic {d} of function {f}");
+                self.put(&format!("{of}: identity"), 2 * f + d, Range(65_535));
+                self.put(&format!("{of}: instance"), 7, Range(65_535));
             }
         }
         self.put("parameters", 2, Count(64));

@@ -43,7 +43,7 @@ fn words_in_lines(words: &[u32]) -> Vec<String> {
         ("ranges", 2),
         ("params", 3),
         ("context", 3),
-        ("diagnostics", 1),
+        ("diagnostics", 2),
         ("effects", 8),
         ("walks", 1),
     ];

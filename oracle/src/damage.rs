@@ -2,8 +2,8 @@
 
 use crate::generate::{self, Limit, PASSABLE};
 use crate::plain::sheet::{
-    EFFECTS, MAX_BLOCK_NUMBER, MAX_DIAGNOSTIC, MAX_ORDER, MAX_RANGE, MAX_TRAITS, MAX_TYPE,
-    SHEET_WORDS, Sheet, Terminal, WORKSPACE_WORDS,
+    Diagnostic, EFFECTS, MAX_BLOCK_NUMBER, MAX_DIAGNOSTIC, MAX_ORDER, MAX_RANGE, MAX_TRAITS,
+    MAX_TYPE, SHEET_WORDS, Sheet, Terminal, WORKSPACE_WORDS,
 };
 use crate::random::Random;
 
@@ -148,7 +148,11 @@ fn to_edge(sheet: &mut Sheet, random: &mut Random) {
         }
         1 => {
             let all = sheet.functions.iter_mut().flatten().collect();
-            pick(all, random).into_iter().for_each(|d| *d = MAX_DIAGNOSTIC + past);
+            let diagnostic: Option<&mut Diagnostic> = pick(all, random);
+            diagnostic.into_iter().for_each(|d| match random.below(2) {
+                0 => d.identity = MAX_DIAGNOSTIC + past,
+                _ => d.instance = MAX_DIAGNOSTIC + past,
+            });
         }
         2 => {
             let place = pick(sheet.places_mut(), random);
@@ -180,11 +184,12 @@ fn to_edge(sheet: &mut Sheet, random: &mut Random) {
         }
         7 => {
             if let Some(effect) = pick(sheet.effects_mut(), random) {
-                let most = EFFECTS[effect.kind as usize].1;
-                effect.extra = match effect.kind {
-                    13 if random.percent(50) => inner - 1 + past,
-                    _ => most + past,
-                };
+                let (_, instance, most) = EFFECTS[effect.kind as usize];
+                match effect.kind {
+                    13 if random.percent(50) => effect.extra = inner - 1 + past,
+                    14..=16 if random.percent(50) => effect.second.identifier = instance + past,
+                    _ => effect.extra = most + past,
+                }
             }
         }
         _ => {

@@ -1,7 +1,7 @@
 //! Accepted sheets from random numbers: mostly small, with a tail up to the limits.
 
 use crate::plain::sheet::{
-    Block, EFFECTS, Effect, Identifier, Instruction, MAX_BLOCK_NUMBER, MAX_DIAGNOSTIC,
+    Block, Diagnostic, EFFECTS, Effect, Identifier, Instruction, MAX_BLOCK_NUMBER, MAX_DIAGNOSTIC,
     MAX_MUTATIONS, MAX_ORDER, MAX_RANGE, MAX_RELATIONS, MAX_RENDERS, Phi, Place, SHEET_WORDS,
     Sheet, Terminal, is_mutation, is_relation, is_render,
 };
@@ -136,10 +136,15 @@ impl Generator<'_> {
     }
 
     pub fn effect_of(&mut self, kind: u32) -> Effect {
-        let (places, most) = EFFECTS[kind as usize];
+        let (places, instance, most) = EFFECTS[kind as usize];
         let most = if kind == 13 { self.functions as u32 - 1 } else { most };
         let first = if places >= 1 { self.place() } else { Place::default() };
         let second = if places >= 2 { self.place() } else { Place::default() };
+        if instance > 0 {
+            let Diagnostic { identity, instance } = self.diagnostic();
+            let second = Place { identifier: instance, ..second };
+            return Effect { kind, first, second, extra: identity };
+        }
         let extra = match self.random.below(4) {
             0 => 0,
             1 => most,
@@ -271,12 +276,18 @@ impl Generator<'_> {
         numbers
     }
 
-    fn diagnostic(&mut self) -> u32 {
+    /// Half of a diagnostic: often one of a few, so that identities are met with several instances
+    /// and the reverse.
+    fn diagnostic_word(&mut self) -> u32 {
         match self.random.below(6) {
-            0 => 0,
-            1 => MAX_DIAGNOSTIC,
+            0 => MAX_DIAGNOSTIC,
+            1..4 => self.random.below(3) as u32,
             _ => self.random.below(MAX_DIAGNOSTIC as usize + 1) as u32,
         }
+    }
+
+    fn diagnostic(&mut self) -> Diagnostic {
+        Diagnostic { identity: self.diagnostic_word(), instance: self.diagnostic_word() }
     }
 
     fn places(&mut self, most: usize) -> Vec<Place> {
@@ -294,13 +305,13 @@ impl Generator<'_> {
                 type_: self.random.below(3) as u32,
             })
             .collect();
-        let functions: Vec<Vec<u32>> = (0..self.functions)
+        let functions: Vec<Vec<Diagnostic>> = (0..self.functions)
             .map(|_| {
                 let most = self.random.choose(&[0, 1, 2, 3, 5]);
                 (0..self.random.below(most + 1)).map(|_| self.diagnostic()).collect()
             })
             .collect();
-        self.left.words -= functions.iter().map(|f| f.len().max(1) + 1).sum::<usize>();
+        self.left.words -= functions.iter().map(|f| 2 * f.len().max(1) + 1).sum::<usize>();
         let params = self.places(size.places);
         let context = self.places(size.places);
         let mut returns = self.place();
@@ -423,7 +434,7 @@ fn sized(random: &mut Random, size: &Size) -> Sheet {
         sheet.function_expression = false;
         for (number, function) in (1..).zip(&mut sheet.functions) {
             if function.is_empty() {
-                function.push(number);
+                function.push(Diagnostic { identity: number, instance: 100 - number });
             }
         }
     }
@@ -702,7 +713,7 @@ fn about_limit(random: &mut Random, limit: Limit, more: usize) -> Sheet {
 
 /// Many function nodes handed over by many renders.
 fn many_diagnostics(g: &mut Generator) -> Sheet {
-    let function: Vec<u32> = (0..64).map(|_| g.diagnostic()).collect();
+    let function: Vec<Diagnostic> = (0..64).map(|_| g.diagnostic()).collect();
     let nodes = g.random.between(2, 200) as u32;
     let renders = g.random.between(1, 60);
     let place = |identifier| Place { identifier, traits: 0, span: 0 };

@@ -5,10 +5,10 @@ use original::react_compiler_hir::environment::Environment;
 use original::react_compiler_hir::object_shape::BUILT_IN_JSX_ID;
 use original::react_compiler_hir::type_config::{ValueKind, ValueReason};
 use original::react_compiler_hir::{
-    AliasingEffect, BasicBlock, BlockId, BlockKind, DeclarationId, Effect, EvaluationOrder,
-    FunctionId, HIR, HirFunction, Identifier, IdentifierId, Instruction, InstructionId,
-    InstructionValue, MutableRange, MutableRangeId, MutationReason, ParamPattern, Phi, Place,
-    ReactFunctionType, ReturnVariant, SpreadPattern, Terminal, Type, TypeId,
+    AliasingDiagnostic, AliasingEffect, BasicBlock, BlockId, BlockKind, DeclarationId, Effect,
+    EvaluationOrder, FunctionId, HIR, HirFunction, Identifier, IdentifierId, Instruction,
+    InstructionId, InstructionValue, MutableRange, MutableRangeId, MutationReason, ParamPattern,
+    Phi, Place, ReactFunctionType, ReturnVariant, SpreadPattern, Terminal, Type, TypeId,
 };
 use original::react_compiler_inference::infer_mutation_aliasing_ranges::infer_mutation_aliasing_ranges;
 use original::react_compiler_utils::OrderedMap;
@@ -83,6 +83,9 @@ fn effect<'a>(effect: &sheet::Effect, env: &mut Environment<'a>) -> AliasingEffe
     let first = place(&effect.first);
     let second = place(&effect.second);
     let extra = effect.extra as usize;
+    let diagnostic = |env: &mut Environment<'a>| {
+        env.intern_aliasing_diagnostic(effect.extra, effect.second.identifier)
+    };
     match effect.kind {
         0 => AliasingEffect::Freeze { value: first, reason: VALUE_REASONS[extra] },
         1 => AliasingEffect::Mutate {
@@ -117,18 +120,9 @@ fn effect<'a>(effect: &sheet::Effect, env: &mut Environment<'a>) -> AliasingEffe
             function_id: FunctionId::from_usize(extra),
             into: first,
         },
-        14 => AliasingEffect::MutateFrozen {
-            place: first,
-            error: env.intern_aliasing_diagnostic(effect.extra),
-        },
-        15 => AliasingEffect::MutateGlobal {
-            place: first,
-            error: env.intern_aliasing_diagnostic(effect.extra),
-        },
-        16 => AliasingEffect::Impure {
-            place: first,
-            error: env.intern_aliasing_diagnostic(effect.extra),
-        },
+        14 => AliasingEffect::MutateFrozen { place: first, error: diagnostic(env) },
+        15 => AliasingEffect::MutateGlobal { place: first, error: diagnostic(env) },
+        16 => AliasingEffect::Impure { place: first, error: diagnostic(env) },
         17 => AliasingEffect::Render { place: first },
         _ => unreachable!("a sheet's kinds are at most 17"),
     }
@@ -168,12 +162,15 @@ fn function<'a>(returns: Place, allocator: &'a Allocator) -> HirFunction<'a> {
 }
 
 /// An inner function: its diagnostics become effects that carry them.
-fn inner_function<'a>(diagnostics: &[u32], env: &mut Environment<'a>) -> HirFunction<'a> {
+fn inner_function<'a>(
+    diagnostics: &[sheet::Diagnostic],
+    env: &mut Environment<'a>,
+) -> HirFunction<'a> {
     let nowhere = place(&sheet::Place::default());
     let mut inner = function(nowhere, env.allocator);
     let mut list = ArenaVec::new_in(env.allocator);
-    for (i, &number) in diagnostics.iter().enumerate() {
-        let error = env.intern_aliasing_diagnostic(number);
+    for (i, d) in diagnostics.iter().enumerate() {
+        let error = env.intern_aliasing_diagnostic(d.identity, d.instance);
         list.push(match i % 3 {
             0 => AliasingEffect::Impure { place: nowhere, error },
             1 => AliasingEffect::MutateFrozen { place: nowhere, error },
@@ -330,6 +327,11 @@ fn sheet_effect(effect: &AliasingEffect, env: &Environment) -> sheet::Effect {
         second: sheet_place(into),
         extra: 0,
     };
+    let diagnosed = |kind, place: &Place, error: &AliasingDiagnostic| {
+        let (identity, instance) = env.diagnostic_numbers(*error);
+        let second = sheet::Place { identifier: instance, ..Default::default() };
+        sheet::Effect { kind, first: sheet_place(place), second, extra: identity }
+    };
     match effect {
         AliasingEffect::Freeze { value, reason } => one(0, value, position(&VALUE_REASONS, reason)),
         AliasingEffect::Mutate { value, reason } => one(1, value, reason.is_some() as u32),
@@ -349,13 +351,9 @@ fn sheet_effect(effect: &AliasingEffect, env: &Environment) -> sheet::Effect {
         AliasingEffect::CreateFunction { function_id, into, .. } => {
             one(13, into, function_id.index() as u32)
         }
-        AliasingEffect::MutateFrozen { place, error } => {
-            one(14, place, env.diagnostic_number(*error))
-        }
-        AliasingEffect::MutateGlobal { place, error } => {
-            one(15, place, env.diagnostic_number(*error))
-        }
-        AliasingEffect::Impure { place, error } => one(16, place, env.diagnostic_number(*error)),
+        AliasingEffect::MutateFrozen { place, error } => diagnosed(14, place, error),
+        AliasingEffect::MutateGlobal { place, error } => diagnosed(15, place, error),
+        AliasingEffect::Impure { place, error } => diagnosed(16, place, error),
         AliasingEffect::Render { place } => one(17, place, 0),
     }
 }
@@ -374,11 +372,15 @@ pub fn answer(sheet: &sheet::Sheet) -> plain::Answer {
         .identifiers
         .iter()
         .map(|i| (i.mutable_range.start.index() as u32, i.mutable_range.end.index() as u32));
+    let diagnostics = env.errors.iter().map(|recorded| {
+        let (identity, instance) = recorded.numbers;
+        sheet::Diagnostic { identity, instance }
+    });
     plain::Answer {
         ranges: ranges.collect(),
         params: params.collect(),
         context: func.context.iter().map(sheet_place).collect(),
-        diagnostics: env.errors.iter().map(|d| d.number).collect(),
+        diagnostics: diagnostics.collect(),
         effects: effects.iter().map(|e| sheet_effect(e, env)).collect(),
         walks: Vec::new(),
     }

@@ -8,7 +8,7 @@ use crate::compare::{Difference, compare, lines, roomy};
 use crate::damage::damaged;
 use crate::dense::{block, place, sheet};
 use crate::generate::{self, Limit};
-use crate::plain::sheet::{Effect, MAX_FUNCTION_DIAGNOSTICS, Sheet, Terminal};
+use crate::plain::sheet::{Diagnostic, Effect, MAX_FUNCTION_DIAGNOSTICS, Sheet, Terminal};
 use crate::plain::{self, Outcome};
 use crate::random::Random;
 
@@ -42,20 +42,27 @@ pub struct Fixed {
 
 /// A sheet with an answer of so many words. A render adds its effect and the diagnostics of the
 /// function node that it finds: the first node has as many as may be, the second what is missing.
+/// A mutation of an identifier without a node adds one word, its walk.
 fn answered_in(words: usize) -> Sheet {
     const EFFECT: usize = 8;
     const FULL: usize = MAX_FUNCTION_DIAGNOSTICS as usize;
-    // Six counts, two ranges, Create for returns, and its walk.
-    let rest = words - (6 + 2 * 2 + EFFECT + 1) - EFFECT;
-    let (renders, last) = (rest / (EFFECT + FULL), rest % (EFFECT + FULL));
+    // Six counts, four ranges, Create for returns, and its walk.
+    let rest = words - (6 + 4 * 2 + EFFECT + 1) - EFFECT;
+    let (rest, odd) = (rest - rest % 2, rest % 2);
+    let (renders, last) = (rest / (EFFECT + 2 * FULL), rest % (EFFECT + 2 * FULL) / 2);
+    let diagnostics = |from: usize, count: usize| {
+        let diagnostic = |i| Diagnostic { identity: i as u32, instance: 2 * i as u32 };
+        (from..from + count).map(diagnostic).collect()
+    };
     let function = |n| Effect { kind: 13, first: place(n), extra: n as u32, ..Effect::default() };
     let render = |n| Effect { kind: 17, first: place(n), ..Effect::default() };
     let mut effects = vec![function(0), function(1), render(1)];
     effects.extend(vec![render(0); renders]);
+    effects.extend(vec![Effect { kind: 1, first: place(2), ..Effect::default() }; odd]);
     Sheet {
-        functions: vec![(0..FULL as u32).collect(), (100..100 + last as u32).collect()],
+        functions: vec![diagnostics(0, FULL), diagnostics(100, last)],
         params: Vec::new(),
-        ..sheet(2, vec![block(0, Vec::new(), &effects)])
+        ..sheet(4, vec![block(0, Vec::new(), &effects)])
     }
 }
 

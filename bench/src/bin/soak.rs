@@ -143,7 +143,7 @@ fn check(
     // The sections, each after its count.
     let mut sections = [&answer[..0]; 6];
     let mut rest = &answer[..reply.length];
-    for (section, size) in sections.iter_mut().zip([2, 3, 3, 1, 8, 1]) {
+    for (section, size) in sections.iter_mut().zip([2, 3, 3, 2, 8, 1]) {
         let (count, after) = rest.split_first().ok_or("a section is missing")?;
         (*section, rest) =
             after.split_at_checked(*count as usize * size).ok_or("a section is cut")?;

@@ -24,7 +24,7 @@ use Rattle.workspace.proofs.Tables.{tab-length, tab-at}
 use Rattle.writing.specs.Wrote.{Wrote}
 use Rattle.writing.proofs.Writing.{wrote-none, wrote-as}
 use Rattle.copies.specs.Copies.{Copies}
-use Rattle.copies.specs.Functions.{functionAt, functionsOf, Functions}
+use Rattle.copies.specs.Functions.{mostErrors, functionAt, functionsOf, Functions}
 use Rattle.copies.proofs.Copying.{Copying}
 use Rattle.model.proofs.Gathers.{gather-append}
 use Rattle.copies.proofs.Loops.{Leaves, leaves-all, leaves-then, leaves-none, slice-next, slice-none}
@@ -34,12 +34,12 @@ use Rattle.copies.proofs.Sections.{diagnostics-length}
 abbrev pub diagnosticFrom : List ℕ → Position → Part Diagnostic
 diagnosticFrom = wide diagnosticWidth diagnosticAt
 
-pub copies-diagnostic : {sheet : List ℕ} {c : Position} {d : Diagnostic} {a : List ℕ} {at : ℕ} {a′ : List ℕ} {at′ : ℕ} → d ≡ diagnosticAt sheet c → Wrote (d ∷ []) a at a′ at′
+pub copies-diagnostic : {sheet : List ℕ} {c : Position} {d : Diagnostic} {a : List ℕ} {at : ℕ} {a′ : List ℕ} {at′ : ℕ} → d ≡ diagnosticAt sheet c → Wrote (diagnosticWords d) a at a′ at′
     → Copies diagnosticFrom diagnosticWords sheet c a at a′ at′ (c + diagnosticWidth)
 copies-diagnostic e w = record { wrote = wrote-as w (ap diagnosticWords e); after = refl; few = omega (arith, w .next) }
 
--- as many words as diagnostics
-pub diagnostics-room : {sheet : List ℕ} {k₀ : ℕ} {c₀ : Position} {a₀ : List ℕ} {at₀ k : ℕ} {c : Position} {a : List ℕ} {at : ℕ} → Copying diagnosticFrom diagnosticWords sheet k₀ c₀ a₀ at₀ k c a at → at + k ≤ at₀ + k₀
+-- two words a diagnostic
+pub diagnostics-room : {sheet : List ℕ} {k₀ : ℕ} {c₀ : Position} {a₀ : List ℕ} {at₀ k : ℕ} {c : Position} {a : List ℕ} {at : ℕ} → Copying diagnosticFrom diagnosticWords sheet k₀ c₀ a₀ at₀ k c a at → at + diagnosticWidth * k ≤ at₀ + diagnosticWidth * k₀
 diagnostics-room {sheet} {k₀} {c₀} {k = k} {c} v = omega (arith, v .few, v .next, several-wide diagnosticWidth k diagnosticAt sheet c, several-wide diagnosticWidth k₀ diagnosticAt sheet c₀)
 
 -- ---- one function
@@ -84,7 +84,7 @@ errors-few {fs = fs} g k = go (leb (length fs) k) refl
     go false e = g .few k (leb-false (length fs) k e)
 
 -- nor have several
-handed-few : {sheet ws : List ℕ} {fs : List InnerFunction} → Functions sheet ws fs → (l : List ℕ) → length (gather diagnosticWords (gather (functionErrors fs) l)) ≤ mostInnerDiagnostics * length l
+handed-few : {sheet ws : List ℕ} {fs : List InnerFunction} → Functions sheet ws fs → (l : List ℕ) → length (gather diagnosticWords (gather (functionErrors fs) l)) ≤ mostErrors * length l
 handed-few g [] = omega arith
 handed-few {fs = fs} g (k ∷ l) =
     let one : List Diagnostic = functionErrors fs k in
@@ -122,7 +122,7 @@ module _ {sheet ws : List ℕ} {m k : ℕ} (g : Functions sheet ws (functionsOf 
 -- ---- all functions handed over, from word i on
 pub record Handing (fs : List InnerFunction) (ws : List ℕ) (hand : ℕ) (a₀ : List ℕ) (at₀ i : ℕ) (a : List ℕ) (at : ℕ) : Type 0 where
   pub leaves : Leaves (gather diagnosticWords (gather (functionErrors fs) (slice HANDED hand ws))) (gather diagnosticWords (gather (functionErrors fs) (slice i hand ws))) a₀ at₀ a at
-  pub few : at + mostInnerDiagnostics * (hand - i) ≤ at₀ + mostInnerDiagnostics * (hand - HANDED)
+  pub few : at + mostErrors * (hand - i) ≤ at₀ + mostErrors * (hand - HANDED)
 
 pub handing-start : (fs : List InnerFunction) (ws : List ℕ) (hand : ℕ) (a : List ℕ) (at : ℕ) → Handing fs ws hand a at HANDED a at
 handing-start fs ws hand a at = record { leaves = leaves-all (gather diagnosticWords (gather (functionErrors fs) (slice HANDED hand ws))) a at; few = omega arith }
@@ -141,5 +141,5 @@ module _ {fs : List InnerFunction} {ws : List ℕ} {hand : ℕ} {a₀ : List ℕ
 
 -- so many words at most
 pub handed-room : {sheet ws : List ℕ} {fs : List InnerFunction} → Functions sheet ws fs → (hand : ℕ) → hand ≤ length ws → {a : List ℕ} {at : ℕ} {a′ : List ℕ} {at′ : ℕ}
-    → Wrote (gather diagnosticWords (gather (functionErrors fs) (slice HANDED hand ws))) a at a′ at′ → at′ ≤ at + mostInnerDiagnostics * (hand - HANDED)
+    → Wrote (gather diagnosticWords (gather (functionErrors fs) (slice HANDED hand ws))) a at a′ at′ → at′ ≤ at + mostErrors * (hand - HANDED)
 handed-room {ws = ws} g hand h w = omega (arith, w .next, handed-few g (slice HANDED hand ws), length-slice HANDED hand ws h)

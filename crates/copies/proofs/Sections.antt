@@ -5,6 +5,7 @@ use mathlib.Core.Path.{_≡_, refl, sym, ap, _∙_}
 use mathlib.Core.Bool.{true, false, _||_}
 use mathlib.Core.List.{List, [], _∷_, map}
 use lib.ListN.{length, set}
+use Rattle.model.specs.Limits.{diagnosticWidth}
 use Rattle.model.specs.Lists.{gather, keep}
 use Rattle.model.specs.Sheet.{Effect, Diagnostic, Instruction, Block, Sheet}
 use Rattle.model.specs.Effects.{rowOf, isRender, isDiagnosis, diagnosticOf}
@@ -55,8 +56,8 @@ recorded-none s e = rw e
 pub effects-length : (l : List Effect) → length (gather effectWords l) ≡ 8 * length l
 effects-length l = gather-length effectWords 8 (λ e. refl) l
 
-pub diagnostics-length : (l : List Diagnostic) → length (gather diagnosticWords l) ≡ length l
-diagnostics-length l = omega (arith, gather-length diagnosticWords 1 (λ d. refl) l)
+pub diagnostics-length : (l : List Diagnostic) → length (gather diagnosticWords l) ≡ diagnosticWidth * length l
+diagnostics-length l = gather-length diagnosticWords diagnosticWidth (λ d. refl) l
 
 -- ---- a section whose count is known only at its end
 pub section-patched : {A : Type 0} (w : A → List ℕ) (l : List A) {x : ℕ} {a b : List ℕ} {at r : ℕ} → Wrote (x ∷ gather w l) a at b r → Wrote (section w l) a at (set b at (length l)) r
@@ -70,5 +71,5 @@ pub effects-count : (l : List Effect) {x : ℕ} {a b : List ℕ} {at r : ℕ} �
 effects-count l h = omega (arith, h .next, effects-length l)
 
 -- of diagnostics
-pub diagnostics-count : (l : List Diagnostic) {x : ℕ} {a b : List ℕ} {at r : ℕ} → Wrote (x ∷ gather diagnosticWords l) a at b r → r - (at + 1) ≡ length l
+pub diagnostics-count : (l : List Diagnostic) {x : ℕ} {a b : List ℕ} {at r : ℕ} → Wrote (x ∷ gather diagnosticWords l) a at b r → (r - (at + 1)) / diagnosticWidth ≡ length l
 diagnostics-count l h = omega (arith, h .next, diagnostics-length l)

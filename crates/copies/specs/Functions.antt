@@ -1,13 +1,17 @@
 -- The inner functions of the sheet, where the workspace says at which position each one's list stands.
-use Prim.Native.Nat.{ℕ, _+_, _≤_, _<_}
+use Prim.Native.Nat.{ℕ, _+_, _*_, _≤_, _<_}
 use mathlib.Core.Path.{_≡_}
 use mathlib.Core.List.{List}
 use lib.ListN.{length, getD}
-use Rattle.model.specs.Limits.{mostInnerDiagnostics}
+use Rattle.model.specs.Limits.{mostInnerDiagnostics, diagnosticWidth}
 use Rattle.model.specs.Sheet.{InnerFunction, noFunction}
 use Rattle.hir.specs.Words.{Part, functionFrom}
 use Rattle.workspace.specs.Layout.{FUNCTIONS}
 use Rattle.workspace.specs.Graph.{tab}
+
+-- the words of one function's diagnostics
+abbrev pub mostErrors : ℕ
+mostErrors = mostInnerDiagnostics * diagnosticWidth
 
 -- inner function k, at the position in its word
 abbrev pub functionAt : List ℕ → List ℕ → ℕ → Part InnerFunction

@@ -12,6 +12,7 @@ ghost use Rattle.copies.specs.Words.{takes, copyWords, instructionWords,
 use crate::Copied;
 use crate::past::past_phis;
 use crate::past::past_terminal;
+use crate::put_diagnostic;
 use crate::put_effect;
 use hir::at::EFFECT_WIDTH;
 use hir::at::List;
@@ -19,8 +20,8 @@ use hir::at::effect_at;
 use hir::at::instruction_at;
 use hir::at::list_at;
 use hir::effects::Role;
+use hir::effects::diagnostic_of;
 use hir::effects::role_of;
-use writing::put;
 
 // The section that effects of instructions are copied to.
 pub enum Section {
@@ -62,7 +63,7 @@ fn copy_effect(sheet: &[u32], from: usize, section: Section, answer: &mut [u32],
         return at;
     }
     match section {
-        Section::Diagnostics => put(answer, at, e.extra),
+        Section::Diagnostics => put_diagnostic(answer, at, diagnostic_of(e)),
         Section::Effects => put_effect(answer, at, e),
     }
 }

@@ -2,13 +2,14 @@
 ghost use Prim.Native.Nat.{_+_, _-_, _*_, _≤_};
 ghost use lib.ListN.{length};
 ghost use lib.Seq.{slice};
-ghost use Rattle.model.specs.Limits.{mostFunctions, mostInnerDiagnostics, diagnosticWidth};
+ghost use Rattle.model.specs.Limits.{mostFunctions, diagnosticWidth};
 ghost use Rattle.model.specs.Lists.{gather};
 ghost use Rattle.model.specs.Answer.{functionErrors, diagnosticWords};
 ghost use Rattle.hir.specs.Words.{wide, diagnosticAt, several};
 ghost use Rattle.workspace.specs.Layout.{LEAST, HANDED, MUTATIONS};
 ghost use Rattle.writing.specs.Wrote.{Wrote, farthest};
-ghost use Rattle.copies.specs.Functions.{functionsOf, Functions};
+ghost use Rattle.copies.specs.Functions.{mostErrors, functionsOf, Functions};
+use crate::put_diagnostic;
 use hir::FunctionId;
 use hir::at::DIAGNOSTIC_WIDTH;
 use hir::at::List;
@@ -16,12 +17,11 @@ use hir::at::diagnostic_at;
 use hir::at::list_at;
 use workspace::FUNCTIONS;
 use workspace::HANDED;
-use writing::put;
 
 // A list of diagnostics.
 fn copy_diagnostics(sheet: &[u32], list: List, answer: &mut [u32], at: usize) -> usize
     requires { ⌜ several (list .count) (wide diagnosticWidth diagnosticAt) (now sheet) (list .first) .next ≤ length (now sheet) ⌝ }
-    requires { ⌜ at + list .count ≤ farthest ⌝ }
+    requires { ⌜ at + diagnosticWidth * list .count ≤ farthest ⌝ }
     ensures { λ r. ⌜ Wrote (gather diagnosticWords (several (list .count) (wide diagnosticWidth diagnosticAt) (now (sheet .entry)) (list .first) .what)) (now (answer .entry)) at (now (answer .exit)) r ⌝ }
 {
     let mut left = list.count;
@@ -29,7 +29,7 @@ fn copy_diagnostics(sheet: &[u32], list: List, answer: &mut [u32], at: usize) ->
     let mut to = at;
     while 0 < left {
         let d = diagnostic_at(sheet, next);
-        to = put(answer, to, d.0);
+        to = put_diagnostic(answer, to, d);
         next += DIAGNOSTIC_WIDTH;
         left -= 1;
     }
@@ -47,7 +47,7 @@ fn append_function_errors(
 ) -> usize
     requires { ⌜ (count ≤ mostFunctions) × (LEAST ≤ length (now ws)) ⌝ }
     requires { ⌜ Functions (now sheet) (now ws) (functionsOf (now sheet) (now ws) count) ⌝ }
-    requires { ⌜ at + mostInnerDiagnostics ≤ farthest ⌝ }
+    requires { ⌜ at + mostErrors ≤ farthest ⌝ }
     ensures { λ r. ⌜ Wrote (gather diagnosticWords (functionErrors (functionsOf (now (sheet .entry)) (now (ws .entry)) count) (function .0))) (now (answer .entry)) at (now (answer .exit)) r ⌝ }
 {
     if count <= function.0 {
@@ -69,7 +69,7 @@ pub fn put_handed(
 ) -> usize
     requires { ⌜ (count ≤ mostFunctions) × ((hand ≤ MUTATIONS) × (LEAST ≤ length (now ws))) ⌝ }
     requires { ⌜ Functions (now sheet) (now ws) (functionsOf (now sheet) (now ws) count) ⌝ }
-    requires { ⌜ at + mostInnerDiagnostics * (hand - HANDED) ≤ farthest ⌝ }
+    requires { ⌜ at + mostErrors * (hand - HANDED) ≤ farthest ⌝ }
     ensures { λ r. ⌜ Wrote (gather diagnosticWords (gather (functionErrors (functionsOf (now (sheet .entry)) (now (ws .entry)) count)) (slice HANDED hand (now (ws .entry))))) (now (answer .entry)) at (now (answer .exit)) r ⌝ }
 {
     let mut to = at;

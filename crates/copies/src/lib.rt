@@ -1,10 +1,11 @@
 // What the answer takes over from the sheet: places and effects in words, the effects and the diagnostics of instructions, the diagnostics of inner functions, and Create for returns.
 ghost use Prim.Native.Nat.{_+_, _≤_};
-ghost use Rattle.model.specs.Answer.{placeWords, effectWords};
-ghost use Rattle.hir.specs.Says.{placeIs, effectIs};
-ghost use Rattle.model.specs.Limits.{placeWidth, effectWidth};
+ghost use Rattle.model.specs.Answer.{placeWords, diagnosticWords, effectWords};
+ghost use Rattle.hir.specs.Says.{placeIs, diagnosticIs, effectIs};
+ghost use Rattle.model.specs.Limits.{placeWidth, diagnosticWidth, effectWidth};
 ghost use Rattle.writing.specs.Wrote.{Wrote, farthest};
 use hir::AliasingEffect;
+use hir::Diagnostic;
 use hir::Effect;
 use hir::IdentifierId;
 use hir::Place;
@@ -40,6 +41,15 @@ pub fn put_place(answer: &mut [u32], at: usize, p: Place) -> usize
     let a = put(answer, at, identifier.0);
     let b = put(answer, a, traits_word(effect, p.reactive));
     put(answer, b, p.span)
+}
+
+// A diagnostic in words, the identity first.
+pub fn put_diagnostic(answer: &mut [u32], at: usize, d: Diagnostic) -> usize
+    requires { ⌜ at + diagnosticWidth ≤ farthest ⌝ }
+    ensures { λ r. ⌜ Wrote (diagnosticWords (diagnosticIs d)) (now (answer .entry)) at (now (answer .exit)) r ⌝ }
+{
+    let a = put(answer, at, d.identity);
+    put(answer, a, d.instance)
 }
 
 // An effect in words.

@@ -20,7 +20,7 @@ sectionsOf sheet = sectionsFrom sheet 0
 abbrev pub sheetOf : List ℕ → Sheet
 sheetOf sheet = sheetFrom sheet 0 .what
 
--- "a count (at most 64), then that many diagnostic numbers"
+-- "a count (at most 64)" of diagnostics
 abbrev pub FewDiagnostics : InnerFunction → Type 0
 FewDiagnostics f = length (f .diagnostics) ≤ mostInnerDiagnostics
 

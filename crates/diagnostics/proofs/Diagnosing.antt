@@ -1,12 +1,12 @@
 -- The section of diagnostics from its parts.
-use Prim.Native.Nat.{ℕ, _+_, _-_, _*_, _≤_}
+use Prim.Native.Nat.{ℕ, _+_, _-_, _*_, _≤_, _/_}
 use native.Mathlib.Omega.{arith}
 use mathlib.Core.Path.{_≡_, refl, sym, ap, subst, _∙_}
 use mathlib.Core.Bool.{Bool, true, false, _||_, _&&_}
 use mathlib.Core.List.{List, [], _∷_, _++_, map, cons≢nil}
 use lib.ListN.{length, set}
 use lib.Seq.{slice}
-use Rattle.model.specs.Limits.{mostRenders}
+use Rattle.model.specs.Limits.{mostRenders, diagnosticWidth}
 use Rattle.model.specs.Lists.{keep, consIf, gather, listIf}
 use Rattle.model.specs.Sheet.{Effect, Diagnostic, InnerFunction, Sheet}
 use Rattle.model.specs.Effects.{rowOf, isRender, isDiagnosis, diagnosticOf}
@@ -169,7 +169,7 @@ module _ {sheet ws : List ℕ} {f : HirFunction} {renders hand : ℕ} {a : List 
   pub section-few : at₃ ≤ at + mostDiagnosed
   section-few = omega (arith, p .next, q .few, some .1 .0 .short, h .few)
 
-  pub diagnostics-put : {a₄ : List ℕ} → a₄ ≡ set a₃ at (at₃ - at₁) → DiagnosticsPut sheet ws f renders hand a at ws′ a₄ at₃
+  pub diagnostics-put : {a₄ : List ℕ} → a₄ ≡ set a₃ at ((at₃ - at₁) / diagnosticWidth) → DiagnosticsPut sheet ws f renders hand a at ws′ a₄ at₃
   unfolding diagnosed
   diagnostics-put e = record {
     wrote = λ s d t u r.
@@ -177,7 +177,7 @@ module _ {sheet ws : List ℕ} {f : HirFunction} {renders hand : ℕ} {a : List 
         let w : Wrote (0 ∷ gather diagnosticWords l) a at a₃ at₃ =
         wrote-as (wrote-then p (wrote-then (q .wrote s d) (h .wrote s d t u r)))
         (ap (λ (z : List ℕ). 0 ∷ z) (sym (gather-append diagnosticWords (recorded s) (gather (functionErrors (s .functions)) (simulate s .state .handed))))) in
-        let n : length l ≡ at₃ - at₁ = omega (arith, p .next, diagnostics-count l w) in
+        let n : length l ≡ (at₃ - at₁) / diagnosticWidth = omega (arith, p .next, diagnostics-count l w) in
         subst (λ (b : List ℕ). Wrote (section diagnosticWords l) a at b at₃) (ap (set a₃ at) n ∙ sym e) (section-patched diagnosticWords l w);
     few = section-few;
     unmoved = h .unmoved;

@@ -3,7 +3,7 @@ use Prim.Native.Nat.{ℕ, _+_, _-_, _*_, _≤_}
 use mathlib.Core.Path.{_≡_}
 use mathlib.Core.List.{List}
 use lib.ListN.{length}
-use Rattle.model.specs.Limits.{mostSheet, mostInnerDiagnostics, mostRenders}
+use Rattle.model.specs.Limits.{mostSheet, mostRenders}
 use Rattle.model.specs.Lists.{gather}
 use Rattle.model.specs.Sheet.{Sheet}
 use Rattle.model.specs.Runs.{rendered}
@@ -15,13 +15,13 @@ use Rattle.workspace.specs.Pending.{rendersOf}
 use Rattle.aliasing.specs.State.{stateOf}
 use Rattle.renders.specs.Renders.{Unmoved}
 use Rattle.writing.specs.Wrote.{Wrote}
-use Rattle.copies.specs.Functions.{functionsOf}
+use Rattle.copies.specs.Functions.{mostErrors, functionsOf}
 use Rattle.dataflow.specs.declared.function.HirFunction.{HirFunction}
 use Rattle.dataflow.specs.Function.{Describes, Stands}
 
 -- the words that the functions handed over by all mutations, or by one render, can leave
 abbrev pub mostHanded : ℕ
-mostHanded = mostInnerDiagnostics * (MUTATIONS - HANDED)
+mostHanded = mostErrors * (MUTATIONS - HANDED)
 
 -- those of the section: its count, what is recorded, and what is handed over
 abbrev pub mostDiagnosed : ℕ

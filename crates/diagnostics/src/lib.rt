@@ -15,6 +15,7 @@ use copies::effect_lists::copy_effects;
 use copies::functions::put_handed;
 use dataflow::function::HirFunction;
 use hir::IdentifierId;
+use hir::at::DIAGNOSTIC_WIDTH;
 use renders::render;
 use workspace::RENDERS;
 use writing::patch;
@@ -89,6 +90,6 @@ pub fn put_diagnostics(
     if f.errors {
         a3 = process_renders(sheet, ws, f.m, renders, answer, a3);
     }
-    patch(answer, at, (a3 - a1) as u32);
+    patch(answer, at, ((a3 - a1) / DIAGNOSTIC_WIDTH) as u32);
     a3
 }

@@ -19,55 +19,58 @@ use Rattle.hir.specs.declared.effects.Role.the-variants.{Relation, Mutat
 use Rattle.hir.proofs.Table.{at, both, both-left, both-right}
 use Rattle.hir.proofs.EffectKinds.{kind-of-number}
 
-abbrev row : Kind → ℕ → ℕ → Row
-row k p e = record { kind = k; places = p; extra = e }
+abbrev row : Kind → ℕ → ℕ → ℕ → Row
+row k p i e = record { kind = k; places = p; instance = i; extra = e }
 
 -- the first row, which also stands for numbers above 17
 abbrev pub first : Row
-first = row KindFreeze 1 11
+first = row KindFreeze 1 0 11
 
 -- what stands for a row that is not there
 abbrev none : Row
-none = row KindFreeze 0 0
+none = row KindFreeze 0 0 0
 
 -- the rows as the code has them
 abbrev pub rows : List Row
 rows =
-    row KindFreeze 1 11 ∷
-    row KindMutate 1 1 ∷
-    row KindMutateConditionally 1 0 ∷
-    row KindMutateTransitive 1 0 ∷
-    row KindMutateTransitiveConditionally 1 0 ∷
-    row KindCapture 2 0 ∷
-    row KindAlias 2 0 ∷
-    row KindMaybeAlias 2 0 ∷
-    row KindAssign 2 0 ∷
-    row KindCreate 1 71 ∷
-    row KindCreateFrom 2 0 ∷
-    row KindImmutableCapture 2 0 ∷
-    row KindApply 0 0 ∷
-    row KindCreateFunction 1 63 ∷
-    row KindMutateFrozen 1 mostDiagnostic ∷
-    row KindMutateGlobal 1 mostDiagnostic ∷
-    row KindImpure 1 mostDiagnostic ∷
-    row KindRender 1 0 ∷ []
+    row KindFreeze 1 0 11 ∷
+    row KindMutate 1 0 1 ∷
+    row KindMutateConditionally 1 0 0 ∷
+    row KindMutateTransitive 1 0 0 ∷
+    row KindMutateTransitiveConditionally 1 0 0 ∷
+    row KindCapture 2 0 0 ∷
+    row KindAlias 2 0 0 ∷
+    row KindMaybeAlias 2 0 0 ∷
+    row KindAssign 2 0 0 ∷
+    row KindCreate 1 0 71 ∷
+    row KindCreateFrom 2 0 0 ∷
+    row KindImmutableCapture 2 0 0 ∷
+    row KindApply 0 0 0 ∷
+    row KindCreateFunction 1 0 63 ∷
+    row KindMutateFrozen 1 mostDiagnostic mostDiagnostic ∷
+    row KindMutateGlobal 1 mostDiagnostic mostDiagnostic ∷
+    row KindImpure 1 mostDiagnostic mostDiagnostic ∷
+    row KindRender 1 0 0 ∷ []
 
 -- the row is that of its number
 unfoldable right : ℕ → Row → Bool
 right k r =
-    both (eqb (kindNumber (r .kind)) k) (both (eqb (r .places) (rowOf (kindOf k) .places)) (eqb (r .extra) (rowOf (kindOf k) .extra)))
+    both (eqb (kindNumber (r .kind)) k) (both (eqb (r .places) (rowOf (kindOf k) .places)) (both (eqb (r .instance) (rowOf (kindOf k) .instance)) (eqb (r .extra) (rowOf (kindOf k) .extra))))
 
 same : (r : Row) (k : ℕ) → T (right k r) → rowSays r ≡ tableRow k
 unfolding right tableRow
 same r k t =
     let a : Bool = eqb (kindNumber (r .kind)) k in
     let b : Bool = eqb (r .places) (rowOf (kindOf k) .places) in
-    let d : Bool = eqb (r .extra) (rowOf (kindOf k) .extra) in
+    let i : Bool = eqb (r .instance) (rowOf (kindOf k) .instance) in
+    let x : Bool = eqb (r .extra) (rowOf (kindOf k) .extra) in
+    let d : Bool = both i x in
     let p : kindNumber (r .kind) ≡ k = eqb→eq _ _ (both-left a (both b d) t) in
     let q : r .places ≡ rowOf (kindOf k) .places = eqb→eq _ _ (both-left b d (both-right a (both b d) t)) in
-    let e : r .extra ≡ rowOf (kindOf k) .extra = eqb→eq _ _ (both-right b d (both-right a (both b d) t)) in
+    let n : r .instance ≡ rowOf (kindOf k) .instance = eqb→eq _ _ (both-left i x (both-right b d (both-right a (both b d) t))) in
+    let e : r .extra ≡ rowOf (kindOf k) .extra = eqb→eq _ _ (both-right i x (both-right b d (both-right a (both b d) t))) in
     let s : kindSays (r .kind) ≡ kindOf k = sym (kind-of-number (r .kind)) ∙ ap kindOf p in
-    rw (q, e, s)
+    rw (q, n, e, s)
 
 -- every row of the table
 pub row-right : (k : ℕ) → k ≤ mostKind → rowSays (getD rows k none) ≡ tableRow k

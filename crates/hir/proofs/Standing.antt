@@ -10,7 +10,7 @@ use borrow.Author.Tests.{ltb-true}
 use Rattle.model.proofs.ReadLaws.{atMost-reads}
 use Rattle.model.specs.Limits.{flagCount, mostFlag, mostIdentifiers, mostFunctions, mostParams, mostContext, returnsCount, mostBlocks, mostRange, mostType, mostInnerDiagnostics, mostBlockNumber, mostCount, mostDiagnostic, mostKind, mostOrder, mostTerminal, mostTraits, placeWidth, effectWidth, operandWidth, identifierWidth, diagnosticWidth, flagsWidth}
 use Rattle.model.specs.Lists.{pick, among}
-use Rattle.model.specs.Sheet.{Flags, Identifier, BlockId, Place, EffectKind, Effect, Operand, Phi, EffectList, Instruction, Terminal, Return, MaybeThrow, Block}
+use Rattle.model.specs.Sheet.{Diagnostic, Flags, Identifier, BlockId, Place, EffectKind, Effect, Operand, Phi, EffectList, Instruction, Terminal, Return, MaybeThrow, Block}
 use Rattle.model.specs.Traits.{effectOf, reactiveOf}
 use Rattle.model.specs.Effects.{kindOf, rowOf, isCreateFunction}
 use Rattle.model.specs.Reading.{Position, Result, got, refused, Read, andThen, _>>=_, pure, refuse, word, count, fixed, atMost, below, newNumber, times, numbered, counted}
@@ -132,20 +132,20 @@ place-stands n ws c a d e =
     }
 
 -- a place that is not used
-unused-stands : StandsFor unused (wide placeWidth placeAt)
+unused-stands : (instance : ℕ) → StandsFor (unused instance) (wide placeWidth placeAt)
 unfolding unused effectOf reactiveOf
-unused-stands ws c a d e =
-    let p = in-two (atMost 0 ws c) _ e in
+unused-stands instance ws c a d e =
+    let p = in-two (atMost instance ws c) _ e in
     let q = in-two (atMost 0 ws (p .next)) _ (p .second) in
     let r = in-two (atMost 0 ws (q .next)) _ (q .second) in
-    let i = atMost-stands 0 ws c (p .value) (p .next) (p .first) in
+    let i = atMost-stands instance ws c (p .value) (p .next) (p .first) in
     let t = atMost-stands 0 ws (p .next) (q .value) (q .next) (q .first) in
     let w = atMost-stands 0 ws (q .next) (r .value) (r .next) (r .first) in
     let x : p .next ≡ c + 1 = sym (next-is i) in
     let y : q .next ≡ c + 2 = omega (arith, x, next-is t) in
     let z : c + placeWidth ≡ d = omega (arith, y, next-is w, got-next (r .second)) in
-    let none : placeOf (p .value) (q .value) (r .value) ≡ placeOf 0 0 0 =
-    place-same (zero-is (p .value) (atMost-reads 0 ws c (p .value) (p .next) (p .first))) (zero-is (q .value) (atMost-reads 0 ws (p .next) (q .value) (q .next) (q .first))) (zero-is (r .value) (atMost-reads 0 ws (q .next) (r .value) (r .next) (r .first))) in
+    let none : placeOf (p .value) (q .value) (r .value) ≡ placeOf (p .value) 0 0 =
+    place-same refl (zero-is (q .value) (atMost-reads 0 ws (p .next) (q .value) (q .next) (q .first))) (zero-is (r .value) (atMost-reads 0 ws (q .next) (r .value) (r .next) (r .first))) in
     record {
       is = part-same (place-same (at-word i refl) (at-word t x) (at-word w y) ∙ none ∙ got-value (r .second)) z;
       after = omega (arith, z);
@@ -183,12 +183,12 @@ effect-stands n m ws c a d e =
     let k = kindOf (p .value) in
     let used : Bool = leb 1 (rowOf k .places) in
     let both : Bool = leb 2 (rowOf k .places) in
-    let q = in-two (pick used (place n) unused ws (p .next)) _ (p .second) in
-    let r = in-two (pick both (place n) unused ws (q .next)) _ (q .second) in
+    let q = in-two (pick used (place n) (unused 0) ws (p .next)) _ (p .second) in
+    let r = in-two (pick both (place n) (unused (rowOf k .instance)) ws (q .next)) _ (q .second) in
     let t = in-two (extra m k ws (r .next)) _ (r .second) in
     let w = atMost-stands mostKind ws c (p .value) (p .next) (p .first) in
-    let f = either-stands used (place n) unused (wide placeWidth placeAt) (place-stands n) unused-stands ws (p .next) (q .value) (q .next) (q .first) in
-    let g = either-stands both (place n) unused (wide placeWidth placeAt) (place-stands n) unused-stands ws (q .next) (r .value) (r .next) (r .first) in
+    let f = either-stands used (place n) (unused 0) (wide placeWidth placeAt) (place-stands n) (unused-stands 0) ws (p .next) (q .value) (q .next) (q .first) in
+    let g = either-stands both (place n) (unused (rowOf k .instance)) (wide placeWidth placeAt) (place-stands n) (unused-stands (rowOf k .instance)) ws (q .next) (r .value) (r .next) (r .first) in
     let x = extra-stands m k ws (r .next) (t .value) (t .next) (t .first) in
     let h : p .next ≡ c + 1 = sym (next-is w) in
     let i : q .next ≡ c + 4 = omega (arith, h, next-is f) in
@@ -286,11 +286,33 @@ held-stands {A} r f g h ws c b d e =
     let n : p .next ≡ d = got-next (p .second) in
     record { is = ap (λ (x : Part A). part (g (x .what)) (x .next)) (s .is) ∙ got-part (p .second); after = omega (arith, n, s .after); inside = λ i. omega (arith, n, s .inside i) }
 
+-- a diagnostic: two words
+diagnostic-stands : StandsFor diagnostic (wide diagnosticWidth diagnosticAt)
+unfolding diagnostic
+diagnostic-stands ws c a d e =
+    let p = in-two (atMost mostDiagnostic ws c) _ e in
+    let q = in-two (atMost mostDiagnostic ws (p .next)) _ (p .second) in
+    let i = atMost-stands mostDiagnostic ws c (p .value) (p .next) (p .first) in
+    let k = atMost-stands mostDiagnostic ws (p .next) (q .value) (q .next) (q .first) in
+    let x : p .next ≡ c + 1 = sym (next-is i) in
+    let z : c + diagnosticWidth ≡ d = omega (arith, x, next-is k, got-next (q .second)) in
+    record {
+      is = part-same (diagnostic-same (at-word i refl) (at-word k x) ∙ got-value (q .second)) z;
+      after = omega (arith, z);
+      inside = λ h. omega (arith, got-next (q .second), k .inside (i .inside h));
+    }
+  where
+    diagnosticBy : ℕ → ℕ → Diagnostic
+    diagnosticBy i k = record { identity = i; instance = k }
+
+    diagnostic-same : {i j k l : ℕ} → i ≡ j → k ≡ l → diagnosticBy i k ≡ diagnosticBy j l
+    diagnostic-same {j = j} {k} a b = ap (λ (z : ℕ). diagnosticBy z k) a ∙ ap (diagnosticBy j) b
+
 pub function-stands : StandsFor innerFunction functionFrom
-unfolding innerFunction functionFrom diagnostic
+unfolding innerFunction functionFrom
 function-stands =
     held-stands (counted mostInnerDiagnostics diagnostic) (listed (wide diagnosticWidth diagnosticAt)) _
-    (counted-stands mostInnerDiagnostics diagnostic (wide diagnosticWidth diagnosticAt) (atMost-stands mostDiagnostic))
+    (counted-stands mostInnerDiagnostics diagnostic (wide diagnosticWidth diagnosticAt) diagnostic-stands)
 
 -- ---- the blocks
 abbrev phiBy : Place → Part (List Operand) → Part Phi

@@ -3,11 +3,10 @@ use Prim.Native.Nat.{ℕ, _+_, _≤_}
 use mathlib.Core.Path.{_≡_}
 use mathlib.Core.List.{List}
 use Rattle.model.specs.Reading.{Position}
-use Rattle.model.specs.Sheet.{Diagnostic as ModelDiagnostic, Operand as ModelOperand}
+use Rattle.model.specs.Sheet.{Operand as ModelOperand}
 use Rattle.hir.specs.Says.{placeIs}
 use Rattle.hir.specs.Words.{wordAt, placeAt}
 use Rattle.model.specs.Limits.{placeWidth}
-use Rattle.hir.specs.declared.Diagnostic.{Diagnostic}
 use Rattle.hir.specs.declared.at.List.{List as Listed}
 use Rattle.hir.specs.declared.at.Operand.{Operand}
 use Rattle.hir.specs.declared.at.Phi.{Phi}
@@ -18,10 +17,6 @@ use Rattle.hir.specs.declared.at.Terminal.the-variants.{Other, Return, M
 -- the operand as the definitions have it
 abbrev pub operandIs : Operand → ModelOperand
 operandIs o = record { predecessor = o .predecessor .0; place = placeIs (o .place) }
-
--- the diagnostic
-abbrev pub diagnosticIs : Diagnostic → ModelDiagnostic
-diagnosticIs d = d .0
 
 -- a count, and what it counts from the next word on
 pub record ListAt (ws : List ℕ) (c : Position) (r : Listed) : Type 0 where

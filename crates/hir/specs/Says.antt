@@ -2,7 +2,7 @@
 use Prim.Native.Nat.{ℕ}
 use mathlib.Core.Bool.{Bool}
 use Rattle.model.specs.Lists.{pick}
-use Rattle.model.specs.Sheet.{Place as ModelPlace, Effect as ModelEffect, Flags as ModelFlags, Identifier as ModelIdentifier, EvaluationOrder as ModelOrder, BlockId as ModelBlock}
+use Rattle.model.specs.Sheet.{Place as ModelPlace, Effect as ModelEffect, Flags as ModelFlags, Identifier as ModelIdentifier, Diagnostic as ModelDiagnostic, EvaluationOrder as ModelOrder, BlockId as ModelBlock}
 use Rattle.model.specs.Reading.{Result, got, refused, Read}
 use Rattle.model.specs.Sections.{place, unused}
 use Rattle.hir.specs.Numbers.{effectNumber, kindSays, terminalNumber, typeSays}
@@ -10,6 +10,7 @@ use Rattle.hir.specs.declared.Place.{Place}
 use Rattle.hir.specs.declared.AliasingEffect.{AliasingEffect}
 use Rattle.hir.specs.declared.Flags.{Flags}
 use Rattle.hir.specs.declared.Identifier.{Identifier}
+use Rattle.hir.specs.declared.Diagnostic.{Diagnostic}
 use Rattle.hir.specs.declared.WordStep.{WordStep}
 use Rattle.hir.specs.declared.WordStep.the-variants.{Got as GotWord, Refused as NoWord}
 use Rattle.hir.specs.declared.PlaceStep.{PlaceStep}
@@ -26,6 +27,8 @@ use Rattle.hir.specs.declared.FlagsStep.{FlagsStep}
 use Rattle.hir.specs.declared.FlagsStep.the-variants.{Got as GotFlags, Refused as NoFlags}
 use Rattle.hir.specs.declared.IdentifierStep.{IdentifierStep}
 use Rattle.hir.specs.declared.IdentifierStep.the-variants.{Got as GotIdentifier, Refused as NoIdentifier}
+use Rattle.hir.specs.declared.DiagnosticStep.{DiagnosticStep}
+use Rattle.hir.specs.declared.DiagnosticStep.the-variants.{Got as GotDiagnostic, Refused as NoDiagnostic}
 
 -- the place as the definitions have it
 abbrev pub placeIs : Place → ModelPlace
@@ -42,6 +45,10 @@ flagsAre f = record { functionExpression = f .«function_expression»; validatio
 -- the identifier
 abbrev pub identifierIs : Identifier → ModelIdentifier
 identifierIs i = record { start = i .«mutable_range» .start .0; end = i .«mutable_range» .end .0; type = typeSays (i .kind) }
+
+-- the diagnostic
+abbrev pub diagnosticIs : Diagnostic → ModelDiagnostic
+diagnosticIs d = record { identity = d .identity; instance = d .instance }
 
 -- a word
 abbrev pub wordSays : WordStep → Result ℕ
@@ -83,6 +90,11 @@ abbrev pub identifierSays : IdentifierStep → Result ModelIdentifier
 identifierSays (GotIdentifier w c) = got (identifierIs w) (c .at)
 identifierSays (NoIdentifier k) = refused k
 
--- a place if the effect uses it, else three words 0
-abbrev pub placeOrUnused : Bool → ℕ → Read ModelPlace
-placeOrUnused used n = pick used (place n) unused
+-- a diagnostic
+abbrev pub diagnosticSays : DiagnosticStep → Result ModelDiagnostic
+diagnosticSays (GotDiagnostic w c) = got (diagnosticIs w) (c .at)
+diagnosticSays (NoDiagnostic k) = refused k
+
+-- a place if the effect uses it, else three words 0, but for an instance as the first
+abbrev pub placeOrUnused : Bool → ℕ → ℕ → Read ModelPlace
+placeOrUnused used n instance = pick used (place n) (unused instance)

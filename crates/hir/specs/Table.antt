@@ -15,16 +15,17 @@ roleSays Render = render
 roleSays Diagnosis = diagnosis
 roleSays Nothing = nothing
 
--- a row: the kind, how many places it uses, its largest extra word
+-- a row: the kind, how many places it uses, its largest instance, its largest extra word
 pub record TableRow : Type 0 where
   pub kind : EffectKind
   pub places : ℕ
+  pub instance : ℕ
   pub extra : ℕ
 
 -- what the code's row says
 abbrev pub rowSays : Row → TableRow
-rowSays r = record { kind = kindSays (r .kind); places = r .places; extra = r .extra }
+rowSays r = record { kind = kindSays (r .kind); places = r .places; instance = r .instance; extra = r .extra }
 
 -- the document's row of a kind's number
 unfoldable pub tableRow : ℕ → TableRow
-tableRow k = record { kind = kindOf k; places = rowOf (kindOf k) .places; extra = rowOf (kindOf k) .extra }
+tableRow k = record { kind = kindOf k; places = rowOf (kindOf k) .places; instance = rowOf (kindOf k) .instance; extra = rowOf (kindOf k) .extra }

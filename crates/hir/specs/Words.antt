@@ -55,9 +55,9 @@ operandAt ws c = record { predecessor = wordAt ws c; place = placeOf (wordAt ws 
 abbrev pub identifierAt : List ℕ → Position → Identifier
 identifierAt ws c = record { start = wordAt ws c; end = wordAt ws (c + 1); type = typeOf (wordAt ws (c + 2)) }
 
--- the diagnostic at c
+-- the diagnostic from c on
 abbrev pub diagnosticAt : List ℕ → Position → Diagnostic
-diagnosticAt ws c = wordAt ws c
+diagnosticAt ws c = record { identity = wordAt ws c; instance = wordAt ws (c + 1) }
 
 -- ---- several parts
 module _ {A : Type 0} where
@@ -78,7 +78,7 @@ module _ {A : Type 0} where
 abbrev pub effectsFrom : Standing EffectList
 effectsFrom = listed (wide effectWidth effectAt)
 
--- "a count, then that many diagnostic numbers"
+-- "a count, then that many pairs"
 unfoldable pub functionFrom : Standing InnerFunction
 functionFrom ws c = record {
   what = record { diagnostics = listed (wide diagnosticWidth diagnosticAt) ws c .what };

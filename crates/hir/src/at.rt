@@ -2,10 +2,10 @@
 ghost use mathlib.Core.Path.{_≡_};
 ghost use Prim.Native.Nat.{_+_, _≤_};
 ghost use lib.ListN.{length};
-ghost use Rattle.hir.specs.Says.{placeIs, effectIs, flagsAre, identifierIs};
+ghost use Rattle.hir.specs.Says.{placeIs, effectIs, flagsAre, identifierIs, diagnosticIs};
 ghost use Rattle.hir.specs.Words.{wordAt, placeAt, effectAt, operandAt, identifierAt, diagnosticAt, flagsAt, terminalFrom};
 ghost use Rattle.model.specs.Limits.{placeWidth, effectWidth, operandWidth, identifierWidth, diagnosticWidth, flagsWidth};
-ghost use Rattle.hir.specs.Parts.{operandIs, diagnosticIs, ListAt, PhiAt, InstructionAt, TerminalAt};
+ghost use Rattle.hir.specs.Parts.{operandIs, ListAt, PhiAt, InstructionAt, TerminalAt};
 use crate::AliasingEffect;
 use crate::BlockId;
 use crate::Diagnostic;
@@ -28,7 +28,7 @@ pub const OPERAND_WIDTH: usize = 4;
 
 pub const IDENTIFIER_WIDTH: usize = 3;
 
-pub const DIAGNOSTIC_WIDTH: usize = 1;
+pub const DIAGNOSTIC_WIDTH: usize = 2;
 
 pub const FLAGS_WIDTH: usize = 3;
 
@@ -175,7 +175,10 @@ pub fn diagnostic_at(s: &[u32], at: usize) -> Diagnostic
     requires { ⌜ at + diagnosticWidth ≤ length (now s) ⌝ }
     ensures { λ r. ⌜ diagnosticIs r ≡ diagnosticAt (now (s .entry)) at ⌝ }
 {
-    Diagnostic(s[at])
+    Diagnostic {
+        identity: s[at],
+        instance: s[at + 1],
+    }
 }
 
 pub fn terminal_at(s: &[u32], at: usize) -> Terminal

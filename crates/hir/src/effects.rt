@@ -1,12 +1,13 @@
 // An effect, held to the table of its kind.
 ghost use mathlib.Core.Path.{_≡_};
-ghost use Rattle.model.specs.Effects.{rowOf};
+ghost use Rattle.model.specs.Effects.{rowOf, diagnosticOf};
 ghost use Rattle.model.specs.Sections.{extra, effect};
 ghost use Rattle.hir.specs.Numbers.{kindSays};
-ghost use Rattle.hir.specs.Says.{wordSays, effectSays};
+ghost use Rattle.hir.specs.Says.{wordSays, effectSays, effectIs, diagnosticIs};
 ghost use Rattle.hir.specs.Table.{roleSays, rowSays, tableRow};
 use crate::AliasingEffect;
 use crate::Cursor;
+use crate::Diagnostic;
 use crate::EffectKind;
 use crate::EffectStep;
 use crate::PlaceStep;
@@ -23,10 +24,11 @@ pub enum Role {
     Nothing,
 }
 
-// How many places a kind uses, and its largest extra word.
+// How many places a kind uses, the largest instance of its diagnostic (0 where it has none), and its largest extra word.
 pub struct Row {
     pub kind: EffectKind,
     pub places: u32,
+    pub instance: u32,
     pub extra: u32,
 }
 
@@ -34,91 +36,109 @@ const ROWS: [Row; 18] = [
     Row {
         kind: EffectKind::Freeze,
         places: 1,
+        instance: 0,
         extra: 11,
     },
     Row {
         kind: EffectKind::Mutate,
         places: 1,
+        instance: 0,
         extra: 1,
     },
     Row {
         kind: EffectKind::MutateConditionally,
         places: 1,
+        instance: 0,
         extra: 0,
     },
     Row {
         kind: EffectKind::MutateTransitive,
         places: 1,
+        instance: 0,
         extra: 0,
     },
     Row {
         kind: EffectKind::MutateTransitiveConditionally,
         places: 1,
+        instance: 0,
         extra: 0,
     },
     Row {
         kind: EffectKind::Capture,
         places: 2,
+        instance: 0,
         extra: 0,
     },
     Row {
         kind: EffectKind::Alias,
         places: 2,
+        instance: 0,
         extra: 0,
     },
     Row {
         kind: EffectKind::MaybeAlias,
         places: 2,
+        instance: 0,
         extra: 0,
     },
     Row {
         kind: EffectKind::Assign,
         places: 2,
+        instance: 0,
         extra: 0,
     },
     Row {
         kind: EffectKind::Create,
         places: 1,
+        instance: 0,
         extra: 71,
     },
     Row {
         kind: EffectKind::CreateFrom,
         places: 2,
+        instance: 0,
         extra: 0,
     },
     Row {
         kind: EffectKind::ImmutableCapture,
         places: 2,
+        instance: 0,
         extra: 0,
     },
     Row {
         kind: EffectKind::Apply,
         places: 0,
+        instance: 0,
         extra: 0,
     },
     Row {
         kind: EffectKind::CreateFunction,
         places: 1,
+        instance: 0,
         extra: 63,
     },
     Row {
         kind: EffectKind::MutateFrozen,
         places: 1,
+        instance: MOST_DIAGNOSTIC,
         extra: MOST_DIAGNOSTIC,
     },
     Row {
         kind: EffectKind::MutateGlobal,
         places: 1,
+        instance: MOST_DIAGNOSTIC,
         extra: MOST_DIAGNOSTIC,
     },
     Row {
         kind: EffectKind::Impure,
         places: 1,
+        instance: MOST_DIAGNOSTIC,
         extra: MOST_DIAGNOSTIC,
     },
     Row {
         kind: EffectKind::Render,
         places: 1,
+        instance: 0,
         extra: 0,
     },
 ];
@@ -164,6 +184,18 @@ pub fn role_of(kind: EffectKind) -> Role
     ROLES[k]
 }
 
+// The diagnostic of an effect that is a diagnosis.
+pub fn diagnostic_of(e: AliasingEffect) -> Diagnostic
+    ensures { λ r. ⌜ diagnosticIs r ≡ diagnosticOf (effectIs e) ⌝ }
+{
+    let second = e.second;
+    let identifier = second.identifier;
+    Diagnostic {
+        identity: e.extra,
+        instance: identifier.0,
+    }
+}
+
 // The extra word: at most the table's; for CreateFunction below the count of inner functions.
 fn extra(c: Cursor, s: &[u32], m: u32, row: Row) -> WordStep
     requires { ⌜ row .extra ≡ rowOf (kindSays (row .kind)) .extra ⌝ }
@@ -195,8 +227,8 @@ pub fn effect(c: Cursor, s: &[u32], n: u32, m: u32) -> EffectStep
     }
     let row = row_of(number);
     let kind = row.kind;
-    match c1.place_if(s, n, 1 <= row.places) {
-        PlaceStep::Got(first, c2) => match c2.place_if(s, n, 2 <= row.places) {
+    match c1.place_if(s, n, 1 <= row.places, 0) {
+        PlaceStep::Got(first, c2) => match c2.place_if(s, n, 2 <= row.places, row.instance) {
             PlaceStep::Got(second, c3) => match extra(c3, s, m, row) {
                 WordStep::Got(x, c4) => {
                     let e = AliasingEffect {

@@ -137,8 +137,11 @@ pub struct AliasingEffect {
     pub extra: u32,
 }
 
-// What is recorded for an error: its number.
-pub struct Diagnostic(pub u32);
+// What is recorded for an error (the original's `AliasingDiagnostic`): what it says, and where it was raised.
+pub struct Diagnostic {
+    pub identity: u32,
+    pub instance: u32,
+}
 
 // The terminals that matter here; every other one is `Other`.
 pub enum TerminalKind {
@@ -296,5 +299,11 @@ pub enum FlagsStep {
 // An identifier and the position after it, or a refusal.
 pub enum IdentifierStep {
     Got(Identifier, Cursor),
+    Refused(u32),
+}
+
+// A diagnostic and the position after it, or a refusal.
+pub enum DiagnosticStep {
+    Got(Diagnostic, Cursor),
     Refused(u32),
 }

@@ -1,14 +1,16 @@
-// The numbers that are not effects: orders, block numbers, kinds of terminals, flags, identifiers.
+// The parts that are not effects: orders, block numbers, kinds of terminals, flags, identifiers, diagnostics.
 ghost use mathlib.Core.Path.{_≡_};
 ghost use Rattle.model.specs.Limits.{mostOrder, mostBlockNumber, mostTerminal};
 ghost use Rattle.model.specs.Reading.{atMost};
-ghost use Rattle.model.specs.Sections.{flags, identifier};
+ghost use Rattle.model.specs.Sections.{flags, identifier, diagnostic};
 ghost use Rattle.hir.specs.Numbers.{typeSays};
 ghost use Rattle.model.specs.Sections.{typeOf};
-ghost use Rattle.hir.specs.Says.{orderSays, blockSays, kindStepSays, flagsSays, identifierSays};
+ghost use Rattle.hir.specs.Says.{orderSays, blockSays, kindStepSays, flagsSays, identifierSays, diagnosticSays};
 use crate::BlockId;
 use crate::BlockStep;
 use crate::Cursor;
+use crate::Diagnostic;
+use crate::DiagnosticStep;
 use crate::EvaluationOrder;
 use crate::Flags;
 use crate::FlagsStep;
@@ -22,6 +24,7 @@ use crate::TerminalKind;
 use crate::WordStep;
 use crate::limits::FLAG_COUNT;
 use crate::limits::MOST_BLOCK_NUMBER;
+use crate::limits::MOST_DIAGNOSTIC;
 use crate::limits::MOST_FLAG;
 use crate::limits::MOST_ORDER;
 use crate::limits::MOST_RANGE;
@@ -124,6 +127,22 @@ impl Cursor {
                 WordStep::Refused(k2) => IdentifierStep::Refused(k2),
             },
             WordStep::Refused(k1) => IdentifierStep::Refused(k1),
+        }
+    }
+
+    // Identity, then instance.
+    pub fn diagnostic(self, s: &[u32]) -> DiagnosticStep
+        ensures { λ r. ⌜ diagnosticSays r ≡ diagnostic (now (s .entry)) (self .at) ⌝ }
+    {
+        match self.at_most(s, MOST_DIAGNOSTIC) {
+            WordStep::Got(identity, c1) => match c1.at_most(s, MOST_DIAGNOSTIC) {
+                WordStep::Got(instance, c2) => {
+                    let d = Diagnostic { identity, instance };
+                    DiagnosticStep::Got(d, c2)
+                }
+                WordStep::Refused(k2) => DiagnosticStep::Refused(k2),
+            },
+            WordStep::Refused(k1) => DiagnosticStep::Refused(k1),
         }
     }
 }

@@ -77,16 +77,16 @@ impl Cursor {
         }
     }
 
-    // A place that an effect does not use: three words 0.
-    fn unused(self, s: &[u32]) -> PlaceStep
-        ensures { λ r. ⌜ placeSays r ≡ unused (now (s .entry)) (self .at) ⌝ }
+    // A place that an effect does not use: three words 0, but for an instance as the first.
+    fn unused(self, s: &[u32], instance: u32) -> PlaceStep
+        ensures { λ r. ⌜ placeSays r ≡ unused instance (now (s .entry)) (self .at) ⌝ }
     {
-        match self.at_most(s, 0) {
-            WordStep::Got(_, c1) => match c1.at_most(s, 0) {
+        match self.at_most(s, instance) {
+            WordStep::Got(i, c1) => match c1.at_most(s, 0) {
                 WordStep::Got(_, c2) => match c2.at_most(s, 0) {
                     WordStep::Got(_, c3) => {
                         let p = Place {
-                            identifier: IdentifierId(0),
+                            identifier: IdentifierId(i),
                             effect: Effect::Unknown,
                             reactive: false,
                             span: 0,
@@ -101,13 +101,13 @@ impl Cursor {
         }
     }
 
-    pub fn place_if(self, s: &[u32], n: u32, used: bool) -> PlaceStep
-        ensures { λ r. ⌜ placeSays r ≡ placeOrUnused used n (now (s .entry)) (self .at) ⌝ }
+    pub fn place_if(self, s: &[u32], n: u32, used: bool, instance: u32) -> PlaceStep
+        ensures { λ r. ⌜ placeSays r ≡ placeOrUnused used n instance (now (s .entry)) (self .at) ⌝ }
     {
         if used {
             self.place(s, n)
         } else {
-            self.unused(s)
+            self.unused(s, instance)
         }
     }
 }

@@ -1,17 +1,17 @@
 -- An effect whose kind is known: what it asks of the building, and its step.
 use Prim.Native.Nat.{ℕ, _<_}
 use native.Mathlib.Omega.{arith}
-use mathlib.Core.Path.{_≡_, refl, sym, subst, ap}
-use mathlib.Core.Bool.{Bool, true, false, _||_, false≢true}
+use mathlib.Core.Path.{_≡_, refl, sym, subst, ap, _∙_}
+use mathlib.Core.Bool.{Bool, true, false, _||_, true≢false, false≢true}
 use mathlib.Core.List.{List, [], _∷_}
 use mathlib.Core.Logic.{inl, inr}
-use lib.Dec.{eqb}
+use lib.Dec.{leb, eqb}
 use borrow.Author.Tests.{eq-eqb}
 use types.Run.{OneOf}
 use denote.Enum.Declared.{tagOf}
 use Rattle.model.specs.Limits.{mostIdentifiers, mostFunctions, mostRelations, mostMutations, mostRenders}
 use Rattle.model.specs.Lists.{pick, oneIf, among}
-use Rattle.model.specs.Sheet.{EvaluationOrder, Effect}
+use Rattle.model.specs.Sheet.{EvaluationOrder, EffectKind, Freeze, Mutate, MutateConditionally, MutateTransitive, MutateTransitiveConditionally, Capture, Alias, MaybeAlias, Assign, Create, CreateFrom, ImmutableCapture, Apply, CreateFunction, MutateFrozen, MutateGlobal, Impure, Render, Effect}
 use Rattle.model.specs.Effects.{rowOf, isAlias, isCreateFunction, isRelation, isMutation, isRender}
 use Rattle.model.specs.Ranges.{PlaceBelow}
 use Rattle.model.specs.Graph.{intoAliases, relate}
@@ -30,6 +30,28 @@ use Rattle.instructions.specs.Ranges.{InRange}
 use Rattle.instructions.specs.Builds.{effectStep, Spends, Buildable}
 use Rattle.instructions.proofs.Spending.{spends-none}
 
+-- a relation has two places
+relation-places : (k : EffectKind) → isRelation (rowOf k .role) ≡ true → leb 2 (rowOf k .places) ≡ true
+unfolding rowOf
+relation-places Freeze h = absurd (true≢false (sym h))
+relation-places Mutate h = absurd (true≢false (sym h))
+relation-places MutateConditionally h = absurd (true≢false (sym h))
+relation-places MutateTransitive h = absurd (true≢false (sym h))
+relation-places MutateTransitiveConditionally h = absurd (true≢false (sym h))
+relation-places Capture h = refl
+relation-places Alias h = refl
+relation-places MaybeAlias h = refl
+relation-places Assign h = refl
+relation-places Create h = absurd (true≢false (sym h))
+relation-places CreateFrom h = refl
+relation-places ImmutableCapture h = absurd (true≢false (sym h))
+relation-places Apply h = absurd (true≢false (sym h))
+relation-places CreateFunction h = absurd (true≢false (sym h))
+relation-places MutateFrozen h = absurd (true≢false (sym h))
+relation-places MutateGlobal h = absurd (true≢false (sym h))
+relation-places Impure h = absurd (true≢false (sym h))
+relation-places Render h = absurd (true≢false (sym h))
+
 -- ---- an effect of an instruction
 -- what is asked of the building
 abbrev Asked : AliasingEffect → List ℕ → Building → Type 0
@@ -45,7 +67,7 @@ module _ (e : AliasingEffect) {k : Kind} (q : e .kind ≡ k) {ws : List ℕ} {b 
 
   pub relation-can : isRelation (rowOf (kindSays k) .role) ≡ true → Asked e ws b → Sound ws b × ((b .relations < mostRelations) × (PlaceBelow mostIdentifiers (placeIs (e .first)) × PlaceBelow mostIdentifiers (placeIs (e .second))))
   unfolding kindCost
-  relation-can t p = (p .sound, (omega (arith, room p .relations, ap oneIf t), (p .range .first, p .range .second)))
+  relation-can t p = (p .sound, (omega (arith, room p .relations, ap oneIf t), (p .range .first, p .range .second (ap (λ (j : Kind). leb 2 (rowOf (kindSays j) .places)) q ∙ relation-places (kindSays k) t))))
 
   pub mutation-can : isMutation (rowOf (kindSays k) .role) ≡ true → Asked e ws b → Sound ws b × ((b .mutations < mostMutations) × PlaceBelow mostIdentifiers (placeIs (e .first)))
   unfolding kindCost
@@ -110,6 +132,11 @@ module _ (e : AliasingEffect) {t : Bool} (q : isAlias (kindSays (e .kind)) ≡ t
 pub is-alias : {k : Kind} → k ≡ KindAlias → isAlias (kindSays k) ≡ true
 unfolding rowOf
 is-alias q = ap (λ (k : Kind). isAlias (kindSays k)) q
+
+-- Alias has two places
+pub alias-places : {k : Kind} → k ≡ KindAlias → leb 2 (rowOf (kindSays k) .places) ≡ true
+unfolding rowOf
+alias-places q = ap (λ (j : Kind). leb 2 (rowOf (kindSays j) .places)) q
 
 pub alias-fits : (e : AliasingEffect) {b : Building} → isAlias (kindSays (e .kind)) ≡ true → Fits (terminalEffectCost (effectIs e)) b → b .relations < mostRelations
 unfolding terminalEffectCost

@@ -6,7 +6,7 @@ use mathlib.Core.Bool.{Bool, true, false, true≢false}
 use lib.Dec.{leb}
 use Rattle.model.specs.Limits.{mostIdentifiers, mostFunctions, mostCount, mostOrder, mostTerminal, mostTraits, mostKind}
 use Rattle.model.specs.Lists.{pick, Every}
-use Rattle.model.specs.Sheet.{noPlace, EffectKind, Other, Return, MaybeThrow}
+use Rattle.model.specs.Sheet.{Place, unusedPlace, EffectKind, Other, Return, MaybeThrow}
 use Rattle.model.specs.Effects.{kindOf, rowOf, isCreateFunction}
 use Rattle.model.specs.Ranges.{PlaceBelow}
 use Rattle.model.specs.Reading.{word, atMost, below}
@@ -20,13 +20,19 @@ place-known n h =
     bind-reads (below n) _ (λ (i : ℕ). i < n) (PlaceBelow mostIdentifiers) (below-reads n)
     (λ i k. then-reads (atMost mostTraits) _ (PlaceBelow mostIdentifiers) (λ t. then-reads word _ (PlaceBelow mostIdentifiers) (λ s. pure-reads _ (PlaceBelow mostIdentifiers) (omega (arith, h, k)))))
 
-unused-known : Reads unused (PlaceBelow mostIdentifiers)
+unused-known : Reads (unused 0) (PlaceBelow mostIdentifiers)
 unfolding unused
 unused-known =
-    then-reads (atMost 0) _ (PlaceBelow mostIdentifiers) (λ i. then-reads (atMost 0) _ (PlaceBelow mostIdentifiers) (λ t. then-reads (atMost 0) _ (PlaceBelow mostIdentifiers) (λ s. pure-reads noPlace (PlaceBelow mostIdentifiers) (omega arith))))
+    bind-reads (atMost 0) _ (λ (i : ℕ). i ≤ 0) (PlaceBelow mostIdentifiers) (atMost-reads 0)
+    (λ i none. then-reads (atMost 0) _ (PlaceBelow mostIdentifiers) (λ t. then-reads (atMost 0) _ (PlaceBelow mostIdentifiers) (λ s. pure-reads (unusedPlace i) (PlaceBelow mostIdentifiers) (omega (arith, none)))))
 
-known : (n : ℕ) → n ≤ mostIdentifiers → (b : Bool) → Reads (pick b (place n) unused) (PlaceBelow mostIdentifiers)
-known n h b = pick-reads b (place n) unused (PlaceBelow mostIdentifiers) (λ e. place-known n h) (λ e. unused-known)
+first-known : (n : ℕ) → n ≤ mostIdentifiers → (b : Bool) → Reads (pick b (place n) (unused 0)) (PlaceBelow mostIdentifiers)
+first-known n h b = pick-reads b (place n) (unused 0) (PlaceBelow mostIdentifiers) (λ e. place-known n h) (λ e. unused-known)
+
+second-known : (n instance : ℕ) → n ≤ mostIdentifiers → (b : Bool) → Reads (pick b (place n) (unused instance)) (λ (q : Place). b ≡ true → PlaceBelow mostIdentifiers q)
+second-known n instance h b =
+    pick-reads b (place n) (unused instance) (λ (q : Place). b ≡ true → PlaceBelow mostIdentifiers q)
+    (λ t ws c a d e u. place-known n h ws c a d e) (λ t ws c a d e u. absurd (true≢false (sym u ∙ t)))
 
 abbrev ExtraKnown : EffectKind → ℕ → Type 0
 ExtraKnown k x = (isCreateFunction k ≡ true → x < mostFunctions) × (isCreateFunction k ≡ false → x ≤ rowOf k .extra)
@@ -43,8 +49,9 @@ module _ (n m : ℕ) (hn : n ≤ mostIdentifiers) (hm : m ≤ mostFunctions) whe
   unfolding effect
   effect-known =
       then-reads (atMost mostKind) _ InRange
-      (λ w. bind-reads (pick (leb 1 (rowOf (kindOf w) .places)) (place n) unused) _ (PlaceBelow mostIdentifiers) InRange (known n hn (leb 1 (rowOf (kindOf w) .places)))
-      (λ p hp. bind-reads (pick (leb 2 (rowOf (kindOf w) .places)) (place n) unused) _ (PlaceBelow mostIdentifiers) InRange (known n hn (leb 2 (rowOf (kindOf w) .places)))
+      (λ w. bind-reads (pick (leb 1 (rowOf (kindOf w) .places)) (place n) (unused 0)) _ (PlaceBelow mostIdentifiers) InRange (first-known n hn (leb 1 (rowOf (kindOf w) .places)))
+      (λ p hp. bind-reads (pick (leb 2 (rowOf (kindOf w) .places)) (place n) (unused (rowOf (kindOf w) .instance))) _ (λ (q : Place). leb 2 (rowOf (kindOf w) .places) ≡ true → PlaceBelow mostIdentifiers q) InRange
+      (second-known n (rowOf (kindOf w) .instance) hn (leb 2 (rowOf (kindOf w) .places)))
       (λ q hq. bind-reads (extra m (kindOf w)) _ (ExtraKnown (kindOf w)) InRange (extra-known m hm (kindOf w))
       (λ x hx. pure-reads _ InRange (record { first = hp; second = hq; function = hx .0; extra = hx .1 })))))
 

@@ -2,6 +2,7 @@
 use Prim.Native.Nat.{_≤_, _<_}
 use mathlib.Core.Bool.{true, false}
 use mathlib.Core.Path.{_≡_}
+use lib.Dec.{leb}
 use Rattle.model.specs.Limits.{mostIdentifiers, mostFunctions}
 use Rattle.model.specs.Lists.{Every}
 use Rattle.model.specs.Sheet.{Effect, Instruction, Terminal, Other, Return, MaybeThrow}
@@ -11,7 +12,7 @@ use Rattle.model.specs.Ranges.{PlaceBelow}
 -- an effect: its places, and its extra word by its kind
 pub record InRange (e : Effect) : Type 0 where
   pub first : PlaceBelow mostIdentifiers (e .first)
-  pub second : PlaceBelow mostIdentifiers (e .second)
+  pub second : leb 2 (rowOf (e .kind) .places) ≡ true → PlaceBelow mostIdentifiers (e .second)
   pub function : isCreateFunction (e .kind) ≡ true → e .extra < mostFunctions
   pub extra : isCreateFunction (e .kind) ≡ false → e .extra ≤ rowOf (e .kind) .extra
 

@@ -9,7 +9,7 @@ use lib.Dec.{leb}
 use borrow.Author.Tests.{le-leb, lt-leb, le-ltb}
 use Rattle.model.specs.Limits.{flagCount, mostFlag, mostIdentifiers, mostRange, mostType, mostFunctions, mostInnerDiagnostics, mostDiagnostic, mostParams, mostContext, returnsCount, mostBlocks, mostCount, mostOrder, mostTerminal, mostTraits, mostKind, mostSheet}
 use Rattle.model.specs.Lists.{pick, gather, among, Every, oneIf}
-use Rattle.model.specs.Sheet.{Flags, Identifier, IdentifierType, other, primitive, jsx, Diagnostic, InnerFunction, Place, noPlace, EffectKind, Freeze, Mutate, MutateConditionally, MutateTransitive, MutateTransitiveConditionally, Capture, Alias, MaybeAlias, Assign, Create, CreateFrom, ImmutableCapture, Apply, CreateFunction, MutateFrozen, MutateGlobal, Impure, Render, Effect, EffectList, Operand, Phi, Instruction, Terminal, Other, Return, MaybeThrow, BlockId, Block, Sheet}
+use Rattle.model.specs.Sheet.{Flags, Identifier, IdentifierType, other, primitive, jsx, Diagnostic, InnerFunction, Place, unusedPlace, EffectKind, Freeze, Mutate, MutateConditionally, MutateTransitive, MutateTransitiveConditionally, Capture, Alias, MaybeAlias, Assign, Create, CreateFrom, ImmutableCapture, Apply, CreateFunction, MutateFrozen, MutateGlobal, Impure, Render, Effect, EffectList, Operand, Phi, Instruction, Terminal, Other, Return, MaybeThrow, BlockId, Block, Sheet}
 use Rattle.model.specs.Traits.{reactiveTraits, effectOf, reactiveOf, traitsWord}
 use Rattle.model.specs.Effects.{kindOf, rowOf, isCreateFunction}
 use Rattle.model.specs.Reading.{got, Read, _>>=_, pure, word, count, fixed, atMost, below, numbered, counted}
@@ -17,7 +17,7 @@ use Rattle.model.specs.Sections.{flag, flags, typeOf, identifier, diagno
 use Rattle.model.specs.Answer.{placeWords, diagnosticWords, effectWords, section}
 use Rattle.model.specs.Totals.{totals, over, judged}
 use Rattle.model.specs.Call.{ended, read, IsSheet}
-use Rattle.model.specs.Encoder.{flagsWords, typeWord, identifierWords, functionWords, effectsWords, operandWords, phiWords, instructionWords, terminalWords, blockRest, blockWords, sheetWords, IdentifierFits, FunctionFits, PlaceFits, UsedFits, ExtraFits, EffectFits, EffectsFit, OperandFits, PhiFits, InstructionFits, TerminalFits, BlockFits, SheetFits}
+use Rattle.model.specs.Encoder.{flagsWords, typeWord, identifierWords, functionWords, effectsWords, operandWords, phiWords, instructionWords, terminalWords, blockRest, blockWords, sheetWords, IdentifierFits, DiagnosticFits, FunctionFits, PlaceFits, UsedFits, ExtraFits, EffectFits, EffectsFit, OperandFits, PhiFits, InstructionFits, TerminalFits, BlockFits, SheetFits}
 use Rattle.model.proofs.Everywhere.{every-mem}
 use Rattle.model.proofs.BackLaws.{Back, pure-back, bind-back, word-back, atMost-back, below-back, count-back, fixed-back, counted-back, numbered-back}
 
@@ -59,12 +59,18 @@ identifier-back i h =
     identifierBy : IdentifierType → Identifier
     identifierBy t = record { start = i .start; end = i .end; type = t }
 
+diagnostic-back : (d : Diagnostic) → DiagnosticFits d → Back diagnostic (diagnosticWords d) d
+unfolding diagnostic
+diagnostic-back d h =
+    bind-back (atMost mostDiagnostic) _ (d .identity ∷ []) (d .instance ∷ []) (d .identity) d (atMost-back mostDiagnostic (d .identity) (h .0))
+    (bind-back (atMost mostDiagnostic) _ (d .instance ∷ []) [] (d .instance) d (atMost-back mostDiagnostic (d .instance) (h .1)) (pure-back d))
+
 function-back : (f : InnerFunction) → FunctionFits f → Back innerFunction (functionWords f) f
-unfolding innerFunction diagnostic
+unfolding innerFunction
 function-back f h =
     subst (λ (vs : List ℕ). Back innerFunction vs f) (append-nil (functionWords f))
     (bind-back (counted mostInnerDiagnostics diagnostic) _ (functionWords f) [] (f .diagnostics) f
-    (counted-back mostInnerDiagnostics diagnostic diagnosticWords (f .diagnostics) (h .0) (every-mem (λ (d : Diagnostic). d ≤ mostDiagnostic) _ (f .diagnostics) (λ d m k. atMost-back mostDiagnostic d k) (h .1)))
+    (counted-back mostInnerDiagnostics diagnostic diagnosticWords (f .diagnostics) (h .0) (every-mem DiagnosticFits _ (f .diagnostics) (λ d m k. diagnostic-back d k) (h .1)))
     (pure-back f))
 
 -- ---- places
@@ -95,15 +101,16 @@ place-back n p h =
     (bind-back word _ (p .span ∷ []) [] (p .span) p (word-back (p .span))
     (pure-is (ap (λ (e : ℕ). placeBy (p .identifier) e (reactiveOf t) (p .span)) (effect-of-traits (p .effect) (p .reactive) (h .1)) ∙ ap (λ (r : Bool). placeBy (p .identifier) (p .effect) r (p .span)) (reactive-of-traits (p .effect) (p .reactive) (h .1))))))
 
-unused-back : Back unused (placeWords noPlace) noPlace
+unused-back : (instance i : ℕ) → i ≤ instance → Back (unused instance) (placeWords (unusedPlace i)) (unusedPlace i)
 unfolding unused traitsWord
-unused-back =
-    bind-back (atMost 0) _ (0 ∷ []) (0 ∷ 0 ∷ []) 0 noPlace (atMost-back 0 0 (omega arith))
-    (bind-back (atMost 0) _ (0 ∷ []) (0 ∷ []) 0 noPlace (atMost-back 0 0 (omega arith)) (bind-back (atMost 0) _ (0 ∷ []) [] 0 noPlace (atMost-back 0 0 (omega arith)) (pure-back noPlace)))
+unused-back instance i h =
+    let p : Place = unusedPlace i in
+    bind-back (atMost instance) _ (i ∷ []) (0 ∷ 0 ∷ []) i p (atMost-back instance i h)
+    (bind-back (atMost 0) _ (0 ∷ []) (0 ∷ []) 0 p (atMost-back 0 0 (omega arith)) (bind-back (atMost 0) _ (0 ∷ []) [] 0 p (atMost-back 0 0 (omega arith)) (pure-back p)))
 
-used-back : (b : Bool) (n : ℕ) (p : Place) → UsedFits b n p → Back (pick b (place n) unused) (placeWords p) p
-used-back true n p h = place-back n p h
-used-back false n p h = subst (λ (q : Place). Back unused (placeWords q) q) (sym h) unused-back
+used-back : (b : Bool) (n instance : ℕ) (p : Place) → UsedFits b n instance p → Back (pick b (place n) (unused instance)) (placeWords p) p
+used-back true n instance p h = place-back n p h
+used-back false n instance p h = subst (λ (q : Place). Back (unused instance) (placeWords q) q) (sym (h .1)) (unused-back instance (p .identifier) (h .0))
 
 places-back : (n most : ℕ) (l : List Place) → length l ≤ most → Every (PlaceFits n) l → Back (counted most (place n)) (section placeWords l) l
 places-back n most l k h = counted-back most (place n) placeWords l k (every-mem (PlaceFits n) _ l (λ p m f. place-back n p f) h)
@@ -162,7 +169,7 @@ extra-back m k x h = go (isCreateFunction k) h
 -- an effect after its kind
 abbrev afterKind : ℕ → ℕ → EffectKind → Read Effect
 afterKind n m k =
-    pick (leb 1 (rowOf k .places)) (place n) unused >>= λ (p : Place). pick (leb 2 (rowOf k .places)) (place n) unused >>= λ (q : Place). extra m k
+    pick (leb 1 (rowOf k .places)) (place n) (unused 0) >>= λ (p : Place). pick (leb 2 (rowOf k .places)) (place n) (unused (rowOf k .instance)) >>= λ (q : Place). extra m k
     >>= λ (x : ℕ). pure (record { kind = k; first = p; second = q; extra = x })
 
 effect-back : (n m : ℕ) (e : Effect) → EffectFits n m e → Back (effect n m) (effectWords e) e
@@ -172,8 +179,8 @@ effect-back n m e h =
     let rest : List ℕ = placeWords (e .first) ++ (placeWords (e .second) ++ (e .extra ∷ [])) in
     bind-back (atMost mostKind) (λ (w : ℕ). afterKind n m (kindOf w)) (rowOf k .number ∷ []) rest (rowOf k .number) e (atMost-back mostKind (rowOf k .number) (kind-few k))
     (subst (λ (j : EffectKind). Back (afterKind n m j) rest e) (sym (kind-back k))
-    (bind-back (pick (leb 1 (rowOf k .places)) (place n) unused) _ (placeWords (e .first)) (placeWords (e .second) ++ (e .extra ∷ [])) (e .first) e (used-back (leb 1 (rowOf k .places)) n (e .first) (h .0))
-    (bind-back (pick (leb 2 (rowOf k .places)) (place n) unused) _ (placeWords (e .second)) (e .extra ∷ []) (e .second) e (used-back (leb 2 (rowOf k .places)) n (e .second) (h .1))
+    (bind-back (pick (leb 1 (rowOf k .places)) (place n) (unused 0)) _ (placeWords (e .first)) (placeWords (e .second) ++ (e .extra ∷ [])) (e .first) e (used-back (leb 1 (rowOf k .places)) n 0 (e .first) (h .0))
+    (bind-back (pick (leb 2 (rowOf k .places)) (place n) (unused (rowOf k .instance))) _ (placeWords (e .second)) (e .extra ∷ []) (e .second) e (used-back (leb 2 (rowOf k .places)) n (rowOf k .instance) (e .second) (h .1))
     (bind-back (extra m k) _ (e .extra ∷ []) [] (e .extra) e (extra-back m k (e .extra) (h .2)) (pure-back e)))))
 
 effects-back : (n m : ℕ) (l : EffectList) → EffectsFit n m l → Back (effects n m) (effectsWords l) l

@@ -8,12 +8,12 @@ use lib.ListN.{length}
 use lib.Dec.{leb}
 use Rattle.model.specs.Limits.{mostIdentifiers, mostFunctions, mostParams, mostContext, returnsCount, mostBlocks, mostCount, mostOrder, mostTerminal, mostTraits, mostKind}
 use Rattle.model.specs.Lists.{pick, Every}
-use Rattle.model.specs.Sheet.{Identifier, InnerFunction, BlockId, Place, noPlace, EffectKind, Operand, Instruction, Other, Return, MaybeThrow}
+use Rattle.model.specs.Sheet.{Identifier, InnerFunction, BlockId, Place, unusedPlace, EffectKind, Operand, Instruction, Other, Return, MaybeThrow}
 use Rattle.model.specs.Effects.{kindOf, rowOf, isCreateFunction}
 use Rattle.model.specs.Reading.{word, count, fixed, atMost, below, numbered, counted}
 use Rattle.model.specs.Sections.{flags, identifier, innerFunction, place, unused, extra, effect, effects, operand, phi, instruction, terminalOf, terminal, block, sheet}
 use Rattle.model.specs.Ranges.{PlaceBelow, EffectBelow, PhiBelow, TerminalBelow, BlockBelow, SheetBelow}
-use Rattle.model.proofs.ReadLaws.{Reads, pure-reads, pick-reads, both-reads, bind-reads, then-reads, below-reads, numbered-reads, counted-reads, counted-length}
+use Rattle.model.proofs.ReadLaws.{Reads, pure-reads, pick-reads, both-reads, bind-reads, then-reads, atMost-reads, below-reads, numbered-reads, counted-reads, counted-length}
 
 pub place-reads : (n : ℕ) → Reads (place n) (PlaceBelow n)
 unfolding place
@@ -21,10 +21,11 @@ place-reads n =
     bind-reads (below n) _ (λ (i : ℕ). i < n) (PlaceBelow n) (below-reads n)
     (λ i h. then-reads (atMost mostTraits) _ (PlaceBelow n) (λ t. then-reads word _ (PlaceBelow n) (λ s. pure-reads _ (PlaceBelow n) h)))
 
-unused-reads : (n : ℕ) → 0 < n → Reads unused (PlaceBelow n)
+unused-reads : (n : ℕ) → 0 < n → Reads (unused 0) (PlaceBelow n)
 unfolding unused
 unused-reads n h =
-    then-reads (atMost 0) _ (PlaceBelow n) (λ i. then-reads (atMost 0) _ (PlaceBelow n) (λ t. then-reads (atMost 0) _ (PlaceBelow n) (λ s. pure-reads noPlace (PlaceBelow n) h)))
+    bind-reads (atMost 0) _ (λ (i : ℕ). i ≤ 0) (PlaceBelow n) (atMost-reads 0)
+    (λ i none. then-reads (atMost 0) _ (PlaceBelow n) (λ t. then-reads (atMost 0) _ (PlaceBelow n) (λ s. pure-reads (unusedPlace i) (PlaceBelow n) (omega (arith, none, h)))))
 
 extra-reads : (m : ℕ) (k : EffectKind) → Reads (extra m k) (λ (x : ℕ). isCreateFunction k ≡ true → x < m)
 unfolding extra
@@ -32,15 +33,21 @@ extra-reads m k =
     pick-reads (isCreateFunction k) (below m) (atMost (rowOf k .extra)) (λ (x : ℕ). isCreateFunction k ≡ true → x < m)
     (λ h ws c a d e t. below-reads m ws c a d e) (λ h ws c a d e t. absurd (true≢false (sym t ∙ h)))
 
-usedOr-reads : (n : ℕ) → 0 < n → (b : Bool) → Reads (pick b (place n) unused) (PlaceBelow n)
-usedOr-reads n h b = pick-reads b (place n) unused (PlaceBelow n) (λ e. place-reads n) (λ e. unused-reads n h)
+first-reads : (n : ℕ) → 0 < n → (b : Bool) → Reads (pick b (place n) (unused 0)) (PlaceBelow n)
+first-reads n h b = pick-reads b (place n) (unused 0) (PlaceBelow n) (λ e. place-reads n) (λ e. unused-reads n h)
+
+second-reads : (n instance : ℕ) (b : Bool) → Reads (pick b (place n) (unused instance)) (λ (q : Place). b ≡ true → PlaceBelow n q)
+second-reads n instance b =
+    pick-reads b (place n) (unused instance) (λ (q : Place). b ≡ true → PlaceBelow n q)
+    (λ h ws c a d e t. place-reads n ws c a d e) (λ h ws c a d e t. absurd (true≢false (sym t ∙ h)))
 
 pub effect-reads : (n m : ℕ) → 0 < n → Reads (effect n m) (EffectBelow n m)
 unfolding effect
 effect-reads n m h =
     then-reads (atMost mostKind) _ (EffectBelow n m)
-    (λ w. bind-reads (pick (leb 1 (rowOf (kindOf w) .places)) (place n) unused) _ (PlaceBelow n) (EffectBelow n m) (usedOr-reads n h (leb 1 (rowOf (kindOf w) .places)))
-    (λ p hp. bind-reads (pick (leb 2 (rowOf (kindOf w) .places)) (place n) unused) _ (PlaceBelow n) (EffectBelow n m) (usedOr-reads n h (leb 2 (rowOf (kindOf w) .places)))
+    (λ w. bind-reads (pick (leb 1 (rowOf (kindOf w) .places)) (place n) (unused 0)) _ (PlaceBelow n) (EffectBelow n m) (first-reads n h (leb 1 (rowOf (kindOf w) .places)))
+    (λ p hp. bind-reads (pick (leb 2 (rowOf (kindOf w) .places)) (place n) (unused (rowOf (kindOf w) .instance))) _ (λ (q : Place). leb 2 (rowOf (kindOf w) .places) ≡ true → PlaceBelow n q) (EffectBelow n m)
+    (second-reads n (rowOf (kindOf w) .instance) (leb 2 (rowOf (kindOf w) .places)))
     (λ q hq. bind-reads (extra m (kindOf w)) _ (λ (x : ℕ). isCreateFunction (kindOf w) ≡ true → x < m) (EffectBelow n m) (extra-reads m (kindOf w))
     (λ x hx. pure-reads _ (EffectBelow n m) (hp, hq, hx)))))
 

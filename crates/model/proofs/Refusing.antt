@@ -108,10 +108,14 @@ module _ (P : ℕ → Type 0) where
         bind-refuses (atMost mostRange) _ (atMost-refuses mostRange)
         (λ s. bind-refuses (atMost mostRange) _ (atMost-refuses mostRange) (λ e. bind-refuses (atMost mostType) _ (atMost-refuses mostType) (λ t. pure-refuses _)))
 
+    diagnostic-refuses : Refuses P diagnostic
+    unfolding diagnostic
+    diagnostic-refuses = bind-refuses (atMost mostDiagnostic) _ (atMost-refuses mostDiagnostic) (λ i. bind-refuses (atMost mostDiagnostic) _ (atMost-refuses mostDiagnostic) (λ k. pure-refuses _))
+
     innerFunction-refuses : Refuses P innerFunction
-    unfolding innerFunction diagnostic
+    unfolding innerFunction
     innerFunction-refuses =
-        bind-refuses (counted mostInnerDiagnostics diagnostic) _ (counted-refuses mostInnerDiagnostics diagnostic (atMost-refuses mostDiagnostic)) (λ l. pure-refuses _)
+        bind-refuses (counted mostInnerDiagnostics diagnostic) _ (counted-refuses mostInnerDiagnostics diagnostic diagnostic-refuses) (λ l. pure-refuses _)
 
     place-refuses : (n : ℕ) → Refuses P (place n)
     unfolding place
@@ -119,13 +123,13 @@ module _ (P : ℕ → Type 0) where
         bind-refuses (below n) _ (below-refuses n)
         (λ i. bind-refuses (atMost mostTraits) _ (atMost-refuses mostTraits) (λ t. bind-refuses word _ word-refuses (λ s. pure-refuses _)))
 
-    unused-refuses : Refuses P unused
+    unused-refuses : (instance : ℕ) → Refuses P (unused instance)
     unfolding unused
-    unused-refuses =
-        bind-refuses (atMost 0) _ (atMost-refuses 0) (λ i. bind-refuses (atMost 0) _ (atMost-refuses 0) (λ t. bind-refuses (atMost 0) _ (atMost-refuses 0) (λ s. pure-refuses _)))
+    unused-refuses instance =
+        bind-refuses (atMost instance) _ (atMost-refuses instance) (λ i. bind-refuses (atMost 0) _ (atMost-refuses 0) (λ t. bind-refuses (atMost 0) _ (atMost-refuses 0) (λ s. pure-refuses _)))
 
-    usedOr-refuses : (n : ℕ) (b : Bool) → Refuses P (pick b (place n) unused)
-    usedOr-refuses n b = pick-refuses b (place n) unused (place-refuses n) unused-refuses
+    usedOr-refuses : (n instance : ℕ) (b : Bool) → Refuses P (pick b (place n) (unused instance))
+    usedOr-refuses n instance b = pick-refuses b (place n) (unused instance) (place-refuses n) (unused-refuses instance)
 
     extra-refuses : (m : ℕ) (k : EffectKind) → Refuses P (extra m k)
     unfolding extra
@@ -136,8 +140,8 @@ module _ (P : ℕ → Type 0) where
     effects-refuses n m =
         counted-refuses mostCount (effect n m)
         (bind-refuses (atMost mostKind) _ (atMost-refuses mostKind)
-        (λ w. bind-refuses (pick (leb 1 (rowOf (kindOf w) .places)) (place n) unused) _ (usedOr-refuses n (leb 1 (rowOf (kindOf w) .places)))
-        (λ p. bind-refuses (pick (leb 2 (rowOf (kindOf w) .places)) (place n) unused) _ (usedOr-refuses n (leb 2 (rowOf (kindOf w) .places)))
+        (λ w. bind-refuses (pick (leb 1 (rowOf (kindOf w) .places)) (place n) (unused 0)) _ (usedOr-refuses n 0 (leb 1 (rowOf (kindOf w) .places)))
+        (λ p. bind-refuses (pick (leb 2 (rowOf (kindOf w) .places)) (place n) (unused (rowOf (kindOf w) .instance))) _ (usedOr-refuses n (rowOf (kindOf w) .instance) (leb 2 (rowOf (kindOf w) .places)))
         (λ q. bind-refuses (extra m (kindOf w)) _ (extra-refuses m (kindOf w)) (λ x. pure-refuses _)))))
 
     phi-refuses : (n : ℕ) → Refuses P (phi n)

@@ -65,9 +65,9 @@ rangeWords r = r .start ∷ r .end ∷ []
 abbrev pub placeWords : Place → List ℕ
 placeWords p = p .identifier ∷ traitsWord (p .effect) (p .reactive) ∷ p .span ∷ []
 
--- "diagnostics"
+-- "identity first"
 abbrev pub diagnosticWords : Diagnostic → List ℕ
-diagnosticWords d = d ∷ []
+diagnosticWords d = d .identity ∷ d .instance ∷ []
 
 -- "effects (eight words each)"
 abbrev pub effectWords : Effect → List ℕ

@@ -32,9 +32,9 @@ wordLimit before most = ends before most 3 ∷ ends before (suc most) 5 ∷ []
 abbrev pub placeLimits : List ℕ → List Call
 placeLimits before = wordLimit before 2 ++ (wordLimit (before ++ (0 ∷ [])) 15 ++ (ends (before ++ (0 ∷ 0 ∷ [])) 4294967295 3 ∷ []))
 
--- "unused places are 0"
-abbrev pub unusedPlace : List ℕ → List Call
-unusedPlace before = wordLimit before 0 ++ (wordLimit (before ++ (0 ∷ [])) 0 ++ wordLimit (before ++ (0 ∷ 0 ∷ [])) 0)
+-- "unused places are 0", but for an instance as the first word
+abbrev pub unusedPlace : ℕ → List ℕ → List Call
+unusedPlace instance before = wordLimit before instance ++ (wordLimit (before ++ (0 ∷ [])) 0 ++ wordLimit (before ++ (0 ∷ 0 ∷ [])) 0)
 
 -- a sheet's flags, its three identifiers, and the words after them
 abbrev pub afterIdentifiers : List ℕ → List ℕ
@@ -57,10 +57,11 @@ limits =
     ∷ wordLimit (flags 0 0 ++ (1 ∷ [])) 1000000
     ∷ wordLimit (flags 0 0 ++ (1 ∷ 0 ∷ [])) 1000000
     ∷ wordLimit (flags 0 0 ++ (1 ∷ 0 ∷ 0 ∷ [])) 2
-    -- "Inner functions, at most 64: a count (at most 64), then that many diagnostic numbers, at most 65,535"
+    -- "Inner functions, at most 64: a count (at most 64)", then that many pairs of identity and instance, "each at most 65,535"
     ∷ countLimit (afterIdentifiers []) 64
     ∷ countLimit (afterIdentifiers (1 ∷ [])) 64
     ∷ wordLimit (afterIdentifiers (1 ∷ 1 ∷ [])) 65535
+    ∷ wordLimit (afterIdentifiers (1 ∷ 1 ∷ 0 ∷ [])) 65535
     -- "Parameters, then context, at most 64 each: places"
     ∷ countLimit (afterIdentifiers (0 ∷ [])) 64
     ∷ placeLimits (afterIdentifiers (0 ∷ 1 ∷ []))
@@ -91,44 +92,45 @@ limits =
     ∷ countLimit (inBlock 0 (0 ∷ 0 ∷ 2 ∷ 0 ∷ [])) 1024
     ∷ [])
 
--- a row of the document's table of effect kinds: the kind, its places, its largest extra word
+-- a row of the document's table of effect kinds: the kind, its places, its largest instance (0 where it has none), its largest extra word
 pub record EffectRow : Type 0 where
   pub kind : ℕ
   pub places : ℕ
+  pub instance : ℕ
   pub extra : ℕ
 
--- a row by its three numbers
-abbrev effectRow : ℕ → ℕ → ℕ → EffectRow
-effectRow k p x = record { kind = k; places = p; extra = x }
+-- a row by its four numbers
+abbrev effectRow : ℕ → ℕ → ℕ → ℕ → EffectRow
+effectRow k p i x = record { kind = k; places = p; instance = i; extra = x }
 
 -- "This table gives places and largest extra word by effect kind"
 abbrev pub effectRows : List EffectRow
 effectRows =
-    effectRow 0 1 11
-    ∷ effectRow 1 1 1
-    ∷ effectRow 2 1 0
-    ∷ effectRow 3 1 0
-    ∷ effectRow 4 1 0
-    ∷ effectRow 5 2 0
-    ∷ effectRow 6 2 0
-    ∷ effectRow 7 2 0
-    ∷ effectRow 8 2 0
-    ∷ effectRow 9 1 71
-    ∷ effectRow 10 2 0
-    ∷ effectRow 11 2 0
-    ∷ effectRow 12 0 0
-    ∷ effectRow 13 1 63
-    ∷ effectRow 14 1 65535
-    ∷ effectRow 15 1 65535
-    ∷ effectRow 16 1 65535
-    ∷ effectRow 17 1 0
+    effectRow 0 1 0 11
+    ∷ effectRow 1 1 0 1
+    ∷ effectRow 2 1 0 0
+    ∷ effectRow 3 1 0 0
+    ∷ effectRow 4 1 0 0
+    ∷ effectRow 5 2 0 0
+    ∷ effectRow 6 2 0 0
+    ∷ effectRow 7 2 0 0
+    ∷ effectRow 8 2 0 0
+    ∷ effectRow 9 1 0 71
+    ∷ effectRow 10 2 0 0
+    ∷ effectRow 11 2 0 0
+    ∷ effectRow 12 0 0 0
+    ∷ effectRow 13 1 0 63
+    ∷ effectRow 14 1 65535 65535
+    ∷ effectRow 15 1 65535 65535
+    ∷ effectRow 16 1 65535 65535
+    ∷ effectRow 17 1 0 0
     ∷ []
 
 -- the limits of an effect's words after its kind, in a sheet with m inner functions
 abbrev pub effectLimits : ℕ → EffectRow → List Call
 effectLimits m r =
-    pick (leb 1 (r .places)) placeLimits unusedPlace (before [])
-    ++ (pick (leb 2 (r .places)) placeLimits unusedPlace (before (place 0))
+    pick (leb 1 (r .places)) placeLimits (unusedPlace 0) (before [])
+    ++ (pick (leb 2 (r .places)) placeLimits (unusedPlace (r .instance)) (before (place 0))
     ++ wordLimit (before (place 0 ++ place 0)) (r .extra))
   where
     before : List ℕ → List ℕ
@@ -140,7 +142,7 @@ functionsFor kind = pick (eqb kind 13) 64 0
 
 -- the table as calls; and "inner function, below their count" where that is 1
 unfoldable pub effectTable : List Call
-effectTable = gather (λ (r : EffectRow). effectLimits (functionsFor (r .kind)) r) effectRows ++ effectLimits 1 (effectRow 13 1 0)
+effectTable = gather (λ (r : EffectRow). effectLimits (functionsFor (r .kind)) r) effectRows ++ effectLimits 1 (effectRow 13 1 0 0)
 
 -- the definition's rows have the document's numbers
 abbrev pub sameRows : List EffectRow → Bool
@@ -148,7 +150,7 @@ sameRows [] = true
 sameRows (r ∷ l) = sameRow (rowOf (kindOf (r .kind))) && sameRows l
   where
     sameRow : Row → Bool
-    sameRow d = eqb (d .number) (r .kind) && (eqb (d .places) (r .places) && eqb (d .extra) (r .extra))
+    sameRow d = eqb (d .number) (r .kind) && (eqb (d .places) (r .places) && (eqb (d .instance) (r .instance) && eqb (d .extra) (r .extra)))
 
 -- three totals
 abbrev pub three : ℕ → ℕ → ℕ → Totals

@@ -7,7 +7,7 @@ use lib.ListN.{length}
 use lib.Dec.{leb}
 use Rattle.model.specs.Limits.{flagCount, mostIdentifiers, mostRange, mostFunctions, mostInnerDiagnostics, mostDiagnostic, mostParams, mostContext, returnsCount, mostBlocks, mostBlockNumber, mostCount, mostOrder}
 use Rattle.model.specs.Lists.{Every, oneIf}
-use Rattle.model.specs.Sheet.{Flags, IdentifierType, other, primitive, jsx, Identifier, Diagnostic, InnerFunction, Place, noPlace, Effect, Operand, Phi, EffectList, Instruction, Terminal, Other, Return, MaybeThrow, Block, Sheet}
+use Rattle.model.specs.Sheet.{Flags, IdentifierType, other, primitive, jsx, Identifier, Diagnostic, InnerFunction, Place, unusedPlace, Effect, Operand, Phi, EffectList, Instruction, Terminal, Other, Return, MaybeThrow, Block, Sheet}
 use Rattle.model.specs.Traits.{reactiveTraits}
 use Rattle.model.specs.Effects.{rowOf, isCreateFunction}
 use Rattle.model.specs.Answer.{placeWords, diagnosticWords, effectWords, section}
@@ -28,7 +28,7 @@ typeWord jsx = 2
 abbrev pub identifierWords : Identifier → List ℕ
 identifierWords i = i .start ∷ i .end ∷ typeWord (i .type) ∷ []
 
--- "a count, then that many diagnostic numbers"
+-- "a count, then that many pairs"
 abbrev pub functionWords : InnerFunction → List ℕ
 functionWords f = section diagnosticWords (f .diagnostics)
 
@@ -78,18 +78,22 @@ sheetWords s =
 abbrev pub IdentifierFits : Identifier → Type 0
 IdentifierFits i = (i .start ≤ mostRange) × (i .end ≤ mostRange)
 
--- "a count (at most 64), then that many diagnostic numbers, at most 65,535"
+-- identity and instance, "each at most 65,535"
+abbrev pub DiagnosticFits : Diagnostic → Type 0
+DiagnosticFits d = (d .identity ≤ mostDiagnostic) × (d .instance ≤ mostDiagnostic)
+
+-- "a count (at most 64), then that many pairs"
 abbrev pub FunctionFits : InnerFunction → Type 0
-FunctionFits f = (length (f .diagnostics) ≤ mostInnerDiagnostics) × Every (λ (d : Diagnostic). d ≤ mostDiagnostic) (f .diagnostics)
+FunctionFits f = (length (f .diagnostics) ≤ mostInnerDiagnostics) × Every DiagnosticFits (f .diagnostics)
 
 -- "identifier (below N); traits, the effect's position in `Effect`"
 abbrev pub PlaceFits : ℕ → Place → Type 0
 PlaceFits n p = (p .identifier < n) × (p .effect < reactiveTraits)
 
--- a place if the kind uses it, else "unused places are 0"
-abbrev pub UsedFits : Bool → ℕ → Place → Type 0
-UsedFits true n p = PlaceFits n p
-UsedFits false n p = p ≡ noPlace
+-- a place if the kind uses it, else "unused places are 0", but for an instance as the first word
+abbrev pub UsedFits : Bool → ℕ → ℕ → Place → Type 0
+UsedFits true n instance p = PlaceFits n p
+UsedFits false n instance p = (p .identifier ≤ instance) × (p ≡ unusedPlace (p .identifier))
 
 -- for CreateFunction an inner function below their count, else at most what the table says
 abbrev pub ExtraFits : Bool → ℕ → ℕ → ℕ → Type 0
@@ -99,8 +103,8 @@ ExtraFits false m most x = x ≤ most
 -- n identifiers, m inner functions
 abbrev pub EffectFits : ℕ → ℕ → Effect → Type 0
 EffectFits n m e =
-    UsedFits (leb 1 (rowOf (e .kind) .places)) n (e .first)
-    × UsedFits (leb 2 (rowOf (e .kind) .places)) n (e .second)
+    UsedFits (leb 1 (rowOf (e .kind) .places)) n 0 (e .first)
+    × UsedFits (leb 2 (rowOf (e .kind) .places)) n (rowOf (e .kind) .instance) (e .second)
     × ExtraFits (isCreateFunction (e .kind)) m (rowOf (e .kind) .extra) (e .extra)
 
 -- "Counts without a limit of their own are at most 1,024"

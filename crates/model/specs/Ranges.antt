@@ -3,10 +3,11 @@ use Prim.Native.Nat.{ℕ, _<_, _≤_}
 use mathlib.Core.Path.{_≡_}
 use mathlib.Core.Bool.{true}
 use lib.ListN.{length}
+use lib.Dec.{leb}
 use Rattle.model.specs.Limits.{mostIdentifiers, mostFunctions, mostParams, mostContext}
 use Rattle.model.specs.Lists.{Every}
 use Rattle.model.specs.Sheet.{Place, Effect, Operand, Phi, Instruction, Terminal, Other, Return, MaybeThrow, Block, Sheet}
-use Rattle.model.specs.Effects.{isCreateFunction}
+use Rattle.model.specs.Effects.{rowOf, isCreateFunction}
 
 -- "identifier (below N)"
 abbrev pub PlaceBelow : ℕ → Place → Type 0
@@ -14,7 +15,10 @@ PlaceBelow n p = p .identifier < n
 
 -- "(inner function, below their count)"
 abbrev pub EffectBelow : ℕ → ℕ → Effect → Type 0
-EffectBelow n m e = PlaceBelow n (e .first) × PlaceBelow n (e .second) × (isCreateFunction (e .kind) ≡ true → e .extra < m)
+EffectBelow n m e =
+    PlaceBelow n (e .first)
+    × (leb 2 (rowOf (e .kind) .places) ≡ true → PlaceBelow n (e .second))
+    × (isCreateFunction (e .kind) ≡ true → e .extra < m)
 
 -- a phi and its operands
 abbrev pub PhiBelow : ℕ → Phi → Type 0

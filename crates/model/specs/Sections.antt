@@ -6,7 +6,7 @@ use lib.ListN.{length, getD}
 use lib.Dec.{leb, eqb}
 use Rattle.model.specs.Limits.{flagCount, mostFlag, mostIdentifiers, mostRange, mostType, mostFunctions, mostInnerDiagnostics, mostDiagnostic, mostParams, mostContext, returnsCount, mostBlocks, mostCount, mostOrder, mostTerminal, mostTraits, mostKind}
 use Rattle.model.specs.Lists.{pick}
-use Rattle.model.specs.Sheet.{Flags, IdentifierType, other, primitive, jsx, Identifier, Diagnostic, InnerFunction, Place, noPlace, EffectKind, Effect, Operand, Phi, EffectList, Instruction, Terminal, Other, Return, MaybeThrow, Block, BlockId, Sheet}
+use Rattle.model.specs.Sheet.{Flags, IdentifierType, other, primitive, jsx, Identifier, Diagnostic, InnerFunction, Place, unusedPlace, EffectKind, Effect, Operand, Phi, EffectList, Instruction, Terminal, Other, Return, MaybeThrow, Block, BlockId, Sheet}
 use Rattle.model.specs.Traits.{effectOf, reactiveOf}
 use Rattle.model.specs.Effects.{kindOf, rowOf, isCreateFunction}
 use Rattle.model.specs.Reading.{Read, _>>=_, pure, word, count, fixed, atMost, below, numbered, counted}
@@ -37,11 +37,14 @@ identifier = do
   t ← atMost mostType
   pure (record { start = s; end = e; type = typeOf t })
 
--- "diagnostic numbers, at most 65,535"
+-- "pairs, identity first", "each at most 65,535"
 unfoldable pub diagnostic : Read Diagnostic
-diagnostic = atMost mostDiagnostic
+diagnostic = do
+  i ← atMost mostDiagnostic
+  k ← atMost mostDiagnostic
+  pure (record { identity = i; instance = k })
 
--- "a count (at most 64), then that many diagnostic numbers"
+-- "a count (at most 64)", then that many pairs
 unfoldable pub innerFunction : Read InnerFunction
 innerFunction = do
   l ← counted mostInnerDiagnostics diagnostic
@@ -66,13 +69,13 @@ placeAsking ask n = do
 unfoldable pub place : ℕ → Read Place
 place n = placeAsking noQuestion n
 
--- "unused places are 0"
-unfoldable pub unused : Read Place
-unused = do
-  i ← atMost 0
+-- "unused places are 0", but for an instance as the first word
+unfoldable pub unused : ℕ → Read Place
+unused instance = do
+  i ← atMost instance
   t ← atMost 0
   s ← atMost 0
-  pure noPlace
+  pure (unusedPlace i)
 
 -- the extra word: for CreateFunction an inner function "below their count", else "at most" what the table says
 unfoldable pub extra : ℕ → EffectKind → Read ℕ
@@ -83,8 +86,8 @@ abbrev pub effectAsking : (EffectKind → Read (Unit {0})) → ℕ → ℕ → R
 effectAsking ask n m = do
   w ← atMost mostKind
   u ← ask (kindOf w)
-  p ← pick (leb 1 (rowOf (kindOf w) .places)) (place n) unused
-  q ← pick (leb 2 (rowOf (kindOf w) .places)) (place n) unused
+  p ← pick (leb 1 (rowOf (kindOf w) .places)) (place n) (unused 0)
+  q ← pick (leb 2 (rowOf (kindOf w) .places)) (place n) (unused (rowOf (kindOf w) .instance))
   x ← extra m (kindOf w)
   pure (record { kind = kindOf w; first = p; second = q; extra = x })
 

@@ -35,11 +35,12 @@ pub record Identifier : Type 0 where
   pub end : EvaluationOrder
   pub type : IdentifierType
 
--- a diagnostic: its number
-abbrev pub Diagnostic : Type 0
-Diagnostic = ℕ
+-- "`AliasingDiagnostic` has an identity and an instance"
+pub record Diagnostic : Type 0 where
+  pub identity : ℕ
+  pub instance : ℕ
 
--- "Inner functions: a count, then that many diagnostic numbers"
+-- "Inner function lists hold and count pairs"
 pub record InnerFunction : Type 0 where
   pub diagnostics : List Diagnostic
 
@@ -54,9 +55,13 @@ pub record Place : Type 0 where
   pub reactive : Bool
   pub span : ℕ
 
+-- a place that is not used: its first word, for kinds 14 to 16 the instance
+abbrev pub unusedPlace : ℕ → Place
+unusedPlace i = record { identifier = i; effect = 0; reactive = false; span = 0 }
+
 -- "unused places are 0"
 abbrev pub noPlace : Place
-noPlace = record { identifier = 0; effect = 0; reactive = false; span = 0 }
+noPlace = unusedPlace 0
 
 -- "Kind is the position in `AliasingEffect`, Freeze 0 to Render 17": the Rust's names, in its order
 pub data EffectKind : Type 0 where

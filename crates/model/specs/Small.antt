@@ -37,6 +37,10 @@ one k x = effect k (place x) (place 0) 0
 abbrev pub two : ℕ → ℕ → ℕ → List ℕ
 two k x y = effect k (place x) (place y) 0
 
+-- an effect of kind 14 to 16 on x, by its diagnostic's identity and instance
+abbrev pub diagnosis : ℕ → ℕ → ℕ → ℕ → List ℕ
+diagnosis k x identity instance = effect k (place x) (place instance) identity
+
 -- an operand of a phi: its predecessor and its place
 abbrev pub operand : ℕ → ℕ → List ℕ
 operand b x = b ∷ place x
@@ -81,16 +85,20 @@ identifiers n = n ∷ replicate (3 * n) 0
 abbrev pub identifier : ℕ → ℕ → ℕ → List ℕ
 identifier start end type = start ∷ end ∷ type ∷ []
 
+-- a diagnostic by its identity and its instance
+abbrev pub pair : ℕ → ℕ → List ℕ
+pair identity instance = identity ∷ instance ∷ []
+
 -- inner functions, each by its diagnostics
-abbrev pub functions : List (List ℕ) → List ℕ
-functions ds = several (map (λ (l : List ℕ). length l ∷ l) ds)
+abbrev pub functions : List (List (List ℕ)) → List ℕ
+functions ds = several (map several ds)
 
 -- flags, identifiers, inner functions, parameters, context, returns, then the blocks
-abbrev pub wholeOf : List ℕ → List ℕ → List (List ℕ) → List (List ℕ) → List (List ℕ) → List ℕ → List (List ℕ) → List ℕ
+abbrev pub wholeOf : List ℕ → List ℕ → List (List (List ℕ)) → List (List ℕ) → List (List ℕ) → List ℕ → List (List ℕ) → List ℕ
 wholeOf fs ids ds ps cs r bs = joined (fs ∷ ids ∷ functions ds ∷ several ps ∷ several cs ∷ several (r ∷ []) ∷ several bs ∷ [])
 
 -- the same with n identifiers of zeros, and places with no traits and no span
-abbrev pub whole : List ℕ → ℕ → List (List ℕ) → List ℕ → List ℕ → ℕ → List (List ℕ) → List ℕ
+abbrev pub whole : List ℕ → ℕ → List (List (List ℕ)) → List ℕ → List ℕ → ℕ → List (List ℕ) → List ℕ
 whole fs n ds ps cs r bs = wholeOf fs (identifiers n) ds (map place ps) (map place cs) (place r) bs
 
 -- the same with flags 0 and 1, no inner function and no context
@@ -102,8 +110,8 @@ abbrev pub range : ℕ → ℕ → List ℕ
 range start end = start ∷ end ∷ []
 
 -- an answer: ranges, params, context, diagnostics, effects, walks
-abbrev pub answered : List (List ℕ) → List (List ℕ) → List (List ℕ) → List ℕ → List (List ℕ) → List ℕ → List ℕ
-answered rs ps cs ds es ws = joined (several rs ∷ several ps ∷ several cs ∷ (length ds ∷ ds) ∷ several es ∷ (length ws ∷ ws) ∷ [])
+abbrev pub answered : List (List ℕ) → List (List ℕ) → List (List ℕ) → List (List ℕ) → List (List ℕ) → List ℕ → List ℕ
+answered rs ps cs ds es ws = joined (several rs ∷ several ps ∷ several cs ∷ several ds ∷ several es ∷ (length ws ∷ ws) ∷ [])
 
 -- a row of a table
 abbrev pub case : List ℕ → Claim → Case

@@ -71,7 +71,7 @@ fn print_answer(answer: &[u32]) {
     let a1 = print_section(b"ranges", answer, 0, 2);
     let a2 = print_section(b"params", answer, a1, 3);
     let a3 = print_section(b"context", answer, a2, 3);
-    let a4 = print_section(b"diagnostics", answer, a3, 1);
+    let a4 = print_section(b"diagnostics", answer, a3, 2);
     let a5 = print_section(b"effects", answer, a4, 8);
     print_section(b"walks", answer, a5, 1);
 }

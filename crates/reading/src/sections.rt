@@ -9,10 +9,10 @@ ghost use Rattle.reading.specs.Whole.{lengthOf, skip};
 ghost use Rattle.reading.specs.Says.{cursorSays};
 use crate::CursorStep;
 use hir::Cursor;
+use hir::DiagnosticStep;
 use hir::IdentifierStep;
 use hir::PlaceStep;
 use hir::WordStep;
-use hir::limits::MOST_DIAGNOSTIC;
 use hir::limits::MOST_FUNCTIONS;
 use hir::limits::MOST_IDENTIFIERS;
 use hir::limits::MOST_INNER_DIAGNOSTICS;
@@ -47,7 +47,7 @@ pub fn identifiers(start: Cursor, s: &[u32]) -> WordStep
     WordStep::Got(count, c)
 }
 
-// A count and that many diagnostic numbers.
+// A count and that many diagnostics.
 pub fn inner_function(start: Cursor, s: &[u32]) -> CursorStep
     ensures { λ r. ⌜ cursorSays r ≡ telling innerFunction skip tt (now (s .entry)) (start .at) ⌝ }
 {
@@ -63,11 +63,11 @@ pub fn inner_function(start: Cursor, s: &[u32]) -> CursorStep
         }
     }
     while 0 < left {
-        match c.at_most(s, MOST_DIAGNOSTIC) {
-            WordStep::Got(_, d2) => {
+        match c.diagnostic(s) {
+            DiagnosticStep::Got(_, d2) => {
                 c = d2;
             }
-            WordStep::Refused(k2) => {
+            DiagnosticStep::Refused(k2) => {
                 return CursorStep::Refused(k2);
             }
         }

@@ -1,6 +1,6 @@
 //! Building: the nodes, what is stored in them, the mutations and the renders.
 
-use super::sheet::{Effect, Place, Sheet, Terminal};
+use super::sheet::{Diagnostic, Effect, Place, Sheet, Terminal};
 
 #[derive(Debug, Clone, Copy, PartialEq, Eq)]
 pub enum Value {
@@ -115,7 +115,7 @@ pub struct Built {
     pub mutations: Vec<Mutation>,
     pub renders: Vec<Render>,
     pub next_index: u32,
-    pub diagnostics: Vec<u32>,
+    pub diagnostics: Vec<Diagnostic>,
     pub effects: Vec<Effect>,
 }
 
@@ -206,7 +206,7 @@ impl Built {
             13 => self.create(first, Value::Function(effect.extra)),
             14..=16 => {
                 if errors {
-                    self.diagnostics.push(effect.extra);
+                    self.diagnostics.push(Diagnostic { identity: effect.extra, instance: second });
                 }
                 self.effects.push(*effect);
             }

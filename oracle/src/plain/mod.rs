@@ -6,7 +6,9 @@ pub mod sheet;
 pub mod walks;
 
 use building::{Kind, Mutation, Node, build, records_errors};
-use sheet::{Effect, Place, Sheet, WORKSPACE_WORDS, put_effect, put_place};
+use sheet::{
+    Diagnostic, Effect, Place, Sheet, WORKSPACE_WORDS, put_diagnostic, put_effect, put_place,
+};
 use walks::{render, trace, walk};
 
 pub use sheet::read;
@@ -23,7 +25,7 @@ pub struct Answer {
     pub ranges: Vec<(u32, u32)>,
     pub params: Vec<Place>,
     pub context: Vec<Place>,
-    pub diagnostics: Vec<u32>,
+    pub diagnostics: Vec<Diagnostic>,
     pub effects: Vec<Effect>,
     pub walks: Vec<u32>,
 }
@@ -37,13 +39,15 @@ impl Answer {
             words
         };
         let ranges = self.ranges.iter().flat_map(|r| [r.0, r.1]).collect();
+        let mut diagnostics = Vec::new();
+        self.diagnostics.iter().for_each(|d| put_diagnostic(&mut diagnostics, d));
         let mut effects = Vec::new();
         self.effects.iter().for_each(|e| put_effect(&mut effects, e));
         [
             ("ranges", self.ranges.len(), ranges),
             ("params", self.params.len(), places(&self.params)),
             ("context", self.context.len(), places(&self.context)),
-            ("diagnostics", self.diagnostics.len(), self.diagnostics.clone()),
+            ("diagnostics", self.diagnostics.len(), diagnostics),
             ("effects", self.effects.len(), effects),
             ("walks", self.walks.len(), self.walks.clone()),
         ]

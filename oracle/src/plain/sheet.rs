@@ -23,27 +23,33 @@ pub const MAX_RELATIONS: usize = 1_024;
 pub const MAX_MUTATIONS: usize = 512;
 pub const MAX_RENDERS: usize = 256;
 
-/// Places and largest extra word, by effect kind.
-pub const EFFECTS: [(u32, u32); 18] = [
-    (1, 11),     // 0 Freeze
-    (1, 1),      // 1 Mutate
-    (1, 0),      // 2 MutateConditionally
-    (1, 0),      // 3 MutateTransitive
-    (1, 0),      // 4 MutateTransitiveConditionally
-    (2, 0),      // 5 Capture
-    (2, 0),      // 6 Alias
-    (2, 0),      // 7 MaybeAlias
-    (2, 0),      // 8 Assign
-    (1, 71),     // 9 Create
-    (2, 0),      // 10 CreateFrom
-    (2, 0),      // 11 ImmutableCapture
-    (0, 0),      // 12 Apply
-    (1, 63),     // 13 CreateFunction, and below the count of inner functions
-    (1, 65_535), // 14 MutateFrozen
-    (1, 65_535), // 15 MutateGlobal
-    (1, 65_535), // 16 Impure
-    (1, 0),      // 17 Render
+/// Places, largest first word of an unused second place, and largest extra word, by effect kind.
+pub const EFFECTS: [(u32, u32, u32); 18] = [
+    (1, 0, 11),          // 0 Freeze
+    (1, 0, 1),           // 1 Mutate
+    (1, 0, 0),           // 2 MutateConditionally
+    (1, 0, 0),           // 3 MutateTransitive
+    (1, 0, 0),           // 4 MutateTransitiveConditionally
+    (2, 0, 0),           // 5 Capture
+    (2, 0, 0),           // 6 Alias
+    (2, 0, 0),           // 7 MaybeAlias
+    (2, 0, 0),           // 8 Assign
+    (1, 0, 71),          // 9 Create
+    (2, 0, 0),           // 10 CreateFrom
+    (2, 0, 0),           // 11 ImmutableCapture
+    (0, 0, 0),           // 12 Apply
+    (1, 0, 63),          // 13 CreateFunction, and below the count of inner functions
+    (1, 65_535, 65_535), // 14 MutateFrozen: instance, identity
+    (1, 65_535, 65_535), // 15 MutateGlobal
+    (1, 65_535, 65_535), // 16 Impure
+    (1, 0, 0),           // 17 Render
 ];
+
+#[derive(Debug, Clone, Copy, PartialEq, Eq, Default)]
+pub struct Diagnostic {
+    pub identity: u32,
+    pub instance: u32,
+}
 
 #[derive(Debug, Clone, Copy, PartialEq, Eq, Default)]
 pub struct Place {
@@ -100,8 +106,8 @@ pub struct Sheet {
     pub function_expression: bool,
     pub validations: bool,
     pub identifiers: Vec<Identifier>,
-    /// Diagnostic numbers of each inner function.
-    pub functions: Vec<Vec<u32>>,
+    /// Diagnostics of each inner function.
+    pub functions: Vec<Vec<Diagnostic>>,
     pub params: Vec<Place>,
     pub context: Vec<Place>,
     pub returns: Place,
@@ -207,6 +213,10 @@ impl Sheet {
 // Words of a sheet
 // =============================================================================
 
+pub fn put_diagnostic(words: &mut Vec<u32>, diagnostic: &Diagnostic) {
+    words.extend([diagnostic.identity, diagnostic.instance]);
+}
+
 pub fn put_place(words: &mut Vec<u32>, place: &Place) {
     words.extend([place.identifier, place.traits, place.span]);
 }
@@ -272,7 +282,7 @@ impl Sheet {
         words.push(self.functions.len() as u32);
         for diagnostics in &self.functions {
             words.push(diagnostics.len() as u32);
-            words.extend(diagnostics);
+            diagnostics.iter().for_each(|d| put_diagnostic(&mut words, d));
         }
         put_places(&mut words, &self.params);
         put_places(&mut words, &self.context);
@@ -340,9 +350,15 @@ impl Reader<'_> {
         Ok(Identifier { start, end, type_ })
     }
 
-    fn function(&mut self) -> Read<Vec<u32>> {
+    fn diagnostic(&mut self) -> Read<Diagnostic> {
+        let identity = self.at_most(MAX_DIAGNOSTIC)?;
+        let instance = self.at_most(MAX_DIAGNOSTIC)?;
+        Ok(Diagnostic { identity, instance })
+    }
+
+    fn function(&mut self) -> Read<Vec<Diagnostic>> {
         let count = self.count(MAX_FUNCTION_DIAGNOSTICS)?;
-        self.times(count, |r| r.at_most(MAX_DIAGNOSTIC))
+        self.times(count, Self::diagnostic)
     }
 
     fn place(&mut self) -> Read<Place> {
@@ -352,18 +368,20 @@ impl Reader<'_> {
         Ok(Place { identifier, traits, span })
     }
 
-    fn unused_place(&mut self) -> Read<Place> {
-        for _ in 0..3 {
+    /// An unused place, whose first word can be an instance.
+    fn unused_place(&mut self, most: u32) -> Read<Place> {
+        let identifier = self.at_most(most)?;
+        for _ in 0..2 {
             self.at_most(0)?;
         }
-        Ok(Place::default())
+        Ok(Place { identifier, ..Place::default() })
     }
 
     fn effect(&mut self) -> Read<Effect> {
         let kind = self.at_most(MAX_KIND)?;
-        let (places, most) = EFFECTS[kind as usize];
-        let first = if places >= 1 { self.place()? } else { self.unused_place()? };
-        let second = if places >= 2 { self.place()? } else { self.unused_place()? };
+        let (places, instance, most) = EFFECTS[kind as usize];
+        let first = if places >= 1 { self.place()? } else { self.unused_place(0)? };
+        let second = if places >= 2 { self.place()? } else { self.unused_place(instance)? };
         let extra = self.at_most(most)?;
         if kind == 13 && extra >= self.functions {
             return Err(5);

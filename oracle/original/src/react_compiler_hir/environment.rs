@@ -1,6 +1,6 @@
 //! Stand-in for `Environment`: the fields and functions that the pass uses.
 //! `enable_validations` is always true in the original; here it gives the
-//! sheet's flag. A diagnostic's number is its identity and its instance.
+//! sheet's flag. A diagnostic that is kept has the sheet's two numbers.
 
 use oxc_allocator::Allocator;
 use oxc_diagnostics::{Diagnostics, OxcDiagnostic};
@@ -35,19 +35,25 @@ impl<'a> Environment<'a> {
         self.errors.push(diagnostic);
     }
 
-    /// Keep a diagnostic with the sheet's number, once for each mention.
-    pub fn intern_aliasing_diagnostic(&mut self, number: u32) -> AliasingDiagnostic {
-        let instance = self.aliasing_diagnostic_instances.push(OxcDiagnostic::numbered(number));
-        AliasingDiagnostic::new(DiagnosticId::from_usize(number as usize), instance)
+    /// Keep a diagnostic with the sheet's identity and instance, once for each mention.
+    pub fn intern_aliasing_diagnostic(
+        &mut self,
+        identity: u32,
+        instance: u32,
+    ) -> AliasingDiagnostic {
+        let kept = OxcDiagnostic::numbered(identity, instance);
+        let instance = self.aliasing_diagnostic_instances.push(kept);
+        AliasingDiagnostic::new(DiagnosticId::from_usize(identity as usize), instance)
     }
 
     pub fn aliasing_diagnostic(&self, diagnostic: AliasingDiagnostic) -> OxcDiagnostic {
         self.aliasing_diagnostic_instances[diagnostic.instance()].clone()
     }
 
-    /// The sheet's number of a diagnostic.
-    pub fn diagnostic_number(&self, diagnostic: AliasingDiagnostic) -> u32 {
-        self.aliasing_diagnostic_instances[diagnostic.instance()].number
+    /// The sheet's identity and instance of a diagnostic.
+    pub fn diagnostic_numbers(&self, diagnostic: AliasingDiagnostic) -> (u32, u32) {
+        let kept = &self.aliasing_diagnostic_instances[diagnostic.instance()];
+        (diagnostic.identity().index() as u32, kept.numbers.1)
     }
 
     pub fn enable_validations(&self) -> bool {

@@ -1,4 +1,5 @@
-//! Stand-in for `oxc_diagnostics`. A diagnostic also carries the sheet's number.
+//! Stand-in for `oxc_diagnostics`. A diagnostic also carries the sheet's two
+//! numbers.
 //! Cloning counts a reference; the real one allocates.
 
 use std::borrow::Cow;
@@ -19,7 +20,8 @@ pub struct OxcDiagnosticInner {
     pub message: Cow<'static, str>,
     pub labels: Vec<Span>,
     pub severity: Severity,
-    pub number: u32,
+    /// Identity and instance.
+    pub numbers: (u32, u32),
 }
 
 #[derive(Debug, Clone)]
@@ -37,22 +39,22 @@ impl Deref for OxcDiagnostic {
 }
 
 impl OxcDiagnostic {
-    fn new(message: Cow<'static, str>, severity: Severity, number: u32) -> Self {
-        let inner = OxcDiagnosticInner { message, labels: Vec::new(), severity, number };
+    fn new(message: Cow<'static, str>, severity: Severity, numbers: (u32, u32)) -> Self {
+        let inner = OxcDiagnosticInner { message, labels: Vec::new(), severity, numbers };
         OxcDiagnostic { inner: Rc::new(inner) }
     }
 
     pub fn error(message: impl Into<Cow<'static, str>>) -> Self {
-        Self::new(message.into(), Severity::Error, 0)
+        Self::new(message.into(), Severity::Error, (0, 0))
     }
 
     pub fn warn(message: impl Into<Cow<'static, str>>) -> Self {
-        Self::new(message.into(), Severity::Warning, 0)
+        Self::new(message.into(), Severity::Warning, (0, 0))
     }
 
-    /// The sheet's diagnostic of this number.
-    pub fn numbered(number: u32) -> Self {
-        Self::new(Cow::Borrowed(""), Severity::Error, number)
+    /// The sheet's diagnostic of this identity and instance.
+    pub fn numbered(identity: u32, instance: u32) -> Self {
+        Self::new(Cow::Borrowed(""), Severity::Error, (identity, instance))
     }
 
     #[must_use]

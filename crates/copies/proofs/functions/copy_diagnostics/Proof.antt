@@ -23,8 +23,8 @@ diagnostic-at-requires c κs =
     let b4 = c .before .before .before .before in
     copying-inside _ _ _ (c .before .loop .inv) (wide-rises diagnosticWidth diagnosticAt) (c .loop-test .taken) (b4 .pre .0)
 
-put-requires : tie.Need-put-requires Inv-loop μ-loop
-put-requires c κs =
+put-diagnostic-requires : tie.Need-put-diagnostic-requires Inv-loop μ-loop
+put-diagnostic-requires c κs =
     let b3 = c .before .before .before in
     let b6 = b3 .before .before .before in
     omega (arith, diagnostics-room (b3 .loop .inv), c .before .before .loop-test .taken, b6 .pre .1)
@@ -47,7 +47,7 @@ loop-again c =
     let b4 = c .before .before .before .before in
     let b5 = b4 .before in
     let b6 = b5 .before in
-    copying-turn _ _ _ (b6 .loop .inv) (b5 .loop-test .taken) (copies-diagnostic (b4 .diagnostic-at .ensures) (c .before .before .put .ensures))
+    copying-turn _ _ _ (b6 .loop .inv) (b5 .loop-test .taken) (copies-diagnostic (b4 .diagnostic-at .ensures) (c .before .before .put-diagnostic .ensures))
 
 same-length : tie.Need-same-length Inv-loop μ-loop
 same-length c = leaves-same (c .before .loop .inv .leaves)
@@ -63,7 +63,7 @@ copy-diagnostics-spec =
     μ-loop
     loop-holds
     diagnostic-at-requires
-    put-requires
+    put-diagnostic-requires
     add-next
     sub-left
     loop-less

@@ -8,8 +8,8 @@ use Rattle.hir.proofs.Cursor.unused.Tie as tie
 at-most-requires : tie.Need-at-most-requires
 at-most-requires c κs = search needs
 
-enum-known-c1 : tie.Need-enum-known-c1
-enum-known-c1 c = search needs
+enum-known-i : tie.Need-enum-known-i
+enum-known-i c = search needs
 
 at-most-requires-2 : tie.Need-at-most-requires-2
 at-most-requires-2 c κs = search needs
@@ -41,7 +41,7 @@ returns c =
     let b9 = b7 .before .before in
     let b11 = b9 .before .before in
     rw (
-      says wordSays (b9 .c1 .given .1) (b11 .at-most .ensures),
+      says wordSays (b9 .i .given .1) (b11 .at-most .ensures),
       says wordSays (b5 .c2 .given .1) (b7 .at-most2 .ensures),
       says wordSays (c .before .c3 .given .1) (b3 .at-most3 .ensures),
     )
@@ -55,7 +55,7 @@ returns-2 c =
     let b9 = b7 .before .before in
     let b11 = b9 .before .before in
     rw (
-      says wordSays (b9 .c1 .given .1) (b11 .at-most .ensures),
+      says wordSays (b9 .i .given .1) (b11 .at-most .ensures),
       says wordSays (b5 .c2 .given .1) (b7 .at-most2 .ensures),
       says wordSays (c .before .k3 .given .1) (b3 .at-most3 .ensures),
     )
@@ -67,7 +67,7 @@ returns-3 c =
     let b5 = b3 .before .before in
     let b7 = b5 .before .before in
     rw (
-      says wordSays (b5 .c1 .given .1) (b7 .at-most .ensures),
+      says wordSays (b5 .i .given .1) (b7 .at-most .ensures),
       says wordSays (c .before .k2 .given .1) (b3 .at-most2 .ensures),
     )
 
@@ -82,7 +82,7 @@ unused-spec =
     tie.close
     (tie.spec
     at-most-requires
-    enum-known-c1
+    enum-known-i
     at-most-requires-2
     enum-known-c2
     at-most-requires-3

@@ -71,6 +71,7 @@ returns-2 c =
     rw (
       says wordSays (b16 .w .given .1) (b18 .at-most .ensures),
       ← ap (λ (t : TableRow). t .places) (b14 .row-of .ensures),
+      ← ap (λ (t : TableRow). t .instance) (b14 .row-of .ensures),
       ← ap (λ (t : TableRow). t .kind) (b14 .row-of .ensures),
       says placeSays (b10 .first .given .1) (b12 .place-if .ensures),
       says placeSays (b5 .second .given .1) (b7 .place-if2 .ensures),
@@ -91,6 +92,7 @@ returns-3 c =
     rw (
       says wordSays (b16 .w .given .1) (b18 .at-most .ensures),
       ← ap (λ (t : TableRow). t .places) (b14 .row-of .ensures),
+      ← ap (λ (t : TableRow). t .instance) (b14 .row-of .ensures),
       ← ap (λ (t : TableRow). t .kind) (b14 .row-of .ensures),
       says placeSays (b10 .first .given .1) (b12 .place-if .ensures),
       says placeSays (b5 .second .given .1) (b7 .place-if2 .ensures),
@@ -109,6 +111,7 @@ returns-4 c =
     rw (
       says wordSays (b12 .w .given .1) (b14 .at-most .ensures),
       ← ap (λ (t : TableRow). t .places) (b10 .row-of .ensures),
+      ← ap (λ (t : TableRow). t .instance) (b10 .row-of .ensures),
       says placeSays (b6 .first .given .1) (b8 .place-if .ensures),
       says placeSays (c .before .k3 .given .1) (b3 .place-if2 .ensures),
     )

@@ -1,6 +1,6 @@
 use borrow.Author.Needs.{needs}
 use Rattle.instructions.proofs.Spending.{spends-none}
-use Rattle.instructions.proofs.Effect.{terminal-effect-of, is-alias, alias-fits, one-of, otherKinds, not-alias}
+use Rattle.instructions.proofs.Effect.{terminal-effect-of, is-alias, alias-places, alias-fits, one-of, otherKinds, not-alias}
 use Rattle.instructions.proofs.terminals.build_terminal_effect.Statement.{statement}
 use Rattle.instructions.proofs.terminals.build_terminal_effect.Tie as tie
 
@@ -11,7 +11,7 @@ assign-requires : tie.Need-assign-requires
 assign-requires c κs =
     let b4 = c .before .before .before .before in
     let p = b4 .pre in
-    (p .sound, (alias-fits (b4 .args .e) (is-alias (c .before .enum-told .given .1)) (p .fits), (p .range .first, p .range .second)))
+    (p .sound, (alias-fits (b4 .args .e) (is-alias (c .before .enum-told .given .1)) (p .fits), (p .range .first, p .range .second (alias-places (c .before .enum-told .given .1)))))
 
 same-length : tie.Need-same-length
 same-length c = search needs

@@ -1,6 +1,6 @@
 use Rattle.reading.proofs.SectionLaws.{inner-got, inner-refused}
 use Rattle.reading.proofs.JudgeLaws.{judge-got, judge-refused, times-next, times-stop, times-done}
-use Rattle.hir.specs.Says.{wordSays}
+use Rattle.hir.specs.Says.{wordSays, diagnosticSays}
 use Rattle.reading.specs.Whole.{passing}
 use Rattle.model.specs.Sections.{diagnostic}
 use native.Mathlib.Omega.{arith}
@@ -33,8 +33,8 @@ returns c =
 loop-holds : tie.Need-loop-holds Inv-loop μ-loop
 loop-holds c = refl
 
-at-most-requires : tie.Need-at-most-requires Inv-loop μ-loop
-at-most-requires c κs = tt
+diagnostic-requires : tie.Need-diagnostic-requires Inv-loop μ-loop
+diagnostic-requires c κs = tt
 
 enum-known-d2 : tie.Need-enum-known-d2 Inv-loop μ-loop
 enum-known-d2 c = search needs
@@ -43,7 +43,6 @@ enum-known-k2 : tie.Need-enum-known-k2 Inv-loop μ-loop
 enum-known-k2 c = search needs
 
 returns-2 : tie.Need-returns-2 Inv-loop μ-loop
-unfolding diagnostic
 returns-2 c =
     let b3 = c .before .before .before in
     let b4 = b3 .before in
@@ -52,7 +51,7 @@ returns-2 c =
     let b9 = b7 .before .before in
     sym (inner-got _ _ _ _ (says wordSays (b7 .k .given .1) (b9 .count .ensures))
     ∙ b5 .loop .inv
-    ∙ times-stop _ _ _ _ _ _ _ (b4 .loop-test .taken) (judge-refused _ _ _ _ _ _ (says wordSays (c .before .k2 .given .1) (b3 .at-most .ensures))))
+    ∙ times-stop _ _ _ _ _ _ _ (b4 .loop-test .taken) (judge-refused _ _ _ _ _ _ (says diagnosticSays (c .before .k2 .given .1) (b3 .diagnostic .ensures))))
 
 sub-left : tie.Need-sub-left Inv-loop μ-loop
 sub-left c = omega arith
@@ -61,13 +60,12 @@ loop-less : tie.Need-loop-less Inv-loop μ-loop
 loop-less c = omega arith
 
 loop-again : tie.Need-loop-again Inv-loop μ-loop
-unfolding diagnostic
 loop-again c =
     let b3 = c .before .before .before in
     let b4 = b3 .before in
     let b5 = b4 .before in
     b5 .loop .inv
-    ∙ times-next _ _ _ _ _ _ _ _ (b4 .loop-test .taken) (judge-got _ _ _ _ _ _ _ (says wordSays (c .before .d2 .given .1) (b3 .at-most .ensures)))
+    ∙ times-next _ _ _ _ _ _ _ _ (b4 .loop-test .taken) (judge-got _ _ _ _ _ _ _ (says diagnosticSays (c .before .d2 .given .1) (b3 .diagnostic .ensures)))
 
 returns-3 : tie.Need-returns-3 Inv-loop μ-loop
 returns-3 c =
@@ -88,7 +86,7 @@ inner-function-spec =
     enum-known-k1
     returns
     loop-holds
-    at-most-requires
+    diagnostic-requires
     enum-known-d2
     enum-known-k2
     returns-2
