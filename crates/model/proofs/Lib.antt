@@ -30,6 +30,7 @@ pub mod Handed
 pub mod Either
 pub mod Everywhere
 pub mod ReadLaws
+pub mod Traits
 pub mod Got
 pub mod InRange
 pub mod Distinct
