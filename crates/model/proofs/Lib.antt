@@ -29,6 +29,7 @@ pub mod Handed
 -- reading
 pub mod Either
 pub mod Everywhere
+pub mod Tallies
 pub mod ReadLaws
 pub mod Got
 pub mod InRange
@@ -41,6 +42,8 @@ pub mod BackLaws
 pub mod Encoder
 pub mod FileWords
 -- the theorems about whole sheets
+pub mod Flows
+pub mod AnswerLength
 pub mod Bound
 pub mod NodeAssertion
 pub mod IndexesBelow
