@@ -20,7 +20,7 @@ use Rattle.model.specs.Demand3.{how}
 use Rattle.model.specs.CallEnds.{endAt, CallEnds}
 use Rattle.model.proofs.ReadLaws.{isGot}
 use Rattle.model.proofs.Demand3.{demand3, answer-ends}
-use Rattle.model.proofs.AnswerLength.{answer-ranges}
+use Rattle.model.proofs.Lengths.{answer-ranges}
 
 abbrev isAccepted : Outcome → Bool
 isAccepted (refusal k) = false

@@ -43,7 +43,7 @@ pub mod Encoder
 pub mod FileWords
 -- the theorems about whole sheets
 pub mod Flows
-pub mod AnswerLength
+pub mod Lengths
 pub mod Bound
 pub mod NodeAssertion
 pub mod IndexesBelow
@@ -54,3 +54,6 @@ pub mod CallEnds
 -- what the call builds on: renders and simulated walks, one after another
 pub mod Rendering
 pub mod Simulating
+-- document 02, order 2: a class load
+pub mod Drawn
+pub mod LoadAccepted

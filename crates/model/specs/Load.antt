@@ -7,7 +7,7 @@ use lib.ListN.{length, getD, replicate}
 use lib.Dec.{leb}
 use Rattle.model.specs.Limits.{leastLoadIdentifiers, mostIdentifiers, leastLoadEffects, mostLoadEffects}
 use Rattle.model.specs.Lists.{pick}
-use Rattle.model.specs.Sheet.{IdentifierId, EvaluationOrder, Flags, Identifier, other, Place, plainPlace, noPlace, EffectKind, Mutate, MutateConditionally, MutateTransitive, MutateTransitiveConditionally, Capture, Alias, MaybeAlias, Assign, CreateFrom, Effect, Instruction, Other, Block, Sheet}
+use Rattle.model.specs.Sheet.{EvaluationOrder, Flags, Identifier, other, Place, plainPlace, noPlace, EffectKind, Mutate, MutateConditionally, MutateTransitive, MutateTransitiveConditionally, Capture, Alias, MaybeAlias, Assign, CreateFrom, Effect, Instruction, Other, Block, Sheet}
 use Rattle.model.specs.Effects.{rowOf}
 use Rattle.model.specs.Encoder.{sheetWords}
 use Rattle.model.specs.Call.{Outcome, refusal, fits}

@@ -1,10 +1,8 @@
 -- Document 02, order 2: "Prove that each such sheet is accepted when the buffers suffice." What is claimed of a class load within its bounds.
 use Prim.Native.Nat.{ℕ, _+_, _*_, _≤_}
 use mathlib.Core.Path.{_≡_}
-use mathlib.Core.List.{List}
 use lib.ListN.{length}
 use Rattle.model.specs.Limits.{leastWorkspace, lentAnswer, identifierWidth, effectWidth}
-use Rattle.model.specs.Sheet.{Sheet}
 use Rattle.model.specs.Encoder.{sheetWords}
 use Rattle.model.specs.Answer.{answer, answerWords}
 use Rattle.model.specs.Call.{IsSheet, accepted, outcome}

@@ -1,14 +1,14 @@
--- How long an answer is: a section of records of one width, and how many records each section of a sheet's answer has, or has at most.
+-- How many words a section, a sheet and an answer have, and how many records each section of a sheet's answer has, or has at most.
 use Prim.Native.Nat.{ℕ, _+_, _*_, _≤_}
 use native.Mathlib.Omega.{arith}
 use mathlib.Core.Path.{_≡_, refl, sym, ap, _∙_}
-use mathlib.Core.List.{List, [], _∷_, _++_, map}
+use mathlib.Core.List.{List, [], _∷_, _++_}
 use mathlib.Core.Option.{Option, none, some}
 use lib.ListN.{length, length-append, length-map}
 use lib.Seq.{length-take-le}
-use Rattle.model.specs.Limits.{placeWidth, diagnosticWidth, effectWidth}
+use Rattle.model.specs.Limits.{flagsWidth, returnsCount, identifierWidth, placeWidth, diagnosticWidth, effectWidth}
 use Rattle.model.specs.Lists.{gather, Every}
-use Rattle.model.specs.Sheet.{Place, Effect, Sheet}
+use Rattle.model.specs.Sheet.{Place, Effect, Block, Sheet}
 use Rattle.model.specs.Totals.{totals}
 use Rattle.model.specs.Mutation.{Mutation}
 use Rattle.model.specs.Building.{build}
@@ -18,6 +18,7 @@ use Rattle.model.specs.Runs.{walksOf, after}
 use Rattle.model.specs.Summary.{errors, built, realWalks, afterRenders, copied, recordOf, localEffects, transitiveEffects, collectParamEffects, createReturns}
 use Rattle.model.specs.Simulated.{simulate}
 use Rattle.model.specs.Answer.{Range, Answer, rangeWords, placeWords, diagnosticWords, effectWords, countWords, section, summary, answer, answerWords}
+use Rattle.model.specs.Encoder.{identifierWords, functionWords, phiWords, instructionWords, terminalWords, blockWords, sheetWords}
 use Rattle.model.specs.Demand3.{how}
 use Rattle.model.proofs.Everywhere.{every-of}
 use Rattle.model.proofs.Tallies.{tally-each, tally-most, gather-tally}
@@ -33,6 +34,35 @@ module _ {A : Type 0} (w : A → List ℕ) (k : ℕ) where
   -- every record of this form has k words
   pub section-length : ((a : A) → length (w a) ≡ k) → (l : List A) → length (section w l) ≡ 1 + k * length l
   section-length e l = section-each l (every-of (λ (a : A). length (w a) ≡ k) l (λ a m. e a))
+
+-- the words of a sheet by the records of its sections
+pub sheet-words : (s : Sheet)
+    → length (sheetWords s) ≡ flagsWidth + (1 + identifierWidth * length (s .identifiers)) + length (section functionWords (s .functions)) + (2 + placeWidth * (length (s .params) + length (s .context))) + (1 + placeWidth) + length (section blockWords (s .blocks))
+unfolding sheetWords
+sheet-words s =
+    let w₆ : List ℕ = section blockWords (s .blocks) in
+    let w₅ : List ℕ = returnsCount ∷ (placeWords (s .returns) ++ w₆) in
+    let w₄ : List ℕ = section placeWords (s .context) in
+    let w₃ : List ℕ = section placeWords (s .params) in
+    let w₂ : List ℕ = section functionWords (s .functions) in
+    let w₁ : List ℕ = section identifierWords (s .identifiers) in
+    omega (
+      arith,
+      length-append w₁ (w₂ ++ (w₃ ++ (w₄ ++ w₅))),
+      length-append w₂ (w₃ ++ (w₄ ++ w₅)),
+      length-append w₃ (w₄ ++ w₅),
+      length-append w₄ w₅,
+      section-length identifierWords identifierWidth (λ i. refl) (s .identifiers),
+      section-length placeWords placeWidth (λ p. refl) (s .params),
+      section-length placeWords placeWidth (λ p. refl) (s .context),
+    )
+
+-- those of a block
+pub block-words : (b : Block) → length (blockWords b) ≡ 1 + length (section phiWords (b .phis)) + length (section instructionWords (b .instructions)) + length (terminalWords (b .terminal))
+block-words b =
+    let p : List ℕ = section phiWords (b .phis) in
+    let i : List ℕ = section instructionWords (b .instructions) in
+    omega (arith, length-append p (i ++ terminalWords (b .terminal)), length-append i (terminalWords (b .terminal)))
 
 -- the words of an answer by the records of its sections
 pub answer-words : (a : Answer)
