@@ -1,5 +1,5 @@
 -- What a class load draws: numbers below their bound, effects of its nine kinds whose words are within their limits, one in each instruction.
-use Prim.Native.Nat.{ℕ, zero, suc, _+_, _/_, _≤_, _<_}
+use Prim.Native.Nat.{ℕ, zero, suc, _+_, _≤_, _<_}
 use native.Mathlib.Nat.{mod-lt}
 use native.Mathlib.Omega.{arith}
 use mathlib.Core.Path.{_≡_, refl, sym, subst}
@@ -11,12 +11,12 @@ use Rattle.model.specs.Lists.{Every}
 use Rattle.model.specs.Sheet.{Place, plainPlace, EffectKind, Mutate, Effect, Instruction}
 use Rattle.model.specs.Effects.{rowOf, isCreateFunction, isRender, isDiagnosis}
 use Rattle.model.specs.Encoder.{UsedFits, ExtraFits, EffectFits}
-use Rattle.model.specs.Load.{nextState, drawBelow, loadKinds, loadKind, loadEffect, drawSecond, drawPlaces, drawEffect, loadInstructions}
+use Rattle.model.specs.Load.{drawBelow, loadKinds, loadKind, loadEffect, drawSecond, drawPlaces, drawEffect, loadInstructions}
 use Rattle.model.proofs.Everywhere.{every-at}
 
 pub draw-below : (k state : ℕ) → 0 < k → drawBelow k state .number < k
 unfolding drawBelow
-draw-below k state h = mod-lt (nextState state / 65536) h
+draw-below k state h = mod-lt _ h
 
 -- a kind of at least one place, without an inner function, and neither a diagnosis nor a render
 abbrev Drawable : EffectKind → Type 0

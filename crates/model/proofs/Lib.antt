@@ -55,5 +55,6 @@ pub mod CallEnds
 pub mod Rendering
 pub mod Simulating
 -- document 02, order 2: a class load
+pub mod LoadTable
 pub mod Drawn
 pub mod LoadAccepted

@@ -2,7 +2,7 @@
 use Prim.Native.Nat.{ℕ, _+_, _≤_, _<_}
 use native.Mathlib.Omega.{arith}
 use mathlib.Core.Path.{_≡_, refl, sym, ap, subst}
-use mathlib.Core.Bool.{Bool, true, false, _||_, _&&_, true≢false}
+use mathlib.Core.Bool.{Bool, true, false, _||_, _&&_}
 use mathlib.Core.List.{List, [], _∷_}
 use lib.ListN.{length, replicate, length-append, length-replicate}
 use lib.Dec.{leb}
@@ -19,6 +19,7 @@ use Rattle.model.specs.Call.{accepted, outcome}
 use Rattle.model.specs.Encoder.{instructionWords, blockWords, sheetWords, IdentifierFits, InstructionFits, BlockFits, SheetFits}
 use Rattle.model.specs.Load.{drawEffect, loadInstructions, loadBlock, loadIdentifier, classLoad, loadable}
 use Rattle.model.specs.LoadAccepted.{loadLength, mostLoadAnswer, LoadAccepted}
+use Rattle.model.proofs.Either.{and-left, and-right}
 use Rattle.model.proofs.Everywhere.{every-mem, every-replicate, every-gather}
 use Rattle.model.proofs.Gathers.{gather-none}
 use Rattle.model.proofs.Tallies.{tally-each, role-most, keep-none}
@@ -29,10 +30,6 @@ use Rattle.model.proofs.Lengths.{section-each, sheet-words, block-words
 use Rattle.model.proofs.Drawn.{effect-drawn, drawn-fits, drawn-not-copied, NotCopied, instructions-length, each-instruction}
 
 -- ---- the bounds
-both : (a b : Bool) → a && b ≡ true → (a ≡ true) × (b ≡ true)
-both true b h = (refl, h)
-both false b h = absurd (true≢false (sym h))
-
 -- "n identifiers (2 to 512) and m effects (1 to 512)"
 pub record Loadable (n m : ℕ) : Type 0 where
   pub someIdentifiers : leastLoadIdentifiers ≤ n
@@ -43,10 +40,16 @@ pub record Loadable (n m : ℕ) : Type 0 where
 pub load-bounds : (n m : ℕ) → loadable n m ≡ true → Loadable n m
 unfolding loadable
 load-bounds n m h =
-    let p = both (leb leastLoadIdentifiers n && leb n mostIdentifiers) (leb leastLoadEffects m && leb m mostLoadEffects) h in
-    let i = both (leb leastLoadIdentifiers n) (leb n mostIdentifiers) (p .0) in
-    let e = both (leb leastLoadEffects m) (leb m mostLoadEffects) (p .1) in
-    record { someIdentifiers = leb-true leastLoadIdentifiers n (i .0); identifiers = leb-true n mostIdentifiers (i .1); someEffects = leb-true leastLoadEffects m (e .0); effects = leb-true m mostLoadEffects (e .1) }
+    let ids : Bool = leb leastLoadIdentifiers n && leb n mostIdentifiers in
+    let effects : Bool = leb leastLoadEffects m && leb m mostLoadEffects in
+    let i : ids ≡ true = and-left ids effects h in
+    let e : effects ≡ true = and-right ids effects h in
+    record {
+      someIdentifiers = leb-true leastLoadIdentifiers n (and-left (leb leastLoadIdentifiers n) (leb n mostIdentifiers) i);
+      identifiers = leb-true n mostIdentifiers (and-right (leb leastLoadIdentifiers n) (leb n mostIdentifiers) i);
+      someEffects = leb-true leastLoadEffects m (and-left (leb leastLoadEffects m) (leb m mostLoadEffects) e);
+      effects = leb-true m mostLoadEffects (and-right (leb leastLoadEffects m) (leb m mostLoadEffects) e);
+    }
 
 module _ (seed n m : ℕ) (h : Loadable n m) where
   some : 0 < n
@@ -175,7 +178,7 @@ module _ (seed n m : ℕ) (h : Loadable n m) where
       let ws : List ℕ = sheetWords s in
       then-accepted ws workspace room w load-short s (length ws) (reads-back s load-fits) (omega arith) load-not-over r
 
-  pub within-bounds : LoadAccepted seed n m
+  within-bounds : LoadAccepted seed n m
   within-bounds = record {
     long = load-length;
     short = load-answer;

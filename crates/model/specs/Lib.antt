@@ -36,6 +36,7 @@ pub mod Table
 pub mod Ours
 pub mod Refusals
 pub mod Boundaries
+pub mod LoadCases
 -- what is claimed of all this; proofs/ has the theorems
 pub mod Ranges
 pub mod Distinct
