@@ -13,16 +13,13 @@ use Rattle.model.specs.Building.{build}
 use Rattle.model.specs.State.{State, simulated}
 use Rattle.model.specs.Walks.{mutate}
 use Rattle.model.specs.Summary.{recordOf, marked, afterRenders}
-use Rattle.model.specs.Simulated.{tracked, simulation, flows, flowEffect, flowEffects, Simulated, simulatedBy, simulate}
+use Rattle.model.specs.Simulated.{tracked, simulation, flows, flowEffect, flowEffects, Simulated, simulate}
 use Rattle.model.proofs.Stored.{tally-append}
+use Rattle.model.proofs.Simulating.{next}
 use Rattle.model.proofs.Everywhere.{every-of}
 use Rattle.model.proofs.Tallies.{tally-most, tally-but-one, gather-tally, one-most}
 
 module _ (s : Sheet) where
-  -- one simulated walk more
-  abbrev next : Place → Simulated → Simulated
-  next into a = simulatedBy s into a (mutate simulated (simulation (a .index) into) (a .state))
-
   -- parameters and context, with their marks
   abbrev sources : List Place
   sources = map (marked (afterRenders s)) (s .params) ++ map (marked (afterRenders s)) (s .context)
@@ -43,11 +40,11 @@ module _ (s : Sheet) where
       omega (arith, ap (λ (l : List Place). length l) tracked-sources, length-append sources r, sources-length)
 
   -- ---- the walks
-  walks-more : (l : List Place) (a : Simulated) → length (each next l a .walks) ≡ length l + length (a .walks)
+  walks-more : (l : List Place) (a : Simulated) → length (each (next s) l a .walks) ≡ length l + length (a .walks)
   walks-more [] a = omega arith
   walks-more (p ∷ l) a =
       let w = mutate simulated (simulation (a .index) p) (a .state) in
-      omega (arith, walks-more l (next p a), length-append (a .walks) (w ∷ []))
+      omega (arith, walks-more l (next s p a), length-append (a .walks) (w ∷ []))
 
   -- one for each of parameters, context and returns
   pub simulate-walks : length (simulate s .walks) ≡ length (s .params) + length (s .context) + 1
@@ -92,11 +89,11 @@ module _ (s : Sheet) where
             flow-most (not (eqb (p .identifier) (into .identifier))) (not (eqb (p .identifier) (s .returns .identifier))) (eqb (recordOf t p .last) i) (flowEffect (s .returns) into p),
           )
 
-  effects-more : (l : List Place) (a : Simulated) → length (each next l a .effects) ≤ tally inflow l + length (a .effects)
+  effects-more : (l : List Place) (a : Simulated) → length (each (next s) l a .effects) ≤ tally inflow l + length (a .effects)
   effects-more [] a = omega arith
   effects-more (p ∷ l) a =
       let t : State = mutate simulated (simulation (a .index) p) (a .state) .state in
-      omega (arith, effects-more l (next p a), length-append (a .effects) (flowEffects s (a .index) p t), flows-most (a .index) p t)
+      omega (arith, effects-more l (next s p a), length-append (a .effects) (flowEffects s (a .index) p t), flows-most (a .index) p t)
 
   -- nothing flows from returns
   from-sources : (into : Place) → inflow into ≡ tally (mayFlow into) sources

@@ -37,7 +37,9 @@ module _ {A : Type 0} (w : A → List ℕ) (k : ℕ) where
 
 -- the words of a sheet by the records of its sections
 pub sheet-words : (s : Sheet)
-    → length (sheetWords s) ≡ flagsWidth + (1 + identifierWidth * length (s .identifiers)) + length (section functionWords (s .functions)) + (2 + placeWidth * (length (s .params) + length (s .context))) + (1 + placeWidth) + length (section blockWords (s .blocks))
+    → length (sheetWords s)
+    ≡ flagsWidth + (1 + identifierWidth * length (s .identifiers)) + length (section functionWords (s .functions)) + (2 + placeWidth * (length (s .params) + length (s .context))) + (1 + placeWidth)
+    + length (section blockWords (s .blocks))
 unfolding sheetWords
 sheet-words s =
     let w₆ : List ℕ = section blockWords (s .blocks) in

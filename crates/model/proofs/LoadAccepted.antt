@@ -116,14 +116,19 @@ module _ (seed n m : ℕ) (h : Loadable n m) where
   with-role : (f : Role → Bool) → withRole f instructions ≤ m
   with-role f = omega (arith, role-most f 1 instructions one-effect, instructions-length n 1 m seed)
 
+  not-copied : (state : ℕ) → NotCopied (drawEffect n state .effect)
+  not-copied state = drawn-not-copied n (drawEffect n state .effect) (effect-drawn n some state)
+
   no-renders : withRole isRender instructions ≡ 0
-  no-renders = omega (arith, tally-each (λ (i : Instruction). tally renders (i .effects)) 0 instructions (each-instruction n m (λ (i : Instruction). tally renders (i .effects) ≡ 0) none m 1 seed (omega arith)))
+  no-renders =
+      let each = each-instruction n m (λ (i : Instruction). tally renders (i .effects) ≡ 0) none m 1 seed (omega arith) in
+      omega (arith, tally-each (λ (i : Instruction). tally renders (i .effects)) 0 instructions each)
     where
       renders : Effect → ℕ
       renders e = oneIf (isRender (rowOf (e .kind) .role))
 
       none : (o state : ℕ) → o ≤ m → renders (drawEffect n state .effect) + 0 ≡ 0
-      none o state k = rw (drawn-not-copied n (drawEffect n state .effect) (effect-drawn n some state) .1)
+      none o state k = rw (not-copied state .1)
 
   few-mutations : totals (classLoad seed n m) .mutations ≤ m
   unfolding totals classLoad
@@ -141,17 +146,21 @@ module _ (seed n m : ℕ) (h : Loadable n m) where
   none-copied : Every NotCopied (instructionEffects (classLoad seed n m))
   unfolding instructionEffects classLoad
   none-copied =
-      let each = each-instruction n m (λ (i : Instruction). Every NotCopied (i .effects)) (λ o state k. (drawn-not-copied n (drawEffect n state .effect) (effect-drawn n some state), tt)) m 1 seed (omega arith) in
-      every-gather (λ (b : Block). gather (λ (i : Instruction). i .effects) (b .instructions)) NotCopied (loadBlock seed n m ∷ []) (every-gather (λ (i : Instruction). i .effects) NotCopied instructions each, tt)
+      let each = each-instruction n m (λ (i : Instruction). Every NotCopied (i .effects)) (λ o state k. (not-copied state, tt)) m 1 seed (omega arith) in
+      every-gather (λ (b : Block). gather (λ (i : Instruction). i .effects) (b .instructions)) NotCopied (loadBlock seed n m ∷ [])
+      (every-gather (λ (i : Instruction). i .effects) NotCopied instructions each, tt)
 
   nothing-copied : copied (classLoad seed n m) ≡ []
   unfolding copied
-  nothing-copied = keep-none (λ (e : Effect). isDiagnosis (rowOf (e .kind) .role) || isRender (rowOf (e .kind) .role)) (instructionEffects (classLoad seed n m)) (every-mem _ _ (instructionEffects (classLoad seed n m)) (λ e i r. rw (r .0, r .1)) none-copied)
+  nothing-copied =
+      let effects : List Effect = instructionEffects (classLoad seed n m) in
+      keep-none (λ (e : Effect). isDiagnosis (rowOf (e .kind) .role) || isRender (rowOf (e .kind) .role)) effects (every-mem NotCopied _ effects (λ e i r. rw (r .0, r .1)) none-copied)
 
   nothing-diagnosed : diagnosed (classLoad seed n m) ≡ []
   unfolding diagnosed recorded classLoad
   nothing-diagnosed =
-      rw (keep-none (λ (e : Effect). isDiagnosis (rowOf (e .kind) .role)) (instructionEffects (classLoad seed n m)) (every-mem _ _ (instructionEffects (classLoad seed n m)) (λ e i r. r .0) none-copied))
+      let effects : List Effect = instructionEffects (classLoad seed n m) in
+      rw (keep-none (λ (e : Effect). isDiagnosis (rowOf (e .kind) .role)) effects (every-mem NotCopied _ effects (λ e i r. r .0) none-copied))
       (gather-none (functionErrors []) (λ k. refl) (simulate (classLoad seed n m) .state .handed))
 
   pub load-answer : length (answerWords (answer (classLoad seed n m))) ≤ mostLoadAnswer n m
