@@ -12,9 +12,10 @@ use std::process::ExitCode;
 use std::time::{Duration, Instant};
 
 use oracle::compare::{Difference, Side, compare, lines, original_lines, roomy, shrink};
-use oracle::damage::{Call, damaged};
+use oracle::damage::{Call, Room, damaged};
 use oracle::load::{self, Load, Loader, compare_load};
 use oracle::plain;
+use oracle::plain::sheet::WORKSPACE_WORDS;
 use oracle::program::{self, compare_run, file_words};
 use oracle::random::Random;
 use oracle::{cases, dense, generate, text};
@@ -139,7 +140,9 @@ impl Counts {
             println!("{load:?} has {} words, its answer {answer}", words.len());
             self.differences += 1;
         }
-        self.compare(roomy(&words), sides);
+        // With 16,384 words of each, which always do, and as `compare` lends.
+        let room = Room::More(WORKSPACE_WORDS.saturating_sub(answer));
+        self.compare(Call { sheet: words, workspace: WORKSPACE_WORDS, room }, sides);
     }
 
     /// The load, or its refusal, at every length of output that makes a difference.
