@@ -11,9 +11,10 @@ use Rattle.model.specs.Limits.{lastSerial}
 use Rattle.model.specs.Lists.{pick}
 use Rattle.model.specs.Call.{Outcome as TheOutcome, refusal, accepted, outcome}
 use Rattle.model.specs.Service.{taken, serves, call}
-use Rattle.inference.specs.declared.Outcome.{Outcome}
-use Rattle.inference.specs.declared.Outcome.the-variants.{Refused, Accepted}
-use Rattle.inference.specs.Outcome.{Returned, number, length, returnedBy, Came, Inferred}
+use Rattle.writing.specs.declared.Outcome.{Outcome}
+use Rattle.writing.specs.declared.Outcome.the-variants.{Refused, Accepted}
+use Rattle.writing.specs.Outcome.{Returned, number, length, returnedBy}
+use Rattle.inference.specs.Outcome.{Came, Inferred}
 use Rattle.service.specs.Served.{stateWith, Tells, Served}
 
 abbrev isNumber : Returned → Bool

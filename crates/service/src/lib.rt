@@ -3,8 +3,8 @@ ghost use mathlib.Core.Path.{_≡_};
 ghost use Rattle.model.specs.Limits.{leastWorkspace, mostSheet};
 ghost use Rattle.model.specs.Service.{newService};
 ghost use Rattle.service.specs.Served.{Served};
-use inference::Outcome;
 use inference::infer_mutation_aliasing_ranges;
+use writing::Outcome;
 
 // The next serial.
 #[repr(C)]
