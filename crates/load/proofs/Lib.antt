@@ -2,3 +2,4 @@ pub mod Bounds
 pub mod Drawing
 pub mod Putting
 pub mod Sheets
+pub mod Calling

@@ -1,15 +1,14 @@
--- The sheet of a class load from its parts, the room for each, and what the call comes to.
+-- The sheet of a class load from its parts, and the room for each.
 use Prim.Native.Nat.{ℕ, _+_, _≤_}
 use native.Mathlib.Omega.{arith}
 use mathlib.Core.Path.{_≡_, refl, sym, ap}
-use mathlib.Core.Bool.{true, false}
+use mathlib.Core.Bool.{true}
 use mathlib.Core.List.{List, [], _∷_, _++_, append-nil}
 use lib.ListN.{length, replicate, length-append}
 use Rattle.model.specs.Sheet.{Other}
 use Rattle.model.specs.Answer.{section}
 use Rattle.model.specs.Encoder.{flagsWords, identifierWords, instructionWords, terminalWords, blockWords, sheetWords}
-use Rattle.model.specs.Call.{refusal, fits}
-use Rattle.model.specs.Load.{loadFlags, loadIdentifier, loadInstructions, loadBlock, classLoad, loadable, load}
+use Rattle.model.specs.Load.{loadFlags, loadIdentifier, loadInstructions, loadBlock, classLoad, loadable}
 use Rattle.writing.specs.Wrote.{farthest}
 use Rattle.load.specs.Parts.{paramsWords, returnsWords}
 use Rattle.load.proofs.Bounds.{load-bounds, load-length}
@@ -52,13 +51,3 @@ module _ (seed n m : ℕ) where
         ap (λ (l : List ℕ). length l) sheet-parts,
         length-append identifiers (paramsWords ++ (returnsWords n ++ blocks)),
       )
-
--- ---- the call
-module _ (seed n m room : ℕ) where
-  pub load-outside : loadable n m ≡ false → refusal 5 ≡ load seed n m room
-  unfolding load
-  load-outside h = sym (rw h)
-
-  pub load-inside : loadable n m ≡ true → fits room (sheetWords (classLoad seed n m)) ≡ load seed n m room
-  unfolding load
-  load-inside h = sym (rw h)

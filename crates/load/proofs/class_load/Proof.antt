@@ -1,7 +1,4 @@
-use borrow.Author.Tests.{not-true, not-false}
-use mathlib.Core.Path.{_∙_, sym}
-use Rattle.load.proofs.Sheets.{load-outside, load-inside}
-use Rattle.writing.proofs.Ending.{filled-as, filled-long, room, too-long, filled-fitting}
+use Rattle.load.proofs.Calling.{called-loadable, called-outside, called-short, called-filled}
 use borrow.Author.Needs.{needs}
 use Rattle.load.proofs.class_load.Statement.{statement}
 use Rattle.load.proofs.class_load.Tie as tie
@@ -19,11 +16,10 @@ returns : tie.Need-returns
 returns c =
     let b4 = c .before .before .before .before in
     let b5 = b4 .before in
-    filled-as (load-outside _ _ _ _ (sym (b5 .loadable .ensures)
-    ∙ not-true _ (b4 .if1 .taken))) (c .before .before .refuse .ensures)
+    called-outside _ _ _ (b5 .loadable .ensures) (b4 .if1 .taken) (c .before .before .refuse .ensures)
 
 put-sheet-requires : tie.Need-put-sheet-requires
-put-sheet-requires c κs = sym (c .before .before .loadable .ensures) ∙ not-false _ (c .before .if1 .left)
+put-sheet-requires c κs = called-loadable _ _ (c .before .before .loadable .ensures) (c .before .if1 .left)
 
 refuse-requires-2 : tie.Need-refuse-requires-2
 refuse-requires-2 c κs = search needs
@@ -37,9 +33,7 @@ returns-2 c =
     let b7 = b4 .before .before .before in
     let b9 = b7 .before .before in
     let b10 = b9 .before in
-    filled-as (too-long (b7 .put-sheet .ensures) (b4 .if2 .taken)
-    ∙ load-inside _ _ _ _ (sym (b10 .loadable .ensures)
-    ∙ not-false _ (b9 .if1 .left))) (filled-long (room (b7 .put-sheet .ensures)) (c .before .before .refuse2 .ensures))
+    called-short _ _ _ (b10 .loadable .ensures) (b9 .if1 .left) (b7 .put-sheet .ensures) (b4 .if2 .taken) (c .before .before .refuse2 .ensures)
 
 clear-from-requires : tie.Need-clear-from-requires
 clear-from-requires c κs = search needs
@@ -53,8 +47,7 @@ returns-3 c =
     let b7 = b4 .before .before .before in
     let b9 = b7 .before .before in
     let b10 = b9 .before in
-    filled-as (load-inside _ _ _ _ (sym (b10 .loadable .ensures)
-    ∙ not-false _ (b9 .if1 .left))) (filled-fitting (b7 .put-sheet .ensures) (b4 .if2 .left) (c .before .before .clear-from .ensures))
+    called-filled _ _ _ (b10 .loadable .ensures) (b9 .if1 .left) (b7 .put-sheet .ensures) (b4 .if2 .left) (c .before .before .clear-from .ensures)
 
 pub class-load-spec : {M : Type 1} → statement M
 class-load-spec =
