@@ -5,7 +5,7 @@ use mathlib.Core.Path.{_≡_, refl, sym, ap, _∙_}
 use mathlib.Core.List.{List, [], _∷_, _++_}
 use lib.ListN.{length, replicate, length-append, length-replicate}
 use Rattle.model.specs.Lists.{gather}
-use Rattle.model.specs.Sheet.{EvaluationOrder, Instruction}
+use Rattle.model.specs.Sheet.{EvaluationOrder}
 use Rattle.model.specs.Answer.{section}
 use Rattle.model.specs.Encoder.{identifierWords, instructionWords}
 use Rattle.model.specs.Load.{loadIdentifier, DrawnEffect as ModelDrawn, drawEffect, loadInstructions}

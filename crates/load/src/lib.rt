@@ -19,8 +19,8 @@ use hir::limits::MOST_LOAD_EFFECTS;
 use workspace::clear_from;
 use writing::Outcome;
 
-pub mod draws;
-pub mod parts;
+mod draws;
+mod parts;
 
 // Whether the arguments are within their bounds.
 fn loadable(n: u32, m: u32) -> bool

@@ -12,14 +12,14 @@ refuse-requires c κs = search needs
 same-length : tie.Need-same-length
 same-length c = search needs
 
+put-sheet-requires : tie.Need-put-sheet-requires
+put-sheet-requires c κs = called-loadable _ _ (c .before .before .loadable .ensures) (c .before .if1 .left)
+
 returns : tie.Need-returns
 returns c =
     let b4 = c .before .before .before .before in
     let b5 = b4 .before in
     called-outside _ _ _ (b5 .loadable .ensures) (b4 .if1 .taken) (c .before .before .refuse .ensures)
-
-put-sheet-requires : tie.Need-put-sheet-requires
-put-sheet-requires c κs = called-loadable _ _ (c .before .before .loadable .ensures) (c .before .if1 .left)
 
 refuse-requires-2 : tie.Need-refuse-requires-2
 refuse-requires-2 c κs = search needs

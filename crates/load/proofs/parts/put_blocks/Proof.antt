@@ -1,6 +1,6 @@
 use native.Mathlib.Omega.{arith}
-use Rattle.load.proofs.Sheets.{blocks-parts, blocks-length}
 use Rattle.writing.proofs.Writing.{wrote-then, wrote-as}
+use Rattle.load.proofs.Sheets.{blocks-parts, blocks-length}
 use borrow.Author.Needs.{needs}
 use Rattle.load.proofs.parts.put_blocks.Statement.{statement}
 use Rattle.load.proofs.parts.put_blocks.Tie as tie
