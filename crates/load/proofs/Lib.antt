@@ -1,0 +1,5 @@
+pub mod Bounds
+pub mod Drawing
+pub mod Putting
+pub mod Sheets
+pub mod Calling
