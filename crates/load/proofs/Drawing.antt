@@ -9,12 +9,12 @@ use lib.Dec.{leb}
 use Rattle.model.specs.Sheet.{EffectKind as ModelKind, Mutate, Place as ModelPlace, plainPlace, noPlace}
 use Rattle.model.specs.Effects.{rowOf}
 use Rattle.model.specs.Load.{Draw as ModelDraw, drawBelow, loadKinds, loadKind, DrawnEffect as ModelDrawn, loadEffect, drawSecond, drawPlaces, drawEffect}
+use Rattle.model.proofs.Drawn.{draw-below}
 use Rattle.hir.specs.Numbers.{kindSays, kindNumber}
 use Rattle.hir.specs.Table.{TableRow, tableRow}
 use Rattle.hir.specs.declared.EffectKind.{EffectKind as Kind}
 use Rattle.hir.specs.declared.EffectKind.the-variants.{Freeze as KindFreeze, Mutate as KindMutate, MutateConditionally as KindMutateConditionally, MutateTransitive as KindMutateTransitive, MutateTransitiveConditionally as KindMutateTransitiveConditionally, Capture as KindCapture, Alias as KindAlias, MaybeAlias as KindMaybeAlias, Assign as KindAssign, CreateFrom as KindCreateFrom}
 use Rattle.hir.proofs.EffectKinds.{kind-of-number}
-use Rattle.load.proofs.Bounds.{draw-below}
 
 -- ---- the kinds
 -- those of the code

@@ -1,4 +1,3 @@
-pub mod Bounds
 pub mod Drawing
 pub mod Putting
 pub mod Sheets

@@ -9,11 +9,11 @@ use Rattle.model.specs.Sheet.{EvaluationOrder}
 use Rattle.model.specs.Answer.{section}
 use Rattle.model.specs.Encoder.{identifierWords, instructionWords}
 use Rattle.model.specs.Load.{loadIdentifier, DrawnEffect as ModelDrawn, drawEffect, loadInstructions}
+use Rattle.model.proofs.Drawn.{instructions-length}
 use Rattle.writing.specs.Wrote.{Wrote}
 use Rattle.writing.proofs.Writing.{wrote-then, wrote-as}
 use Rattle.copies.proofs.Loops.{Leaves, leaves-all, leaves-then, leaves-none}
 use Rattle.load.specs.Parts.{oneEffect}
-use Rattle.load.proofs.Bounds.{instructions-length}
 
 -- what is written next has room, if the whole has
 leaves-room : {whole rest a₀ a : List ℕ} {at₀ at : ℕ} (us rest′ : List ℕ) (most : ℕ) → Leaves whole rest a₀ at₀ a at → rest ≡ us ++ rest′ → at₀ + length whole ≤ most → at + length us ≤ most

@@ -9,9 +9,9 @@ use Rattle.model.specs.Sheet.{Other}
 use Rattle.model.specs.Answer.{section}
 use Rattle.model.specs.Encoder.{flagsWords, identifierWords, instructionWords, terminalWords, blockWords, sheetWords}
 use Rattle.model.specs.Load.{loadFlags, loadIdentifier, loadInstructions, loadBlock, classLoad, loadable}
+use Rattle.model.proofs.LoadAccepted.{load-bounds, load-length}
 use Rattle.writing.specs.Wrote.{farthest}
 use Rattle.load.specs.Parts.{paramsWords, returnsWords}
-use Rattle.load.proofs.Bounds.{load-bounds, load-length}
 
 -- ---- the block
 module _ (seed n m : ℕ) where

@@ -1,7 +1,7 @@
 use native.Mathlib.Omega.{arith}
+use Rattle.model.proofs.LoadAccepted.{load-bounds}
 use Rattle.writing.proofs.Writing.{wrote-then, wrote-as}
 use Rattle.load.proofs.Sheets.{sheet-parts, sheet-room}
-use Rattle.load.proofs.Bounds.{load-bounds}
 use borrow.Author.Needs.{needs}
 use Rattle.load.proofs.put_sheet.Statement.{statement}
 use Rattle.load.proofs.put_sheet.Tie as tie
