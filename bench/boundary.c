@@ -1,6 +1,9 @@
-/* Calls with known outcomes (files of `oracle/run --sheets-to answers`), each in buffers of
- * exactly the words that are lent and with rubbish, or nothing, in them. Run under valgrind, which
- * sees every word that the library touches outside, and every branch on a word never written. */
+/* boundary LOADS ANSWERS..
+ *
+ * Calls with known outcomes (the file of `oracle/run --sheets-to loads` and those of `--sheets-to
+ * answers`), each in buffers of exactly the words that are lent and with rubbish, or nothing, in
+ * them. Run under valgrind, which sees every word that the library touches outside, and every branch
+ * on a word never written. */
 #include <stdio.h>
 #include <stdlib.h>
 #include <string.h>
@@ -34,7 +37,7 @@ static int zeros(const uint32_t *words, size_t count) {
 }
 
 static struct ServiceState state;
-static unsigned long calls, accepted;
+static unsigned long calls, accepted, loads;
 
 /* A record: sheet, workspace length, answer room, refusal, answer; lists after their length.
  * Returns where the next one begins. */
@@ -72,17 +75,43 @@ static const uint32_t *replay(const uint32_t *at) {
     return at + length;
 }
 
+/* A record of a class load: seed, n, m, output room, refusal, sheet. */
+static const uint32_t *replay_load(const uint32_t *at) {
+    size_t room = at[3];
+    uint32_t refusal = at[4];
+    size_t length = at[5];
+    /* Never written, as above. */
+    uint32_t *sheet = malloc(room * 4);
+    struct Reply reply = service_load(at[0], at[1], at[2], sheet, room);
+    at += 6;
+    int right = reply.refusal == refusal && reply.serial == 0 && reply.length == length &&
+                memcmp(sheet, at, length * 4) == 0 && zeros(sheet + length, room - length);
+    free(sheet);
+    if (!right) {
+        printf("load %lu differs\n", loads);
+        exit(1);
+    }
+    loads++;
+    return at + length;
+}
+
+/* Every record of a file. */
+static void replay_all(const char *name, const uint32_t *(*record)(const uint32_t *)) {
+    size_t words;
+    uint32_t *all = file_words(name, &words);
+    for (const uint32_t *at = all; at < all + words;) {
+        at = record(at);
+    }
+    free(all);
+}
+
 int main(int count, char **names) {
     state = service_new();
     state.next = UINT32_MAX - 100;
     for (int i = 1; i < count; i++) {
-        size_t words;
-        uint32_t *all = file_words(names[i], &words);
-        for (const uint32_t *at = all; at < all + words;) {
-            at = replay(at);
-        }
-        free(all);
+        replay_all(names[i], i == 1 ? replay_load : replay);
     }
-    printf("%lu calls as expected, %lu of them accepted\n", calls, accepted);
+    printf("%lu calls as expected, %lu of them accepted; %lu calls for class loads\n", calls,
+           accepted, loads);
     return 0;
 }

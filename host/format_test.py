@@ -558,6 +558,50 @@ def longest():
     check(f"No answer has more than {most:,} words" in TEXT, True, f"the longest answer is {most:,} words")
 
 
+# ---- class loads
+
+FACTOR, ADDED = said_once(r"state × ([\d,]+) \+"), said_once(r"state × [\d,]+ \+ ([\d,]+) modulo 2\^32")
+DIVISOR = said_once(r"divided by ([\d,]+) without a remainder")
+LOAD_KINDS = [int(kind) for kind in re.search(r"from the list ([\d, ]+);", TEXT)[1].split(", ")]
+BOUNDS = {row[0]: (number(row[1]), number(row[2])) for row in table("number", "least", "most")}
+
+
+def load(seed, n, m):
+    state = seed
+
+    def draw(k):
+        nonlocal state
+        state = (state * FACTOR + ADDED) % 2**32
+        return state // DIVISOR % k
+
+    def drawn(order):
+        kind = list(KIND)[LOAD_KINDS[draw(len(LOAD_KINDS))]]
+        return instruction(order, effect(kind, *[place(draw(n)) for _ in range(PLACES[kind])]))
+
+    one = block(0, [], [drawn(order) for order in range(1, m + 1)], other(m + 1))
+    return sheet([(0, 0, "Other")] * n, place(n - 1), [one], params=[place(0)])
+
+
+def asked_for(*numbers):
+    return run([TOOL, "load", *map(str, numbers)], b"")
+
+
+def loads():
+    (least_n, most_n), (least_m, most_m) = BOUNDS["n"], BOUNDS["m"]
+    sizes = [(least_n, least_m), (most_n, most_m), (least_n, most_m), (most_n, least_m), (97, 31)]
+    for seed in (0, 1, 2026, 2**31, 2**32 - 1):
+        for n, m in sizes:
+            made = asked_for(seed, n, m).stdout
+            check(made, bytes_of(load(seed, n, m)), f"the class load {seed} {n} {m}")
+            check(len(made), 4 * (20 + 3 * n + 10 * m), f"its length, {n} and {m}")
+    said = f"has 20 + 3 × n + 10 × m words, at most {20 + 3 * most_n + 10 * most_m:,}."
+    check(said in TEXT, True, "the longest class load")
+    for n, m in ((least_n - 1, 1), (most_n + 1, 1), (2, least_m - 1), (2, most_m + 1), (65_538, 1), (2, 65_537)):
+        check("refused 5: " in asked_for(7, n, m).stderr.decode(), True, f"a class load {n} {m}")
+    said = answer(load(2026, 300, 400))
+    check(sum(len(line.split()) - 1 for line in said) <= 43 + 2 * 300 + 400, True, "the answer's length")
+
+
 if __name__ == "__main__":
     if sys.argv[1:2] == ["--write"] and len(sys.argv) == 3:
         with open(sys.argv[2], "wb") as out:
@@ -566,6 +610,6 @@ if __name__ == "__main__":
     if len(sys.argv) not in (2, 3):
         sys.exit(__doc__)
     TOOL, RANGES = (sys.argv[1:] + [None])[:2]
-    for test in (page_example, every_part, names, limits, refusals, longest):
+    for test in (page_example, every_part, names, limits, refusals, longest, loads):
         test()
     print(f"format: passed, with the tool{' and the program' if RANGES else ''}")

@@ -34,6 +34,13 @@ extern "C" {
  * cost time. A host that wants no answer so long takes 9 as the last word. */
 #define SERVICE_MOST_ANSWER 16932879
 
+/* The arguments of a class load (service_load), and how many words its sheet has at most. */
+#define SERVICE_LEAST_LOAD_IDENTIFIERS 2
+#define SERVICE_MOST_LOAD_IDENTIFIERS 512
+#define SERVICE_LEAST_LOAD_EFFECTS 1
+#define SERVICE_MOST_LOAD_EFFECTS 512
+#define SERVICE_MOST_LOAD 6676
+
 /* Why a call was refused. The lower number is checked first, but 3 to 6 come from one reading from
  * left to right: the first faulty word decides. */
 enum ServiceRefusal {
@@ -150,9 +157,9 @@ struct Reply {
     /* One of enum ServiceRefusal: 0 if the call was accepted. */
     uint32_t refusal;
     /* The accepted call's serial: `next` as it was before. After 4,294,967,295 comes 0. It is 0 for
-     * a refusal. */
+     * a refusal, and for a class load, which has none. */
     uint32_t serial;
-    /* How many words the answer has; 0 for a refusal. */
+    /* How many words the answer, or the class load, has; 0 for a refusal. */
     size_t length;
 };
 
@@ -169,6 +176,19 @@ struct Reply service_infer(struct ServiceState *state,
                            const uint32_t *sheet, size_t sheet_words,
                            uint32_t *workspace, size_t workspace_words,
                            uint32_t *answer, size_t answer_words);
+
+/* A class load: the sheet that a seed, a count of identifiers and a count of effects stand for, the
+ * same on every machine. The seed is any number; the counts are from SERVICE_LEAST_LOAD_IDENTIFIERS
+ * to SERVICE_MOST_LOAD_IDENTIFIERS and from SERVICE_LEAST_LOAD_EFFECTS to SERVICE_MOST_LOAD_EFFECTS,
+ * else the call is refused 5. A sheet has 20 + 3 * identifiers + 10 * effects words; with fewer words
+ * lent the call is refused 9, with SERVICE_MOST_LOAD never. `length` says how many it has; there is no
+ * serial, so that `serial` is 0. Afterwards the words from `length` on, all of them after a refusal,
+ * are 0; what they held before does not matter.
+ *
+ * service_infer accepts every such sheet: its answer has at most 43 + 2 * identifiers + effects
+ * words. `sheet` is not NULL and has as many words as said. */
+struct Reply service_load(uint32_t seed, uint32_t identifiers, uint32_t effects,
+                          uint32_t *sheet, size_t sheet_words);
 
 /* A new state: its first serial is 0. */
 struct ServiceState service_new(void);

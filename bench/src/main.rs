@@ -6,6 +6,8 @@
 //! - ours: the whole call on lent buffers, which it clears.
 //! - same job: the original from the sheet's words to the answer's words, its HIR built on the way.
 //! - analysis: the original's pass alone, its HIR built before.
+//!
+//! Class loads are timed alone: the original makes none.
 
 use std::time::{Duration, Instant};
 
@@ -13,10 +15,11 @@ use bench::clock::time;
 use bench::shapes;
 use bench::sides::{Ours, analysis, compare, same_job};
 use oracle::generate::{self, LIMITS};
+use oracle::load::Load;
 use oracle::plain;
 use oracle::plain::sheet::Sheet;
 use oracle::random::Random;
-use service_host::first_lent;
+use service_host::{ffi, first_lent};
 
 /// The q-th part of the times, which are sorted.
 fn quantile(sorted: &[f64], q: f64) -> f64 {
@@ -274,6 +277,27 @@ fn doublings(bench: &mut Bench) {
     println!();
 }
 
+/// Class loads of the smallest, a middle and the largest size, in as many words as they have. No time
+/// is asked of them.
+fn class_loads(rounds: usize) {
+    println!("## Class loads\n");
+    println!("| identifiers | effects | words | ns a load | spread |");
+    println!("|---|---|---|---|---|");
+    for (n, m) in [(2, 1), (64, 64), (512, 512)] {
+        let mut sheet = vec![0; Load { seed: 0, n, m }.words()];
+        let mut times = Times::default();
+        for seed in 0..rounds as u32 {
+            let (taken, reply) = time(|| ffi::load(seed, n, m, &mut sheet));
+            assert_eq!((reply.refusal, reply.length), (0, sheet.len()));
+            assert_eq!(sheet, Load { seed, n, m }.sheet().words());
+            times.0.push(taken);
+        }
+        let spread = 100.0 * times.spread();
+        println!("| {n} | {m} | {} | {:.0} | {spread:.0}% |", sheet.len(), times.median());
+    }
+    println!();
+}
+
 /// How busy the machine is: above the number of its cores, the times say little.
 fn load(when: &str) -> String {
     let load = std::fs::read_to_string("/proc/loadavg").unwrap_or_default();
@@ -293,13 +317,14 @@ fn main() {
          least {}) or, where that is longer, the answer's length; it clears all of them. The \
          original clears nothing. Spread: between the quartiles, as a part of the median, the \
          largest of the three sides.\n",
-        service_host::ffi::least_workspace(),
+        ffi::least_workspace(),
         first_lent(0),
     );
     println!("{}", load("begins"));
     corpora(&mut bench, &mut asked);
     worst(&mut bench, &mut asked);
     doublings(&mut bench);
+    class_loads(rounds);
     println!("{}", load("ends"));
     println!("## What is asked\n\n{}", asked.join("\n"));
 }

@@ -17,9 +17,9 @@ pub struct ServiceState {
 pub struct Reply {
     /// The refusal's number, or 0.
     pub refusal: u32,
-    /// The serial of an accepted call, else 0.
+    /// The serial of an accepted call, else 0; a class load has none.
     pub serial: u32,
-    /// How many words the answer has, from the first word of its buffer on.
+    /// How many words the answer, or the class load, has, from the first word of its buffer on.
     pub length: usize,
 }
 
@@ -42,6 +42,13 @@ unsafe extern "C" {
         workspace_words: usize,
         answer: *mut u32,
         answer_words: usize,
+    ) -> Reply;
+    fn service_load(
+        seed: u32,
+        identifiers: u32,
+        effects: u32,
+        sheet: *mut u32,
+        sheet_words: usize,
     ) -> Reply;
     safe fn service_new() -> ServiceState;
     safe fn service_least_workspace() -> usize;
@@ -69,6 +76,13 @@ pub fn infer(
             answer.len(),
         )
     }
+}
+
+/// A class load into a lent buffer. After it the buffer is 0 from `length` on.
+pub fn load(seed: u32, identifiers: u32, effects: u32, sheet: &mut [u32]) -> Reply {
+    // SAFETY: the pointer is that of a live slice with the length beside it, borrowed mutably. The
+    // function asks nothing more.
+    unsafe { service_load(seed, identifiers, effects, sheet.as_mut_ptr(), sheet.len()) }
 }
 
 /// A new state.

@@ -37,12 +37,14 @@
 //!
 //! - [`Sheet`] and [`SheetBuilder`]: a sheet as typed parts, to and from words.
 //! - [`text`]: a sheet as text that people read and write.
+//! - [`ClassLoad`]: a sheet from a seed, the same everywhere.
 //! - [`ffi`]: the library's functions as they are, for hosts that lend their own buffers.
 
 #![deny(missing_docs)]
 
 mod answer;
 mod builder;
+mod class_load;
 pub mod ffi;
 pub mod limits;
 mod parts;
@@ -55,6 +57,7 @@ pub mod text;
 
 pub use answer::Answer;
 pub use builder::{PartError, SheetBuilder};
+pub use class_load::ClassLoad;
 pub use parts::{
     AliasingDiagnostic, AliasingEffect, BlockId, DiagnosticId, DiagnosticInstanceId, Effect,
     EffectKind, EvaluationOrder, FunctionId, Identifier, IdentifierId, MutableRange,

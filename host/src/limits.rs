@@ -1,4 +1,7 @@
-//! The limits of a sheet and of an answer. `docs/FORMAT.md` of the repository has them all.
+//! The limits of a sheet, of an answer and of a class load. `docs/FORMAT.md` of the repository has them
+//! all.
+
+use std::ops::RangeInclusive;
 
 /// Of words of a sheet.
 pub const WORDS: usize = 16_384;
@@ -32,6 +35,14 @@ pub const RELATIONS: usize = 1_024;
 pub const MUTATIONS: usize = 512;
 /// Of renders in the whole sheet.
 pub const RENDERS: usize = 256;
+
+/// Of identifiers of a class load, see [`ClassLoad`](crate::ClassLoad).
+pub const LOAD_IDENTIFIERS: RangeInclusive<u32> = 2..=512;
+/// Of effects of a class load.
+pub const LOAD_EFFECTS: RangeInclusive<u32> = 1..=512;
+/// Of words of a class load: with so many lent, none is refused 9.
+pub const LOAD: usize =
+    20 + 3 * *LOAD_IDENTIFIERS.end() as usize + 10 * *LOAD_EFFECTS.end() as usize;
 
 /// Of words of an answer: no sheet has a longer one. Six counts and the records of each section,
 /// every section as long as it can be alone.

@@ -21,7 +21,7 @@ pub enum Refusal {
     SheetEnds = 3,
     /// A count is above its limit, or differs from a fixed count.
     Count = 4,
-    /// A word is outside its range.
+    /// A word is outside its range; of a class load, how many identifiers or effects it has.
     OutOfRange = 5,
     /// A block number is used a second time, or a phi names one predecessor twice.
     UsedTwice = 6,
@@ -29,7 +29,9 @@ pub enum Refusal {
     WordsFollow = 7,
     /// The sheet has over 1,024 relation effects, 512 mutations or 256 renders.
     Totals = 8,
-    /// The answer buffer is shorter than the answer. Comes from [`Service`](crate::Service) only where it was given a longest answer.
+    /// The answer buffer is shorter than the answer, or the words lent for a class load are fewer than
+    /// it has. Comes from [`Service`](crate::Service) only where it was given a longest answer, and
+    /// never from [`ClassLoad`](crate::ClassLoad).
     ShortAnswer = 9,
 }
 
@@ -55,6 +57,12 @@ impl Refusal {
     /// The refusal of a number; none for 0, which stands for no refusal, and above 9.
     pub fn from_number(number: u32) -> Option<Refusal> {
         Refusal::ALL.into_iter().find(|r| r.number() == number)
+    }
+
+    /// The refusal of a number that the library gave, which is not 0.
+    pub(crate) fn of_library(number: u32) -> Refusal {
+        Refusal::from_number(number)
+            .expect("the library linked is the one that this wrapper was written for")
     }
 
     /// What the number stands for, in one sentence.

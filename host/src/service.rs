@@ -47,7 +47,7 @@ impl Service {
     }
 
     /// Answers of more words than this are refused 9. Without it every answer is given, at most
-    /// some 34 megabytes.
+    /// some 68 megabytes.
     pub fn most_answer(mut self, words: usize) -> Service {
         self.most_answer = words.min(limits::ANSWER);
         self
@@ -72,8 +72,7 @@ impl Service {
         }
         match reply.refusal {
             0 => Ok(Answer::new(reply.serial, &self.answer[..reply.length])),
-            number => Err(Refusal::from_number(number)
-                .expect("the library linked is the one that this wrapper was written for")),
+            number => Err(Refusal::of_library(number)),
         }
     }
 

@@ -75,6 +75,17 @@ fn limits_and_version() {
     assert_eq!(defined("SERVICE_MOST_SHEET"), ffi::most_sheet());
     assert_eq!(defined("SERVICE_MOST_SHEET"), limits::WORDS);
     assert_eq!(defined("SERVICE_MOST_ANSWER"), limits::ANSWER);
+    let bounds = |what| {
+        [
+            defined(&format!("SERVICE_LEAST_LOAD_{what}")),
+            defined(&format!("SERVICE_MOST_LOAD_{what}")),
+        ]
+    };
+    let of =
+        |limits: std::ops::RangeInclusive<u32>| [*limits.start() as usize, *limits.end() as usize];
+    assert_eq!(bounds("IDENTIFIERS"), of(limits::LOAD_IDENTIFIERS));
+    assert_eq!(bounds("EFFECTS"), of(limits::LOAD_EFFECTS));
+    assert_eq!(defined("SERVICE_MOST_LOAD"), limits::LOAD);
     assert_eq!(defined("SERVICE_REACTIVE"), Effect::ALL.len());
     assert!(HEADER.contains("#define SERVICE_CREATED(reason, value) (6 * (reason) + (value))"));
     let parts = env!("CARGO_PKG_VERSION").split('.').map(|part| part.parse::<usize>().unwrap());

@@ -86,7 +86,7 @@ fn help_and_version() {
     for args in [&["--help"][..], &["-h"], &["text", "case1.sheet", "--help"]] {
         let text = String::from_utf8(out(args)).unwrap();
         assert!(text.starts_with("usage: sheet text FILE"), "{text}");
-        for command in ["words", "answer", "explain", "--help", "--version"] {
+        for command in ["words", "answer", "explain", "load", "--help", "--version"] {
             assert!(text.contains(&format!("\n       sheet {command}")), "{command}");
         }
     }
@@ -104,12 +104,77 @@ fn faulty_commands() {
         (&["text", "case1.sheet", "-x"], "unknown flag `-x`"),
         (&["text", "case1.sheet", "-o"], "expected a file name after -o"),
         (&["text", "case1.sheet", "-o", "a", "-o", "b"], "-o is given twice"),
+        (&["text", "case1.sheet", "--text"], "--text goes with `load` only"),
+        (&["load"], "expected SEED, N and M after `load`, found no SEED"),
+        (&["load", "1", "2"], "expected SEED, N and M after `load`, found no M"),
+        (&["load", "1", "2", "3", "4"], "expected SEED, N and M, found `4` too"),
+        (&["load", "1", "two", "3"], "expected N, a number from 0 to 4294967295, found `two`"),
+        (
+            &["load", "4294967296", "2", "3"],
+            "expected SEED, a number from 0 to 4294967295, found `4294967296`",
+        ),
     ] {
         let output = sheet(args);
         assert_eq!(output.status.code(), Some(2), "{args:?}");
         assert!(output.stdout.is_empty(), "{args:?}");
         let text = String::from_utf8(output.stderr).unwrap();
         assert!(text.starts_with(&format!("sheet: {message}\n\nusage: sheet ")), "{text}");
+    }
+}
+
+/// A class load, as text and as words; the words are worked out from document 02 in loads.rs.
+#[test]
+fn class_loads() {
+    let text = "flags validations\n\
+                identifier x0\n\
+                identifier x1\n\
+                identifier x2\n\
+                param x0\n\
+                returns x2\n\
+                block 0\n  \
+                instruction at 1\n    \
+                Assign x2 into x1\n  \
+                instruction at 2\n    \
+                Assign x0 into x0\n  \
+                instruction at 3\n    \
+                Alias x0 into x0\n  \
+                instruction at 4\n    \
+                Assign x0 into x2\n  \
+                terminal Other at 5\n";
+    assert_eq!(String::from_utf8(out(&["load", "1", "3", "4", "--text"])).unwrap(), text);
+    let words = out(&["load", "1", "3", "4"]);
+    assert_eq!(words.len(), 4 * (20 + 3 * 3 + 10 * 4));
+    assert_eq!(words, out(&["words", &file("load.txt", text.as_bytes())]));
+    let copy = file("load.sheet", b"");
+    assert!(out(&["load", "-o", &copy, "1", "3", "4"]).is_empty());
+    assert_eq!(std::fs::read(&copy).unwrap(), words);
+    assert!(out(&["load", "4294967295", "512", "512", "-o", &copy]).is_empty());
+    assert!(out(&["answer", &copy]).starts_with(b"ranges 512 "));
+    let explained = String::from_utf8(out(&["explain", &copy])).unwrap();
+    assert!(explained.ends_with("agree with the library's answer.\n"), "{explained}");
+}
+
+/// The library's refusal, with the number that is outside.
+#[test]
+fn refused_loads() {
+    let n = |number: &str| format!(" N is from 2 to 512, found {number}.");
+    let m = |number: &str| format!(" M is from 1 to 512, found {number}.");
+    for (args, which) in [
+        (["7", "1", "1"], n("1")),
+        (["7", "65538", "1"], n("65538")),
+        (["7", "2", "0"], m("0")),
+        (["7", "2", "4294967295"], m("4294967295")),
+        (["7", "513", "513"], n("513") + &m("513")),
+    ] {
+        let [seed, n, m] = args;
+        for more in [&[][..], &["--text"]] {
+            assert_eq!(
+                fault(&[&["load", seed, n, m], more].concat()),
+                format!(
+                    "sheet: load {seed} {n} {m}: refused 5: A word is outside its range.{which}\n"
+                )
+            );
+        }
     }
 }
 

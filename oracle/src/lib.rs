@@ -8,6 +8,7 @@ pub mod compare;
 pub mod damage;
 pub mod dense;
 pub mod generate;
+pub mod load;
 pub mod original_side;
 #[cfg(feature = "service")]
 pub mod ours;

@@ -3,9 +3,11 @@
 //!
 //! Before a call the workspace, the answer buffer and some words around them hold rubbish. After it
 //! the words around are as they were, the workspace and the words after the answer are 0, the sheet
-//! is unchanged, and the state has moved on by one if the call was accepted.
+//! is unchanged, and the state has moved on by one if the call was accepted. It makes class loads too
+//! (`Loader`), into the same buffer with rubbish.
 
 use crate::compare::Side;
+use crate::load::{Load, Loader};
 use crate::plain::Outcome;
 use crate::plain::sheet::{SHEET_WORDS, WORKSPACE_WORDS};
 use crate::random::Random;
@@ -37,6 +39,7 @@ unsafe extern "C" {
         answer: *mut u32,
         answer_len: usize,
     ) -> Reply;
+    fn service_load(seed: u32, n: u32, m: u32, sheet: *mut u32, sheet_len: usize) -> Reply;
 }
 
 /// Words around a lent buffer that no call may change.
@@ -173,6 +176,34 @@ impl Side for Ours {
             return Err(format!("{reply:?}"));
         }
         all_zero("word after the answer", &self.answer.lent()[length..])?;
+        Ok(match refusal {
+            0 => Outcome::Accepted(self.answer.lent()[..length].to_vec()),
+            _ => Outcome::Refused(refusal),
+        })
+    }
+}
+
+impl Loader for Ours {
+    fn name(&self) -> &'static str {
+        "ours, a class load"
+    }
+
+    fn load(&mut self, load: Load, room: usize) -> Result<Outcome, String> {
+        self.calls += 1;
+        let from = self.calls * 977 % RUBBISH;
+        self.answer.fill(room, &self.rubbish, from);
+        let sheet = self.answer.lend();
+        // SAFETY: the pointer is that of a slice with this length.
+        let reply =
+            unsafe { service_load(load.seed, load.n, load.m, sheet.as_mut_ptr(), sheet.len()) };
+        if !self.answer.unchanged_around(&self.rubbish, from) {
+            return Err("words around the output were written".into());
+        }
+        let Reply { refusal, serial, length } = reply;
+        if serial != 0 || room < length || (refusal != 0 && length != 0) {
+            return Err(format!("{reply:?}"));
+        }
+        all_zero("word after the load", &self.answer.lent()[length..])?;
         Ok(match refusal {
             0 => Outcome::Accepted(self.answer.lent()[..length].to_vec()),
             _ => Outcome::Refused(refusal),

@@ -6,7 +6,8 @@
 //!
 //! Every call is held to what is cheap to check (`check`). Calls from the pool are held to their
 //! whole answer, by a hash of what the plain implementation and the original said when the pool
-//! was made. A sample of the others is compared with both as well.
+//! was made. A sample of the others is compared with both as well. Between them class loads are made,
+//! each held word by word to the oracle's.
 //!
 //! Prints a line for each of 20 slices: memory and time are to stay flat.
 
@@ -17,6 +18,7 @@ use bench::guarded::Guarded;
 use oracle::compare::{Side, compare};
 use oracle::damage::{Call, Room, damaged};
 use oracle::generate;
+use oracle::load;
 use oracle::plain::{self, Outcome};
 use oracle::random::Random;
 use service_host::Service;
@@ -27,9 +29,11 @@ const POOL: usize = 4_096;
 const LEAST_WORKSPACE: usize = 16_384;
 /// Words of the answer buffer: the longest answer of a pool fits.
 const ROOM: usize = 1 << 16;
-/// One of so many calls is looked at in full, and one of so many compared.
+/// One of so many calls is looked at in full, and one of so many compared; a class load comes after
+/// one of so many.
 const LOOKED_AT: u64 = 16;
 const COMPARED: u64 = 256;
+const LOADED: u64 = 256;
 
 /// A call whose outcome is known.
 struct Known {
@@ -116,6 +120,7 @@ struct Tally {
     refusals: [u64; 10],
     compared: u64,
     looked_at: u64,
+    loads: u64,
 }
 
 fn is(what: &str, holds: bool) -> Result<(), String> {
@@ -204,6 +209,22 @@ impl Host {
         tally.refusals[reply.refusal as usize] += 1;
         Ok((reply, &self.answer.words()[self.answer.room() - room..][..reply.length]))
     }
+}
+
+/// A class load, or arguments outside, into the host's own memory for sheets, with rubbish before.
+fn class_load(memory: &mut Guarded, random: &mut Random) -> Result<(), String> {
+    let load = if random.percent(80) { load::made(random) } else { load::made_outside(random) };
+    let room = random.choose(&load.rooms());
+    let sheet = memory.last_mut(room);
+    sheet.fill(0xdead_beef);
+    let reply = ffi::load(load.seed, load.n, load.m, sheet);
+    let (refusal, mut words) = match load.outcome(room) {
+        Outcome::Refused(number) => (number, Vec::new()),
+        Outcome::Accepted(words) => (0, words),
+    };
+    is("a load's reply", reply == Reply { refusal, serial: 0, length: words.len() })?;
+    words.resize(room, 0);
+    is("a load's words", *sheet == words)
 }
 
 /// The original and the plain implementation beside what the library said.
@@ -350,6 +371,10 @@ fn slice(
 ) -> Result<(), String> {
     let pool = Pool::new(random);
     for i in 0..calls {
+        if i % LOADED == 0 {
+            tally.loads += 1;
+            class_load(&mut host.sheet, random)?;
+        }
         let known = &pool.calls[random.below(POOL)];
         let sheet = pool.sheet(known);
         let look = i % LOOKED_AT == 0;
@@ -397,6 +422,7 @@ fn soak(calls: u64, seed: u64) -> Result<(), String> {
     let probes = Pool::new(&mut Random::new(99));
     let first = host.state.next;
     let (mut wrapped, mut accepted, mut compared, mut looked_at) = (false, 0, 0, 0);
+    let mut loads = 0;
     println!(
         "slice | calls | accepted | refused 1 to 9 | compared | memory kB | most kB | processor s | µs a call | probe µs"
     );
@@ -410,6 +436,7 @@ fn soak(calls: u64, seed: u64) -> Result<(), String> {
         accepted += tally.refusals[0] + aside.refusals[0];
         compared += tally.compared;
         looked_at += tally.looked_at;
+        loads += tally.loads;
         wrapped |= host.state.next < first;
         let made: u64 = tally.refusals.iter().sum();
         trim();
@@ -429,7 +456,8 @@ fn soak(calls: u64, seed: u64) -> Result<(), String> {
     is("the serial has wrapped", wrapped)?;
     println!(
         "{calls} calls over one state, {accepted} accepted with the probes', {looked_at} looked at \
-         in full, {compared} compared with the original; the serial wrapped; nothing differs"
+         in full, {compared} compared with the original; {loads} class loads; the serial wrapped; \
+         nothing differs"
     );
     Ok(())
 }

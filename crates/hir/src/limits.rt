@@ -1,4 +1,4 @@
-// Every limit and every fixed count of document 01, by the names of model/specs/Limits.
+// Every limit and every fixed count of documents 01 and 02, by the names of model/specs/Limits.
 
 pub const LEAST_WORKSPACE: usize = 16384;
 
@@ -47,5 +47,11 @@ pub const MOST_MUTATIONS: u32 = 512;
 pub const MOST_RENDERS: u32 = 256;
 
 pub const LAST_SERIAL: u32 = 4294967295;
+
+pub const LEAST_LOAD_IDENTIFIERS: u32 = 2;
+
+pub const LEAST_LOAD_EFFECTS: u32 = 1;
+
+pub const MOST_LOAD_EFFECTS: u32 = 512;
 
 pub const LAST_REFUSAL: u32 = 9;

@@ -21,13 +21,14 @@ use Rattle.reading.proofs.CopiedLaws.{accepted-copies}
 use Rattle.building.specs.declared.Building.{Building}
 use Rattle.dataflow.specs.declared.function.HirFunction.{HirFunction}
 use Rattle.workspace.specs.Sort.{clearedFrom}
-use Rattle.inference.specs.declared.Outcome.{Outcome}
-use Rattle.inference.specs.declared.Outcome.the-variants.{Accepted}
+use Rattle.writing.proofs.Ending.{room, too-long}
+use Rattle.writing.specs.declared.Outcome.{Outcome}
+use Rattle.writing.specs.declared.Outcome.the-variants.{Accepted}
 use Rattle.inference.specs.Outcome.{Came, Inferred}
 use Rattle.inference.specs.declared.Preparation.{Preparation}
 use Rattle.inference.specs.declared.Preparation.the-variants.{Refused, Ready}
 use Rattle.inference.specs.Whole.{NoneUnless, Prepared, preparedIs, Prepares, AnswerPut}
-use Rattle.inference.proofs.Ending.{came-as, came-long, room, too-long, fitting}
+use Rattle.inference.proofs.Ending.{came-as, came-long, answered-all}
 
 -- the sheet behind an acceptance
 pub accepted-is : (sheet : List ℕ) {t : Told} → judgementOf (read sheet) ≡ acceptance t → (s : Sheet) × IsSheet sheet s
@@ -100,4 +101,4 @@ module _ (sheet ws ans ws₁ : List ℕ) {p : Preparation} (h : Prepares (admit 
     pub call-answered : n ≤ length ans₁ → r ≡ Accepted n → ws′ ≡ clearedFrom 0 ws₂ → ans′ ≡ clearedFrom n ans₁ → Inferred sheet ws ans r ws′ ans′
     call-answered k is p q =
         let (s, (_, (a, (ready, same)))) = ready-by h e in
-        call-fits a (subst (λ (o : Outcome). Came (fits (length ans) (answerWords (answer s))) ws ans o ws′ ans′) (sym is) (fitting (put .wrote s ready) ws₂ k (put .walkable .same ∙ same) p q))
+        call-fits a (subst (λ (o : Outcome). Came (fits (length ans) (answerWords (answer s))) ws ans o ws′ ans′) (sym is) (answered-all (put .wrote s ready) ws₂ k (put .walkable .same ∙ same) p q))

@@ -3,24 +3,9 @@ use Prim.Native.Nat.{ℕ}
 use mathlib.Core.Path.{_≡_}
 use mathlib.Core.List.{List}
 use lib.ListN.{length as len}
-use Rattle.model.specs.Call.{Outcome as TheOutcome, refusal, accepted, outcome, answerAfter, workspaceAfter}
-use Rattle.inference.specs.declared.Outcome.{Outcome}
-use Rattle.inference.specs.declared.Outcome.the-variants.{Refused, Accepted}
-
--- "returns the answer's length"; "A refusal returns its number"
-pub data Returned : Type 0 where
-  number : ℕ → Returned
-  length : ℕ → Returned
-
--- what document 01's call returns
-unfoldable pub returnedBy : TheOutcome → Returned
-returnedBy (refusal k) = number k
-returnedBy (accepted a) = length (len a)
-
--- what the code's call returned
-abbrev pub outcomeSays : Outcome → Returned
-outcomeSays (Refused k) = number k
-outcomeSays (Accepted n) = length n
+use Rattle.model.specs.Call.{Outcome as TheOutcome, outcome, answerAfter, workspaceAfter}
+use Rattle.writing.specs.declared.Outcome.{Outcome}
+use Rattle.writing.specs.Outcome.{returnedBy, outcomeSays}
 
 -- a call that came to `o`
 pub record Came (o : TheOutcome) (ws ans : List ℕ) (r : Outcome) (ws′ ans′ : List ℕ) : Type 0 where

@@ -26,12 +26,7 @@ use workspace::LEAST;
 use workspace::RECORD;
 use workspace::clear;
 use workspace::clear_from;
-
-// What is said of a call: the number of a refusal, or the answer's length.
-pub enum Outcome {
-    Refused(u32),
-    Accepted(usize),
-}
+use writing::Outcome;
 
 // What a sheet comes to before its first mutation: the number of a refusal, or the function and what was built of it.
 pub enum Preparation {

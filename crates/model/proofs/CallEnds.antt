@@ -4,8 +4,8 @@ use native.Mathlib.Omega.{arith}
 use mathlib.Core.Path.{_≡_, refl, sym, ap, _∙_}
 use mathlib.Core.Bool.{Bool, true, false, true≢false}
 use mathlib.Core.List.{List, [], _∷_, _++_, map, append-assoc}
-use lib.ListN.{length, getD, replicate, length-map}
-use lib.Seq.{length-take-le, getD-take}
+use lib.ListN.{length, getD, replicate}
+use lib.Seq.{getD-take}
 use lib.Dec.{ltb}
 use Rattle.model.specs.Limits.{leastWorkspace}
 use Rattle.model.specs.Lists.{pick, gather}
@@ -19,7 +19,8 @@ use Rattle.model.specs.Call.{Outcome, refusal, accepted, read, IsSheet, 
 use Rattle.model.specs.Demand3.{how}
 use Rattle.model.specs.CallEnds.{endAt, CallEnds}
 use Rattle.model.proofs.ReadLaws.{isGot}
-use Rattle.model.proofs.Demand3.{demand3, answer-ends, last-length}
+use Rattle.model.proofs.Demand3.{demand3, answer-ends}
+use Rattle.model.proofs.Lengths.{answer-ranges}
 
 abbrev isAccepted : Outcome → Bool
 isAccepted (refusal k) = false
@@ -68,11 +69,6 @@ module _ (s : Sheet) where
   abbrev lastEnds : List ℕ
   lastEnds = after (how s) (build s .mutations) (built s) .ends
 
-  ranges-length : length (answer s .ranges) ≡ length (s .identifiers)
-  ranges-length =
-      sym (length-map (answer s .ranges) (λ (r : Range). r .end)) ∙ ap (λ (l : List ℕ). length l) (answer-ends s)
-      ∙ length-take-le (length (s .identifiers)) lastEnds (last-length s)
-
   answer-end : (rest : List ℕ) (x : ℕ) → x < length (s .identifiers) → getD (answerWords (answer s) ++ rest) (endAt x) 0 ≡ getD lastEnds x 0
   unfolding answerWords
   answer-end rest x h =
@@ -80,7 +76,7 @@ module _ (s : Sheet) where
       let more : List ℕ = answerWords (answer s) ++ rest in
       ap (λ (k : ℕ). getD more k 0) p
       ∙ ap (λ (l : List ℕ). getD l (2 * x + 1) 0) (append-assoc (gather rangeWords (answer s .ranges)) _ rest)
-      ∙ range-end (answer s .ranges) _ x (omega (arith, h, ranges-length))
+      ∙ range-end (answer s .ranges) _ x (omega (arith, h, answer-ranges s))
       ∙ ap (λ (l : List ℕ). getD l x 0) (answer-ends s)
       ∙ getD-take (length (s .identifiers)) lastEnds x 0 h
 

@@ -36,3 +36,8 @@ module _ {A B C : Type 0} (f : B → List C) (g : A → B) where
   pub gather-map : (l : List A) → gather f (map g l) ≡ gather (λ (a : A). f (g a)) l
   gather-map [] = refl
   gather-map (a ∷ l) = ap (λ (z : List C). f (g a) ++ z) (gather-map l)
+
+-- of empty lists
+pub gather-none : {A B : Type 0} (f : A → List B) → ((a : A) → f a ≡ []) → (l : List A) → gather f l ≡ []
+gather-none f e [] = refl
+gather-none f e (a ∷ l) = rw (e a) (gather-none f e l)

@@ -29,6 +29,7 @@ pub mod Handed
 -- reading
 pub mod Either
 pub mod Everywhere
+pub mod Tallies
 pub mod ReadLaws
 pub mod Traits
 pub mod Got
@@ -42,6 +43,8 @@ pub mod BackLaws
 pub mod Encoder
 pub mod FileWords
 -- the theorems about whole sheets
+pub mod Flows
+pub mod Lengths
 pub mod Bound
 pub mod NodeAssertion
 pub mod IndexesBelow
@@ -52,3 +55,7 @@ pub mod CallEnds
 -- what the call builds on: renders and simulated walks, one after another
 pub mod Rendering
 pub mod Simulating
+-- document 02, order 2: a class load
+pub mod LoadTable
+pub mod Drawn
+pub mod LoadAccepted

@@ -27,6 +27,8 @@ pub mod Simulated
 pub mod Answer
 pub mod Call
 pub mod Service
+-- document 02, order 2: a class load from a seed
+pub mod Load
 -- "Bench cases", and tables of our own
 pub mod Bench
 pub mod Small
@@ -34,10 +36,12 @@ pub mod Table
 pub mod Ours
 pub mod Refusals
 pub mod Boundaries
+pub mod LoadCases
 -- what is claimed of all this; proofs/ has the theorems
 pub mod Ranges
 pub mod Distinct
 pub mod Encoder
+pub mod LoadAccepted
 pub mod Indexes
 pub mod Bound
 pub mod Assertion

@@ -55,9 +55,13 @@ pub record Place : Type 0 where
   pub reactive : Bool
   pub span : ℕ
 
+-- a place with no traits and no span
+abbrev pub plainPlace : IdentifierId → Place
+plainPlace i = record { identifier = i; effect = 0; reactive = false; span = 0 }
+
 -- a place that is not used: its first word, for kinds 14 to 16 the instance
 abbrev pub unusedPlace : ℕ → Place
-unusedPlace i = record { identifier = i; effect = 0; reactive = false; span = 0 }
+unusedPlace i = plainPlace i
 
 -- "unused places are 0"
 abbrev pub noPlace : Place

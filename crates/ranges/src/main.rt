@@ -2,10 +2,10 @@
 ghost use Prim.Native.Nat.{_≤_};
 ghost use lib.ListN.{length};
 use files::load_words;
-use inference::Outcome;
 use inference::infer_mutation_aliasing_ranges;
 use libc::STDIN_FILENO;
 use libc::STDOUT_FILENO;
+use writing::Outcome;
 
 fn print_word(x: u32) {
     io::write_all(STDOUT_FILENO, b" ");

@@ -11,10 +11,12 @@ use Rattle.model.specs.Limits.{lastSerial}
 use Rattle.model.specs.Lists.{pick}
 use Rattle.model.specs.Call.{Outcome as TheOutcome, refusal, accepted, outcome}
 use Rattle.model.specs.Service.{taken, serves, call}
-use Rattle.inference.specs.declared.Outcome.{Outcome}
-use Rattle.inference.specs.declared.Outcome.the-variants.{Refused, Accepted}
-use Rattle.inference.specs.Outcome.{Returned, number, length, returnedBy, Came, Inferred}
+use Rattle.writing.specs.declared.Outcome.{Outcome}
+use Rattle.writing.specs.declared.Outcome.the-variants.{Refused, Accepted}
+use Rattle.writing.specs.Outcome.{Returned, number, length, returnedBy, Filled}
+use Rattle.inference.specs.Outcome.{Came, Inferred}
 use Rattle.service.specs.Served.{stateWith, Tells, Served}
+use Rattle.service.specs.Loaded.{TellsFilled}
 
 abbrev isNumber : Returned → Bool
 isNumber (number k) = true
@@ -59,3 +61,25 @@ module _ (sheet ws ans : List ℕ) {r : Outcome} {ws′ ans′ : List ℕ} (n : 
   pub served-accepted : {m next : ℕ} → r ≡ Accepted m → n < 2 ^ 32 → next ≡ (n + 1) % 2 ^ 32 → Served n sheet ws ans (record { refusal = 0; serial = n; length = m }) next ws′ ans′
   unfolding call
   served-accepted e h q = accepted-as n (outcome sheet (len ws) (len ans)) h (came e) q
+
+-- ---- a call that fills one buffer and takes no serial
+module _ {a a′ : List ℕ} where
+  number-told : (o : TheOutcome) {k : ℕ} → Filled o a (Refused k) a′ → TellsFilled o a (record { refusal = k; serial = 0; length = 0 }) a′
+  unfolding returnedBy
+  number-told (refusal j) f = record { refusal = ap told (f .returned); serial = refl; long = refl; words = f .words }
+  number-told (accepted l) f = absurd (false≢true (sym (ap isNumber (f .returned))))
+
+  length-told : (o : TheOutcome) {n : ℕ} → Filled o a (Accepted n) a′ → TellsFilled o a (record { refusal = 0; serial = 0; length = n }) a′
+  unfolding returnedBy
+  length-told (refusal j) f = absurd (false≢true (ap isNumber (f .returned)))
+  length-told (accepted l) f = record { refusal = refl; serial = refl; long = ap told (f .returned); words = f .words }
+
+  module _ (o : TheOutcome) {r : Outcome} (f : Filled o a r a′) where
+    filled : {r′ : Outcome} → r ≡ r′ → Filled o a r′ a′
+    filled e = subst (λ (x : Outcome). Filled o a x a′) e f
+
+    pub told-refused : {k : ℕ} → r ≡ Refused k → TellsFilled o a (record { refusal = k; serial = 0; length = 0 }) a′
+    told-refused e = number-told o (filled e)
+
+    pub told-accepted : {n : ℕ} → r ≡ Accepted n → TellsFilled o a (record { refusal = 0; serial = 0; length = n }) a′
+    told-accepted e = length-told o (filled e)

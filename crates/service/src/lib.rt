@@ -2,9 +2,11 @@
 ghost use mathlib.Core.Path.{_≡_};
 ghost use Rattle.model.specs.Limits.{leastWorkspace, mostSheet};
 ghost use Rattle.model.specs.Service.{newService};
+ghost use Rattle.service.specs.Loaded.{Loaded};
 ghost use Rattle.service.specs.Served.{Served};
-use inference::Outcome;
 use inference::infer_mutation_aliasing_ranges;
+use load::class_load;
+use writing::Outcome;
 
 // The next serial.
 #[repr(C)]
@@ -12,7 +14,7 @@ pub struct ServiceState {
     pub next: u32,
 }
 
-// The refusal's number, 0 for none; the serial of an accepted call, else 0; the answer's length.
+// The refusal's number, 0 for none; the serial of an accepted call, else 0; the answer's length. A class load takes no serial, and its length is the sheet's.
 #[repr(C)]
 pub struct Reply {
     pub refusal: u32,
@@ -70,6 +72,25 @@ pub extern "C" fn service_infer(
     let turn = turn_from(serial, sheet, workspace, answer);
     state.next = turn.next;
     turn.reply
+}
+
+// A class load: the sheet of a seed, n identifiers and m effects. It takes no serial.
+#[no_mangle]
+pub extern "C" fn service_load(seed: u32, n: u32, m: u32, sheet: &mut [u32]) -> Reply
+    ensures { λ r. ⌜ Loaded seed n m (now (sheet .entry)) r (now (sheet .exit)) ⌝ }
+{
+    match class_load(seed, n, m, sheet) {
+        Outcome::Refused(k) => Reply {
+            refusal: k,
+            serial: 0,
+            length: 0,
+        },
+        Outcome::Accepted(length) => Reply {
+            refusal: 0,
+            serial: 0,
+            length,
+        },
+    }
 }
 
 // A new state.

@@ -5,6 +5,12 @@ ghost use Prim.Native.Nat.{_+_, _<_};
 ghost use lib.ListN.{set};
 ghost use Rattle.writing.specs.Wrote.{Wrote, farthest};
 
+// What is said of a call that fills a buffer: the number of a refusal, or the length of what was written.
+pub enum Outcome {
+    Refused(u32),
+    Accepted(usize),
+}
+
 // The next word of the answer.
 pub fn put(answer: &mut [u32], at: usize, word: u32) -> usize
     requires { ⌜ at < farthest ⌝ }

@@ -1,18 +1,21 @@
-//! compare --seed S --sheets N --damaged M [--threads T] [--program PATH --runs R] [--files F..]
+//! compare --seed S --sheets N --damaged M --loads L [--threads T] [--program PATH --runs R] [--files F..]
 //!
 //! Makes N accepted sheets and M damaged calls from a seed and compares the
 //! original, the plain reader and, with the feature `service`, our own library on
 //! them, and on the fixed sheets: bench cases, ranges of words, smallest/ and long
-//! walks. Then runs of the program at PATH: on its fixed files, and R on files from
-//! the seed. With files, compares those instead.
+//! walks. Then class loads: those at the corners of the bounds, arguments outside, and
+//! L from the seed. Then runs of the program at PATH: on its fixed files, and R on files
+//! from the seed. With files, compares those instead.
 
 use std::path::{Path, PathBuf};
 use std::process::ExitCode;
 use std::time::{Duration, Instant};
 
 use oracle::compare::{Difference, Side, compare, lines, original_lines, roomy, shrink};
-use oracle::damage::{Call, damaged};
+use oracle::damage::{Call, Room, damaged};
+use oracle::load::{self, Load, Loader, compare_load};
 use oracle::plain;
+use oracle::plain::sheet::WORKSPACE_WORDS;
 use oracle::program::{self, compare_run, file_words};
 use oracle::random::Random;
 use oracle::{cases, dense, generate, text};
@@ -24,6 +27,7 @@ struct Arguments {
     seed: u64,
     sheets: u64,
     damaged: u64,
+    loads: u64,
     threads: u64,
     program: Option<PathBuf>,
     runs: u64,
@@ -35,6 +39,7 @@ fn arguments() -> Result<Arguments, String> {
         seed: 1,
         sheets: 100_000,
         damaged: 100_000,
+        loads: 1_000,
         threads: 1,
         program: None,
         runs: 0,
@@ -56,6 +61,7 @@ fn arguments() -> Result<Arguments, String> {
             "--seed" => arguments.seed = number,
             "--sheets" => arguments.sheets = number,
             "--damaged" => arguments.damaged = number,
+            "--loads" => arguments.loads = number,
             "--threads" => arguments.threads = number.max(1),
             "--runs" => arguments.runs = number,
             _ => return Err(format!("unknown argument {word}")),
@@ -72,11 +78,22 @@ fn sides() -> Vec<Box<dyn Side>> {
     ]
 }
 
+/// The same for class loads.
+fn loaders() -> Vec<Box<dyn Loader>> {
+    vec![
+        #[cfg(feature = "service")]
+        Box::new(oracle::ours::Ours::default()),
+    ]
+}
+
 #[derive(Default)]
 struct Counts {
     fixed: u64,
     sheets: u64,
     damaged: u64,
+    loads: u64,
+    /// Calls for a class load, refused ones too.
+    load_calls: u64,
     runs: u64,
     /// Those of the runs that were on fixed files.
     fixed_runs: u64,
@@ -108,10 +125,47 @@ impl Counts {
         refusal
     }
 
+    /// A class load: asked of every side, and its sheet compared as any other.
+    fn compare_load(
+        &mut self,
+        load: Load,
+        loaders: &mut [Box<dyn Loader>],
+        sides: &mut [Box<dyn Side>],
+    ) {
+        self.loads += 1;
+        self.ask_for(load, loaders);
+        let words = load.sheet().words();
+        let answer = plain::judge(&words).map_or(usize::MAX, |answer| answer.len());
+        if words.len() != load.words() || answer > load.most_answer() {
+            println!("{load:?} has {} words, its answer {answer}", words.len());
+            self.differences += 1;
+        }
+        // With 16,384 words of each, which always do, and as `compare` lends.
+        let room = Room::More(WORKSPACE_WORDS.saturating_sub(answer));
+        self.compare(Call { sheet: words, workspace: WORKSPACE_WORDS, room }, sides);
+    }
+
+    /// The load, or its refusal, at every length of output that makes a difference.
+    fn ask_for(&mut self, load: Load, loaders: &mut [Box<dyn Loader>]) {
+        for loader in loaders {
+            for room in load.rooms() {
+                self.load_calls += 1;
+                if let Some(difference) = compare_load(loader.as_mut(), load, room) {
+                    if self.differences < 3 {
+                        println!("{difference:?}");
+                    }
+                    self.differences += 1;
+                }
+            }
+        }
+    }
+
     fn add(&mut self, other: Counts) {
         self.fixed += other.fixed;
         self.sheets += other.sheets;
         self.damaged += other.damaged;
+        self.loads += other.loads;
+        self.load_calls += other.load_calls;
         self.runs += other.runs;
         self.fixed_runs += other.fixed_runs;
         self.differences += other.differences;
@@ -138,6 +192,9 @@ impl Counts {
                 .map(|(r, n)| if r == 0 { format!("accepted:{n}") } else { format!("{r}:{n}") })
                 .collect();
             parts.push(format!("{} damaged ({})", self.damaged, per_refusal.join(" ")));
+        }
+        if self.loads > 0 {
+            parts.push(format!("{} class loads ({} calls)", self.loads, self.load_calls));
         }
         if self.runs > 0 {
             let fixed = self.fixed_runs;
@@ -229,6 +286,25 @@ fn compare_made(arguments: &Arguments, own: u64) -> Counts {
     counts
 }
 
+/// The fixed class loads, arguments outside, and loads from the seed, as above.
+fn compare_loads(arguments: &Arguments, own: u64) -> Counts {
+    let (mut sides, mut loaders) = (sides(), loaders());
+    let mut counts = Counts::default();
+    if own == 0 {
+        load::fixed().into_iter().for_each(|l| counts.compare_load(l, &mut loaders, &mut sides));
+        load::outside().into_iter().for_each(|l| counts.ask_for(l, &mut loaders));
+    }
+    let mut random = Random::new(arguments.seed);
+    for i in 0..arguments.loads {
+        let mut random = Random::new(random.word());
+        if i % arguments.threads == own {
+            counts.compare_load(load::made(&mut random), &mut loaders, &mut sides);
+            counts.ask_for(load::made_outside(&mut random), &mut loaders);
+        }
+    }
+    counts
+}
+
 /// Runs of the program: on the fixed files, then on files from the seed.
 fn compare_runs(path: &Path, arguments: &Arguments) -> Result<Counts, String> {
     let mut counts = Counts::default();
@@ -271,6 +347,17 @@ fn compare_file(file: &str, sides: &mut [Box<dyn Side>]) -> std::io::Result<Coun
     Ok(counts)
 }
 
+/// A part of the work in every thread.
+fn in_threads(arguments: &Arguments, part: fn(&Arguments, u64) -> Counts) -> Counts {
+    let mut counts = Counts::default();
+    std::thread::scope(|scope| {
+        let start = |own| scope.spawn(move || part(arguments, own));
+        let threads: Vec<_> = (0..arguments.threads).map(start).collect();
+        threads.into_iter().for_each(|t| counts.add(t.join().expect("a thread ends")));
+    });
+    counts
+}
+
 fn compare_all(arguments: &Arguments) -> Result<Counts, String> {
     let mut counts = Counts::default();
     for file in &arguments.files {
@@ -281,12 +368,10 @@ fn compare_all(arguments: &Arguments) -> Result<Counts, String> {
         counts.add(compare_fixed());
     }
     if arguments.files.is_empty() {
-        let made: Vec<Counts> = std::thread::scope(|scope| {
-            let start = |own| scope.spawn(move || compare_made(arguments, own));
-            let threads: Vec<_> = (0..arguments.threads).map(start).collect();
-            threads.into_iter().map(|t| t.join().expect("a thread ends")).collect()
-        });
-        made.into_iter().for_each(|part| counts.add(part));
+        counts.add(in_threads(arguments, compare_made));
+        if arguments.loads > 0 {
+            counts.add(in_threads(arguments, compare_loads));
+        }
     }
     if let Some(program) = &arguments.program {
         let runs = compare_runs(program, arguments);

@@ -1,4 +1,4 @@
-//! sheets answers|replay N DIR
+//! sheets answers|loads|replay N DIR
 //!
 //! Writes test data from fixed seeds, as 32-bit words, lowest byte first.
 //!
@@ -6,6 +6,11 @@
 //!   sheet length, sheet words..
 //!   workspace length, answer buffer length, refusal (0 if accepted),
 //!   answer length (0 if refused), answer words..
+//!
+//! loads/loads.bin: records of class loads, those of src/load.rs and N made ones, each at every length
+//!   of output that makes a difference
+//!   seed, n, m, output length, refusal (0 if there is a load),
+//!   sheet length (0 if refused), sheet words..
 //!
 //! replay/{data/answers.bin,stdout}: records of src/replay.rs, with N accepted and N damaged
 //!   sheets, in parts of 32,768 words; and that program's line of counts
@@ -15,6 +20,7 @@ use std::process::ExitCode;
 
 use oracle::damage::{Call, damaged};
 use oracle::generate::{self, LIMITS};
+use oracle::load::{self, Load};
 use oracle::plain::{self, Outcome};
 use oracle::program::bytes;
 use oracle::random::Random;
@@ -22,7 +28,7 @@ use oracle::replay;
 
 type Words = Vec<u32>;
 
-const KINDS: [&str; 2] = ["answers", "replay"];
+const KINDS: [&str; 3] = ["answers", "loads", "replay"];
 
 // =============================================================================
 // Answers
@@ -78,6 +84,29 @@ fn write_answers(folder: &Path, count: usize) -> std::io::Result<()> {
 }
 
 // =============================================================================
+// Class loads
+// =============================================================================
+
+fn loaded(load: Load, room: usize) -> Words {
+    let (refusal, sheet) = match load.outcome(room) {
+        Outcome::Refused(refusal) => (refusal, Vec::new()),
+        Outcome::Accepted(sheet) => (0, sheet),
+    };
+    let mut words = vec![load.seed, load.n, load.m, room as u32, refusal];
+    put_list(&mut words, &sheet);
+    words
+}
+
+fn write_loads(folder: &Path, count: usize) -> std::io::Result<()> {
+    let mut random = Random::new(12);
+    let mut loads = [load::fixed(), load::outside()].concat();
+    loads.extend((0..count).map(|_| load::made(&mut random)));
+    let calls: Vec<(Load, usize)> =
+        loads.iter().flat_map(|load| load.rooms().map(|room| (*load, room))).collect();
+    write(folder, "loads.bin", calls.len(), |i| loaded(calls[i].0, calls[i].1))
+}
+
+// =============================================================================
 // Replay
 // =============================================================================
 
@@ -113,6 +142,7 @@ fn make(what: &str, count: usize, folder: &Path) -> std::io::Result<()> {
     let folder = folder.join(what);
     match what {
         "answers" => write_answers(&folder, count),
+        "loads" => write_loads(&folder, count),
         _ => write_replay(&folder, count),
     }
 }

@@ -1,6 +1,7 @@
-//! Sheets for people: words to text, text to words, the library's answer, and why each end is
-//! where it is.
+//! Sheets for people: words to text, text to words, the library's answer, why each end is where it
+//! is, and class loads.
 
+mod class_load;
 mod explain;
 mod graph;
 mod load;
@@ -13,13 +14,16 @@ use std::process::ExitCode;
 
 use load::Form;
 use service_host::text::{self, Names};
-use service_host::{Refusal, Service, Sheet, limits};
+use service_host::{ClassLoad, Refusal, Service, Sheet, limits};
 
 const USAGE: &str = "\
 usage: sheet text FILE [-o OUT]      a file of words as text
        sheet words FILE [-o OUT]     text as a file of words
        sheet answer FILE [-o OUT]    the answer, a line for each section: either form
        sheet explain FILE [-o OUT]   each identifier's range before and after, and why: either form
+       sheet load SEED N M [--text] [-o OUT]
+                                     the class load of a seed: a sheet of N identifiers (2 to 512)
+                                     and M effects (1 to 512), as words or as text
        sheet --help
        sheet --version
 
@@ -27,12 +31,19 @@ A word is four bytes, lowest first; a cut last word is filled up with zeros. FIL
 input. Of a sheet that is refused, the faulty word is named. The repository describes the text form
 in docs/TEXT.md and the words in docs/FORMAT.md.
 
-Exit status: 0 done; 1 the file or its sheet is faulty; 2 the command is.";
+Exit status: 0 done; 1 the file or its sheet is faulty, or a load is refused; 2 the command is
+faulty.";
 
 /// What the arguments ask for.
 enum Request {
     Say(&'static str),
-    Run { command: Command, file: PathBuf, out: Option<PathBuf> },
+    Run { job: Job, out: Option<PathBuf> },
+}
+
+/// What is to be done: a command with its file, or a class load, as text or as words.
+enum Job {
+    File(Command, PathBuf),
+    Load { load: ClassLoad, text: bool },
 }
 
 type Command = fn(&Path) -> Result<Vec<u8>, String>;
@@ -43,6 +54,7 @@ fn request(args: impl Iterator<Item = OsString>) -> Result<Request, String> {
     let mut args = args;
     let mut words = Vec::new();
     let mut out = None;
+    let mut text = false;
     while let Some(arg) = args.next() {
         match arg.to_str() {
             Some("--help" | "-h") => return Ok(Request::Say(USAGE)),
@@ -52,6 +64,7 @@ fn request(args: impl Iterator<Item = OsString>) -> Result<Request, String> {
                 Some(name) => out = Some(PathBuf::from(name)),
                 None => return Err("expected a file name after -o".to_string()),
             },
+            Some("--text") => text = true,
             Some(flag) if flag.starts_with('-') && flag != "-" => {
                 return Err(format!("unknown flag `{flag}`"));
             }
@@ -62,6 +75,13 @@ fn request(args: impl Iterator<Item = OsString>) -> Result<Request, String> {
     let Some(name) = words.next() else {
         return Err("expected a command".to_string());
     };
+    if name == "load" {
+        let load = class_load::arguments(words)?;
+        return Ok(Request::Run { job: Job::Load { load, text }, out });
+    }
+    if text {
+        return Err("--text goes with `load` only".to_string());
+    }
     let command: Command = match name.to_str() {
         Some("text") => to_text,
         Some("words") => to_words,
@@ -73,14 +93,14 @@ fn request(args: impl Iterator<Item = OsString>) -> Result<Request, String> {
         return Err(format!("expected a FILE after `{}`", name.display()));
     };
     match words.next() {
-        None => Ok(Request::Run { command, file, out }),
+        None => Ok(Request::Run { job: Job::File(command, file), out }),
         Some(more) => Err(format!("expected one FILE, found `{}` too", more.display())),
     }
 }
 
 fn main() -> ExitCode {
-    let (command, file, out) = match request(std::env::args_os().skip(1)) {
-        Ok(Request::Run { command, file, out }) => (command, file, out),
+    let (job, out) = match request(std::env::args_os().skip(1)) {
+        Ok(Request::Run { job, out }) => (job, out),
         Ok(Request::Say(text)) => {
             println!("{text}");
             return ExitCode::SUCCESS;
@@ -90,7 +110,12 @@ fn main() -> ExitCode {
             return ExitCode::from(2);
         }
     };
-    let output = command(&file).map_err(|message| format!("{}: {message}", file.display()));
+    let output = match job {
+        Job::File(command, file) => {
+            command(&file).map_err(|message| format!("{}: {message}", file.display()))
+        }
+        Job::Load { load, text } => class_load::made(load, text),
+    };
     let done = output.and_then(|bytes| match out {
         None => std::io::stdout().write_all(&bytes).map_err(|e| format!("standard output: {e}")),
         Some(out) => std::fs::write(&out, &bytes).map_err(|e| format!("{}: {e}", out.display())),
@@ -119,7 +144,11 @@ fn to_words(file: &Path) -> Result<Vec<u8>, String> {
     };
     let (sheet, _) = text::parse(&text).map_err(|e| e.to_string())?;
     warn(file, &sheet);
-    Ok(sheet.words().iter().flat_map(|word| word.to_le_bytes()).collect())
+    Ok(bytes(&sheet.words()))
+}
+
+fn bytes(words: &[u32]) -> Vec<u8> {
+    words.iter().flat_map(|word| word.to_le_bytes()).collect()
 }
 
 /// The library is asked about the words as they are, faulty ones too.

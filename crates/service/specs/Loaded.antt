@@ -1,0 +1,19 @@
+-- What a class load promises the host: reply and output are those of document 02, order 2.
+use Prim.Native.Nat.{ℕ}
+use mathlib.Core.Path.{_≡_}
+use mathlib.Core.List.{List}
+use lib.ListN.{length}
+use Rattle.model.specs.Call.{Outcome, lengthOf, numberOf, answerAfter}
+use Rattle.model.specs.Load.{load}
+use Rattle.service.specs.declared.Reply.{Reply}
+
+-- what a call that came to `o` and filled one buffer is told to the host as: "It returns the sheet's length and no serial"
+pub record TellsFilled (o : Outcome) (buffer : List ℕ) (r : Reply) (buffer′ : List ℕ) : Type 0 where
+  pub refusal : r .refusal ≡ numberOf o
+  pub serial : r .serial ≡ 0
+  pub long : r .length ≡ lengthOf o
+  pub words : buffer′ ≡ answerAfter (length buffer) o
+
+-- a class load
+abbrev pub Loaded : ℕ → ℕ → ℕ → List ℕ → Reply → List ℕ → Type 0
+Loaded seed n m sheet r sheet′ = TellsFilled (load seed n m (length sheet)) sheet r sheet′
