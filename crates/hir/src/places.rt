@@ -29,16 +29,23 @@ const EFFECTS: [Effect; 8] = [
 // What is added to the position of a reactive place's effect.
 const REACTIVE: u32 = 8;
 
+// The position of the effect that a traits word names.
+fn position_of(traits: u32) -> u32
+    requires { ⌜ traits ≤ mostTraits ⌝ }
+    ensures { λ r. ⌜ r ≡ effectOf traits ⌝ }
+{
+    if REACTIVE <= traits {
+        return traits - REACTIVE;
+    }
+    traits
+}
+
 // The effect that a traits word names.
 pub fn effect_of(traits: u32) -> Effect
     requires { ⌜ traits ≤ mostTraits ⌝ }
     ensures { λ r. ⌜ effectNumber r ≡ effectOf traits ⌝ }
 {
-    if REACTIVE <= traits {
-        let k = (traits - REACTIVE) as usize;
-        return EFFECTS[k];
-    }
-    let k = traits as usize;
+    let k = position_of(traits) as usize;
     EFFECTS[k]
 }
 

@@ -22,6 +22,11 @@ unfolding reactiveOf traitsWord
 reactive-of-traits e true h = le-leb reactiveTraits (e + reactiveTraits) (omega arith)
 reactive-of-traits e false h = lt-leb reactiveTraits (e + 0) (omega (arith, h))
 
+-- there are eight positions
+pub effect-below : (t : ℕ) → effectOf t < reactiveTraits
+unfolding effectOf
+effect-below t = omega arith
+
 -- below 8 the word is the effect's position
 pub effect-plain : (t : ℕ) → t < reactiveTraits → effectOf t ≡ t
 unfolding effectOf
