@@ -1,10 +1,11 @@
 -- What a number that was read is known to be.
-use Prim.Native.Nat.{ℕ, zero, suc, _≤_, _<_}
+use Prim.Native.Nat.{ℕ, zero, suc, _<_}
 use mathlib.Core.Path.{_≡_, refl}
 use mathlib.Core.List.{List, [], _∷_}
 use lib.Dec.{eqb, eqb→eq}
 use lib.ListN.{getD}
 use Rattle.model.specs.Sheet.{other}
+use Rattle.model.specs.Traits.{reactiveTraits}
 use Rattle.model.specs.Sections.{typeOf}
 use Rattle.hir.specs.Numbers.{effectNumber}
 use Rattle.hir.specs.declared.Effect.{Effect}
@@ -20,7 +21,7 @@ other-type (suc (suc zero)) a b = absurd (b refl)
 other-type (suc (suc (suc k))) a b = refl
 
 -- there are eight effects
-pub effect-number : (e : Effect) → effectNumber e ≤ 7
+pub effect-number : (e : Effect) → effectNumber e < reactiveTraits
 effect-number Unknown = omega arith
 effect-number Freeze = omega arith
 effect-number Reading = omega arith
@@ -34,5 +35,5 @@ effect-number Store = omega arith
 abbrev pub effects : List Effect
 effects = Unknown ∷ Freeze ∷ Reading ∷ Capture ∷ ConditionallyMutateIterator ∷ ConditionallyMutate ∷ Mutate ∷ Store ∷ []
 
-pub effect-right : (k : ℕ) → k < 8 → effectNumber (getD effects k Unknown) ≡ k
+pub effect-right : (k : ℕ) → k < reactiveTraits → effectNumber (getD effects k Unknown) ≡ k
 effect-right k h = eqb→eq _ _ (at Unknown (λ (i : ℕ) (e : Effect). eqb (effectNumber e) i) effects tt k (omega arith))

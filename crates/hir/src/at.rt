@@ -17,7 +17,7 @@ use crate::MutableRange;
 use crate::Place;
 use crate::effects::row_of;
 use crate::parts::type_of;
-use crate::places::effect_of;
+use crate::places::effect_in;
 use crate::places::reactive_of;
 
 pub const PLACE_WIDTH: usize = 3;
@@ -68,7 +68,7 @@ pub fn place_at(s: &[u32], at: usize) -> Place
     ensures { λ r. ⌜ placeIs r ≡ placeAt (now (s .entry)) at ⌝ }
 {
     let traits = s[at + 1];
-    let effect = effect_of(traits);
+    let effect = effect_in(traits);
     let reactive = reactive_of(traits);
     Place {
         identifier: IdentifierId(s[at]),

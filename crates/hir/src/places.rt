@@ -1,5 +1,7 @@
 // A place: an identifier, the traits word split into its parts, a span.
 ghost use mathlib.Core.Path.{_≡_};
+ghost use Prim.Native.Nat.{_≤_};
+ghost use Rattle.model.specs.Limits.{mostTraits};
 ghost use Rattle.model.specs.Traits.{effectOf, reactiveOf, traitsWord};
 ghost use Rattle.model.specs.Sections.{place, unused};
 ghost use Rattle.hir.specs.Numbers.{effectNumber};
@@ -24,11 +26,26 @@ const EFFECTS: [Effect; 8] = [
     Effect::Store,
 ];
 
+// What is added to the position of a reactive place's effect.
+const REACTIVE: u32 = 8;
+
+// The position of the effect that a traits word names.
+fn position_of(traits: u32) -> u32
+    requires { ⌜ traits ≤ mostTraits ⌝ }
+    ensures { λ r. ⌜ r ≡ effectOf traits ⌝ }
+{
+    if REACTIVE <= traits {
+        return traits - REACTIVE;
+    }
+    traits
+}
+
 // The effect that a traits word names.
 pub fn effect_of(traits: u32) -> Effect
+    requires { ⌜ traits ≤ mostTraits ⌝ }
     ensures { λ r. ⌜ effectNumber r ≡ effectOf traits ⌝ }
 {
-    let k = (traits % 8) as usize;
+    let k = position_of(traits) as usize;
     EFFECTS[k]
 }
 
@@ -36,7 +53,14 @@ pub fn effect_of(traits: u32) -> Effect
 pub fn reactive_of(traits: u32) -> bool
     ensures { λ r. ⌜ r ≡ reactiveOf traits ⌝ }
 {
-    8 <= traits
+    REACTIVE <= traits
+}
+
+// The effect that any word names as a traits word: by its lowest four bits.
+pub fn effect_in(word: u32) -> Effect
+    ensures { λ r. ⌜ effectNumber r ≡ effectOf word ⌝ }
+{
+    effect_of(word % (MOST_TRAITS + 1))
 }
 
 // The traits word of both.
@@ -45,7 +69,7 @@ pub fn traits_word(effect: Effect, reactive: bool) -> u32
 {
     let position = effect.number();
     if reactive {
-        return position + 8;
+        return position + REACTIVE;
     }
     position
 }

@@ -1,16 +1,16 @@
 -- Every sheet within its limits is read back from its words.
-use Prim.Native.Nat.{ℕ, _+_, _≤_, _<_}
+use Prim.Native.Nat.{ℕ, _+_, _≤_}
 use native.Mathlib.Omega.{arith}
 use mathlib.Core.Path.{_≡_, refl, sym, ap, subst, _∙_}
 use mathlib.Core.Bool.{Bool, true, false}
 use mathlib.Core.List.{List, [], _∷_, _++_, append-nil}
 use lib.ListN.{length}
 use lib.Dec.{leb}
-use borrow.Author.Tests.{le-leb, lt-leb, le-ltb}
+use borrow.Author.Tests.{le-ltb}
 use Rattle.model.specs.Limits.{flagCount, mostFlag, mostIdentifiers, mostRange, mostType, mostFunctions, mostInnerDiagnostics, mostDiagnostic, mostParams, mostContext, returnsCount, mostBlocks, mostCount, mostOrder, mostTerminal, mostTraits, mostKind, mostSheet}
 use Rattle.model.specs.Lists.{pick, gather, among, Every, oneIf}
 use Rattle.model.specs.Sheet.{Flags, Identifier, IdentifierType, other, primitive, jsx, Diagnostic, InnerFunction, Place, unusedPlace, EffectKind, Freeze, Mutate, MutateConditionally, MutateTransitive, MutateTransitiveConditionally, Capture, Alias, MaybeAlias, Assign, Create, CreateFrom, ImmutableCapture, Apply, CreateFunction, MutateFrozen, MutateGlobal, Impure, Render, Effect, EffectList, Operand, Phi, Instruction, Terminal, Other, Return, MaybeThrow, BlockId, Block, Sheet}
-use Rattle.model.specs.Traits.{reactiveTraits, effectOf, reactiveOf, traitsWord}
+use Rattle.model.specs.Traits.{reactiveOf, traitsWord}
 use Rattle.model.specs.Effects.{kindOf, rowOf, isCreateFunction}
 use Rattle.model.specs.Reading.{got, Read, _>>=_, pure, word, count, fixed, atMost, below, numbered, counted}
 use Rattle.model.specs.Sections.{flag, flags, typeOf, identifier, diagnostic, innerFunction, place, unused, extra, effect, effects, operand, phi, instruction, terminalOf, terminal, block, sheet}
@@ -19,6 +19,7 @@ use Rattle.model.specs.Totals.{totals, over, judged}
 use Rattle.model.specs.Call.{ended, read, IsSheet}
 use Rattle.model.specs.Encoder.{flagsWords, typeWord, identifierWords, functionWords, effectsWords, operandWords, phiWords, instructionWords, terminalWords, blockRest, blockWords, sheetWords, IdentifierFits, DiagnosticFits, FunctionFits, PlaceFits, UsedFits, ExtraFits, EffectFits, EffectsFit, OperandFits, PhiFits, InstructionFits, TerminalFits, BlockFits, SheetFits}
 use Rattle.model.proofs.Everywhere.{every-mem}
+use Rattle.model.proofs.Traits.{traits-few, effect-of-traits, reactive-of-traits}
 use Rattle.model.proofs.BackLaws.{Back, pure-back, bind-back, word-back, atMost-back, below-back, count-back, fixed-back, counted-back, numbered-back}
 
 -- ---- flags and identifiers
@@ -74,21 +75,6 @@ function-back f h =
     (pure-back f))
 
 -- ---- places
-traits-few : (e : ℕ) (r : Bool) → e < reactiveTraits → traitsWord e r ≤ mostTraits
-unfolding traitsWord
-traits-few e true h = omega (arith, h)
-traits-few e false h = omega (arith, h)
-
-effect-of-traits : (e : ℕ) (r : Bool) → e < reactiveTraits → effectOf (traitsWord e r) ≡ e
-unfolding effectOf traitsWord
-effect-of-traits e true h = omega (arith, h)
-effect-of-traits e false h = omega (arith, h)
-
-reactive-of-traits : (e : ℕ) (r : Bool) → e < reactiveTraits → reactiveOf (traitsWord e r) ≡ r
-unfolding reactiveOf traitsWord
-reactive-of-traits e true h = le-leb reactiveTraits (e + reactiveTraits) (omega arith)
-reactive-of-traits e false h = lt-leb reactiveTraits (e + 0) (omega (arith, h))
-
 abbrev placeBy : ℕ → ℕ → Bool → ℕ → Place
 placeBy i e r s = record { identifier = i; effect = e; reactive = r; span = s }
 

@@ -31,6 +31,7 @@ pub mod Either
 pub mod Everywhere
 pub mod Tallies
 pub mod ReadLaws
+pub mod Traits
 pub mod Got
 pub mod InRange
 pub mod Distinct

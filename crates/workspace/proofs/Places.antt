@@ -3,37 +3,20 @@ use Prim.Native.Nat.{ℕ, zero, suc, _+_, _*_, _/_, _%_, _≤_, _<_}
 use native.Mathlib.Omega.{arith}
 use native.Mathlib.Nat.{add-zero, add-suc}
 use native.Mathlib.Numerals.{add-one}
-use mathlib.Core.Bool.{Bool, true, false}
 use mathlib.Core.List.{List, [], _∷_, _++_, append-nil, append-assoc}
 use mathlib.Core.Path.{_≡_, sym, ap, _∙_}
 use lib.ListN.{length, getD, set, take, drop, length-set}
 use lib.Seq.{getD-set-same, getD-set-other}
-use borrow.Author.Tests.{le-leb, lt-leb}
 use Rattle.model.specs.Limits.{mostIdentifiers}
 use Rattle.model.specs.Sheet.{Place}
-use Rattle.model.specs.Traits.{effectOf, reactiveOf, traitsWord}
+use Rattle.model.specs.Traits.{reactiveTraits, traitsWord}
+use Rattle.model.proofs.Traits.{effect-of-traits, reactive-of-traits}
 use Rattle.workspace.specs.Layout.{TRACKED}
 use Rattle.workspace.specs.Rows.{Kept}
 use Rattle.workspace.specs.Graph.{tab}
 use Rattle.workspace.specs.Tracked.{placeOf, trackedAt, trackedOf, trackedFrom, Tracks}
 use Rattle.workspace.proofs.Parts.{kept-none, kept-set, take-word, drop-word}
 use Rattle.workspace.proofs.Tables.{tab-same}
-
--- a traits word, taken apart again
-effect-back : (e : ℕ) (r : Bool) → e ≤ 7 → effectOf (traitsWord e r) ≡ e
-unfolding effectOf traitsWord
-effect-back e true h = omega (arith, h)
-effect-back e false h = omega (arith, h)
-
-reactive-back : (e : ℕ) (r : Bool) → e ≤ 7 → reactiveOf (traitsWord e r) ≡ r
-unfolding reactiveOf traitsWord
-reactive-back e true h = le-leb 8 (e + 8) (omega (arith, h))
-reactive-back e false h = lt-leb 8 (e + 0) (omega (arith, h))
-
-pub traits-most : (e : ℕ) (r : Bool) → e ≤ 7 → traitsWord e r ≤ 15
-unfolding traitsWord
-traits-most e true h = omega (arith, h)
-traits-most e false h = omega (arith, h)
 
 low : (i t : ℕ) → i < mostIdentifiers → (i + 512 * t) % 512 ≡ i
 low i t h = omega (arith, h)
@@ -42,12 +25,12 @@ high : (i t : ℕ) → i < mostIdentifiers → (i + 512 * t) / 512 ≡ t
 high i t h = omega (arith, h)
 
 -- both words
-place-back : (p : Place) (t : ℕ) → p .identifier < mostIdentifiers → p .effect ≤ 7 → t ≡ traitsWord (p .effect) (p .reactive) → placeOf (p .identifier + 512 * t) (p .span) ≡ p
+place-back : (p : Place) (t : ℕ) → p .identifier < mostIdentifiers → p .effect < reactiveTraits → t ≡ traitsWord (p .effect) (p .reactive) → placeOf (p .identifier + 512 * t) (p .span) ≡ p
 unfolding placeOf
 place-back p t h k e =
     let a : (p .identifier + 512 * t) % 512 ≡ p .identifier = low (p .identifier) t h in
     let b : (p .identifier + 512 * t) / 512 ≡ t = high (p .identifier) t h in
-    rw (a, b, e, effect-back, reactive-back)
+    rw (a, b, e, effect-of-traits, reactive-of-traits)
 
 place-below : (w s : ℕ) → placeOf w s .identifier < mostIdentifiers
 unfolding placeOf
@@ -99,7 +82,7 @@ unfolding trackedOf
 tracked-kept ws ws′ n e = tab-same n (trackedAt ws′) (trackedAt ws) (λ i h. tracked-high ws ws′ 0 i (omega arith) e)
 
 -- ---- a place is stored
-module _ (ws : List ℕ) (i : ℕ) (p : Place) (t : ℕ) (h : TRACKED + 2 * i + 1 < length ws) (e : t ≡ traitsWord (p .effect) (p .reactive)) (b : p .identifier < mostIdentifiers) (k : p .effect ≤ 7) where
+module _ (ws : List ℕ) (i : ℕ) (p : Place) (t : ℕ) (h : TRACKED + 2 * i + 1 < length ws) (e : t ≡ traitsWord (p .effect) (p .reactive)) (b : p .identifier < mostIdentifiers) (k : p .effect < reactiveTraits) where
   abbrev stored : List ℕ
   stored = set (set ws (TRACKED + 2 * i) (p .identifier + 512 * t)) (TRACKED + 2 * i + 1) (p .span)
 

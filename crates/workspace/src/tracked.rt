@@ -9,7 +9,7 @@ ghost use Rattle.workspace.specs.Tracked.{mostTracked, trackedAt, Tracks
 use crate::TRACKED;
 use hir::IdentifierId;
 use hir::Place;
-use hir::places::effect_of;
+use hir::places::effect_in;
 use hir::places::reactive_of;
 use hir::places::traits_word;
 
@@ -33,7 +33,7 @@ pub fn tracked(ws: &[u32], i: usize) -> Place
 {
     let w = ws[TRACKED + 2 * i];
     let span = ws[TRACKED + 2 * i + 1];
-    let effect = effect_of(w / 512);
+    let effect = effect_in(w / 512);
     let reactive = reactive_of(w / 512);
     Place {
         identifier: IdentifierId(w % 512),

@@ -1,3 +1,5 @@
+use Rattle.model.specs.Limits.{mostTraits}
+use Rattle.model.proofs.ReadLaws.{atMost-reads}
 use Rattle.hir.specs.Says.{wordSays}
 use Rattle.hir.proofs.Answers.{says}
 use Rattle.model.specs.Sections.{place}
@@ -24,7 +26,9 @@ enum-known-span : tie.Need-enum-known-span
 enum-known-span c = search needs
 
 effect-of-requires : tie.Need-effect-of-requires
-effect-of-requires c κs = search needs
+effect-of-requires c κs =
+    let b5 = c .before .before .before .before .before in
+    atMost-reads mostTraits _ _ _ _ (says wordSays (b5 .traits .given .1) (b5 .before .before .at-most .ensures))
 
 reactive-of-requires : tie.Need-reactive-of-requires
 reactive-of-requires c κs = search needs

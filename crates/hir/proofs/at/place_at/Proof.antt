@@ -12,8 +12,8 @@ mul-traits c = search needs
 shared-slice-read-traits : tie.Need-shared-slice-read-traits
 shared-slice-read-traits c = search needs
 
-effect-of-requires : tie.Need-effect-of-requires
-effect-of-requires c κs = search needs
+effect-in-requires : tie.Need-effect-in-requires
+effect-in-requires c κs = search needs
 
 reactive-of-requires : tie.Need-reactive-of-requires
 reactive-of-requires c κs = search needs
@@ -34,7 +34,7 @@ shared-slice-read-t14 : tie.Need-shared-slice-read-t14
 shared-slice-read-t14 c = search needs
 
 returns : tie.Need-returns
-returns c = traits-same _ _ (c .before .before .before .effect-of .ensures) (c .before .before .reactive-of .ensures)
+returns c = traits-same _ _ (c .before .before .before .effect-in .ensures) (c .before .before .reactive-of .ensures)
 
 pub place-at-spec : {M : Type 1} → statement M
 place-at-spec =
@@ -43,7 +43,7 @@ place-at-spec =
     add-traits
     mul-traits
     shared-slice-read-traits
-    effect-of-requires
+    effect-in-requires
     reactive-of-requires
     mul-t6
     shared-slice-read-t9

@@ -1,6 +1,7 @@
 use Rattle.hir.specs.Numbers.{effectNumber}
 use lib.ListN.{length-set}
-use Rattle.workspace.proofs.Places.{place-stored, traits-most}
+use Rattle.model.proofs.Traits.{traits-few}
+use Rattle.workspace.proofs.Places.{place-stored}
 use Rattle.hir.proofs.Ranges.{effect-number}
 use native.Mathlib.Omega.{arith}
 use borrow.Author.Needs.{needs}
@@ -13,12 +14,12 @@ traits-word-requires c κs = search needs
 mul-ws : tie.Need-mul-ws
 mul-ws c =
     let b3 = c .before .before .before in
-    omega (arith, c .traits-word .ensures, traits-most (effectNumber (b3 .args .p .effect)) (b3 .args .p .reactive) (effect-number (b3 .args .p .effect)))
+    omega (arith, c .traits-word .ensures, traits-few (effectNumber (b3 .args .p .effect)) (b3 .args .p .reactive) (effect-number (b3 .args .p .effect)))
 
 add-ws : tie.Need-add-ws
 add-ws c =
     let b4 = c .before .before .before .before in
-    omega (arith, c .before .traits-word .ensures, traits-most (effectNumber (b4 .args .p .effect)) (b4 .args .p .reactive) (effect-number (b4 .args .p .effect)))
+    omega (arith, c .before .traits-word .ensures, traits-few (effectNumber (b4 .args .p .effect)) (b4 .args .p .reactive) (effect-number (b4 .args .p .effect)))
 
 mul-ws-2 : tie.Need-mul-ws-2
 mul-ws-2 c = search needs

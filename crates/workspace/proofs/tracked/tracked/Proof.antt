@@ -30,15 +30,15 @@ mul-span-2 c = search needs
 shared-slice-read-span : tie.Need-shared-slice-read-span
 shared-slice-read-span c = search needs
 
-effect-of-requires : tie.Need-effect-of-requires
-effect-of-requires c κs = search needs
+effect-in-requires : tie.Need-effect-in-requires
+effect-in-requires c κs = search needs
 
 reactive-of-requires : tie.Need-reactive-of-requires
 reactive-of-requires c κs = search needs
 
 returns : tie.Need-returns
 unfolding trackedAt placeOf
-returns c = rw (c .before .effect-of .ensures, c .reactive-of .ensures)
+returns c = rw (c .before .effect-in .ensures, c .reactive-of .ensures)
 
 pub tracked-spec : {M : Type 1} → statement M
 tracked-spec =
@@ -53,6 +53,6 @@ tracked-spec =
     add-span-2
     mul-span-2
     shared-slice-read-span
-    effect-of-requires
+    effect-in-requires
     reactive-of-requires
     returns)
