@@ -49,6 +49,7 @@ def numbers_by_name(head):
 TYPE = numbers_by_name("type")
 EFFECT = numbers_by_name("effect")
 TERMINAL = numbers_by_name("terminal")
+INSTRUCTION = numbers_by_name("value")
 KIND = numbers_by_name("kind")
 REASON = numbers_by_name("reason")
 VALUE = numbers_by_name("value kind")
@@ -77,6 +78,7 @@ CREATE = said_once(r"\| ([\d,]+) × reason \+ value kind")
 ASSIGN_CURRENT_PROPERTY = said_once(r"\| ([\d,]+) is AssignCurrentProperty")
 FUNCTION_DIAGNOSTICS = said_once(r"a count, at most ([\d,]+), and so many diagnostics")
 LIST = said_once(r"A \*\*list of effects\*\* is a count, at most ([\d,]+),")
+PLACE_LIST = said_once(r"A \*\*list of places\*\* is a count, at most ([\d,]+),")
 for part in ("phis", "operands", "instructions"):
     assert LIST == said_once(rf"[Aa] count of {part}, at most ([\d,]+),"), part
 
@@ -114,20 +116,30 @@ def phi(place, *operands):
     return place + counted([[predecessor] + operand for predecessor, operand in operands])
 
 
-def instruction(order, *effects):
-    return [order] + counted(effects)
+def inner(diagnostics=(), context=()):
+    """An inner function; each diagnostic is [identity, instance]."""
+    return counted(diagnostics) + counted(context)
 
 
-def other(order):
-    return [TERMINAL["Other"], order]
+def instruction(order, *effects, lvalue=(0, 0, 0), lvalues=(), operands=(), function=None, stores=None):
+    value = [INSTRUCTION["Plain"]]
+    if function is not None:
+        value = [INSTRUCTION["Function"], function]
+    if stores is not None:
+        value = [INSTRUCTION["StoreContext"], stores]
+    return [order] + list(lvalue) + counted(lvalues) + counted(operands) + value + counted(effects)
+
+
+def other(order, *operands):
+    return [TERMINAL["Other"], order] + counted(operands)
 
 
 def returned(order, value, *effects):
-    return [TERMINAL["Return"], order] + value + counted(effects)
+    return [TERMINAL["Return"], order] + value + counted(effects) + [0]
 
 
 def maybe_throw(order, *effects):
-    return [TERMINAL["MaybeThrow"], order] + counted(effects)
+    return [TERMINAL["MaybeThrow"], order] + counted(effects) + [0]
 
 
 def block(number, phis, instructions, terminal):
@@ -135,11 +147,11 @@ def block(number, phis, instructions, terminal):
 
 
 def sheet(identifiers, returns, blocks=(), functions=(), params=(), context=(), flags=(0, 1)):
-    """Identifiers are (start, end, type), functions lists of diagnostics, each [identity, instance]."""
+    """Identifiers are (start, end, type), functions the words of `inner`."""
     return (
         counted([[flag] for flag in flags])
         + counted([[start, end, TYPE[kind]] for start, end, kind in identifiers])
-        + counted([counted(function) for function in functions])
+        + counted(functions)
         + counted(params)
         + counted(context)
         + counted([returns])
@@ -157,17 +169,17 @@ def run(program, data):
 
 
 def answer_of_bytes(data):
-    """The six lines, or the refusal's number."""
+    """The ten lines, or the refusal's number."""
     done = run([TOOL, "answer", "-"], data)
     if done.returncode == 0:
         assert done.stderr == b"", done.stderr
         said = done.stdout.decode()
     else:
-        said = "refused " + re.match(r"sheet: -: refused (\d): ", done.stderr.decode())[1] + "\n"
+        said = "refused " + re.match(r"sheet: -: refused (\d+): ", done.stderr.decode())[1] + "\n"
     if RANGES:
         ranges = run([RANGES], data).stdout.decode()
         # The program lends 16,384 words.
-        assert ranges == said or ranges == "refused 9\n" and len(said.split()) - 6 > 16_384, (ranges, said)
+        assert ranges == said or ranges == "refused 9\n" and len(said.split()) - 10 > 16_384, (ranges, said)
     return said.splitlines() if done.returncode == 0 else int(said.split()[1])
 
 
@@ -205,7 +217,10 @@ EVERY_PART = sheet(
         (0, 0, "Other"),  # item
         (0, 1_000_000, "Other"),  # rest
     ],
-    functions=[[[500, 31], [501, 30]], [[600, 0]]],
+    functions=[
+        inner([[500, 31], [501, 30]], [place(LIST_, "Mutate", reactive=True, span=21), place(THEME, span=22)]),
+        inner([[600, 0]], [place(PROPS, "Store", span=23)]),
+    ],
     params=[place(PROPS, "Read", reactive=True, span=11), place(REST, "Store", span=12)],
     context=[place(THEME, "ConditionallyMutate", span=13)],
     returns=place(RESULT, "Freeze", reactive=True, span=14),
@@ -218,20 +233,27 @@ EVERY_PART = sheet(
                     1,
                     create(place(LIST_), "Mutable", "KnownReturnSignature"),
                     effect("Capture", place(PROPS), place(LIST_, "Store")),  # index 0
+                    lvalue=place(LIST_, "Store", span=31),
+                    operands=[place(PROPS, reactive=True, span=32)],
                 ),
                 instruction(
                     2,
                     effect("CreateFunction", place(SHOWN), extra=F0),
                     effect("CreateFunction", place(CHANGED), extra=F1),
                     effect("Capture", place(CHANGED), place(LIST_)),  # 1
+                    lvalue=place(SHOWN),
+                    function=F0,
                 ),
                 instruction(
                     3,
                     effect("CreateFrom", place(THEME), place(ITEM)),  # 2
                     effect("MutateConditionally", place(ITEM, "ConditionallyMutate", span=70)),  # 3
+                    lvalue=place(ITEM),
+                    lvalues=[place(LABEL, "Read")],
+                    operands=[place(THEME)],
                 ),
             ],
-            other(4),
+            other(4, place(PICKED, "Store", reactive=True)),
         ),
         block(
             20,
@@ -247,8 +269,16 @@ EVERY_PART = sheet(
                     5,
                     create(place(LABEL), "Primitive", "StoreLocal"),
                     diagnosis("Impure", place(LABEL, "Read", span=75), 700, 65_535),
+                    lvalue=place(LABEL),
                 ),
-                instruction(6, effect("MutateTransitive", place(PICKED, "Mutate", span=77))),  # 6
+                instruction(
+                    6,
+                    effect("MutateTransitive", place(PICKED, "Mutate", span=77)),  # 6
+                    lvalue=place(RESULT),
+                    lvalues=[place(CHANGED, "Read", span=41)],
+                    operands=[place(CHANGED, span=42), place(ITEM, "Mutate")],
+                    stores=ITEM,
+                ),
             ],
             maybe_throw(
                 7,
@@ -264,6 +294,8 @@ EVERY_PART = sheet(
                     8,
                     effect("Render", place(SHOWN, "Read", reactive=True, span=88)),  # 8
                     effect("Mutate", place(REST, "Mutate", span=99), extra=ASSIGN_CURRENT_PROPERTY),  # 9
+                    lvalue=place(REST),
+                    operands=[place(SHOWN), place(REST)],
                 )
             ],
             returned(
@@ -315,8 +347,23 @@ EVERY_PART = sheet(
 #   backwards, pushes result, props, list; list pushes picked, props, changed; changed pushes list,
 #   shown; shown pushes changed; changed-, list-, props pushes list, picked; picked-, list-,
 #   picked-, props-, result-. 15 entries. props was met: Alias from props into result.
+#
+# Then the pass over operands, from the ends props 7, theme 4, list 7, shown 0, picked 7, label 6,
+# result 0, changed 7, item 4 and rest 1,000,000:
+# - At 1: list, whose end is above 1, is Store and so props Capture; props starts at 1.
+# - At 2: shown, an lvalue, is 2..3. Of the function that is made, list is Store and theme, not
+#   named by the effects, Read; theme starts at 2.
+# - At 3: item starts at 3, and is ConditionallyMutate by the last effect that names it; theme is
+#   Capture, since item's end is above 3. label has a range.
+# - Block 20 begins at 5: picked's end is above it, so that its operands are Capture and it starts
+#   at 4.
+# - At 6: result is 6..7; changed, a value lvalue, starts at 6. Both operands are Read: item's end is
+#   not above 6. Then item is stored, and its end, 4, becomes 7.
+# - At 8: rest starts at 8 and is Store; shown, whose end is 3, is Read.
+# - The value of Return is Freeze; the other terminal's operand Read, still reactive.
+# - The second inner function is made by no instruction.
 EVERY_PART_ANSWER = [
-    "ranges 10 0 7 0 4 1 7 0 0 0 7 5 6 0 0 0 7 0 4 0 1000000",
+    "ranges 10 1 7 2 4 1 7 2 3 4 7 5 6 6 7 6 7 3 7 8 1000000",
     # Capture is 3: props stays reactive (8 more).
     "params 2 0 11 11 9 3 12",
     "context 1 1 3 13",
@@ -336,6 +383,20 @@ EVERY_PART_ANSWER = [
         ]
     ),
     "walks 7 3 9 1 13 1 3 15",
+    "phis 3 4 7 4294967295 0 11 0 2 3 0",
+    " ".join(
+        [
+            "instructions 14",
+            "2 7 31 0 11 32",  # at 1
+            "3 5 0",  # at 2
+            "8 5 0 5 5 0 1 3 0",  # at 3
+            "5 5 0",  # at 5
+            "6 5 0 7 5 41 7 2 42 8 2 0",  # at 6
+            "9 7 0 3 2 0 9 7 0",  # at 8
+        ]
+    ),
+    "terminals 2 4 10 0 4 1 0",
+    "inner 3 2 15 21 1 2 22 0 7 23",
 ]
 
 
@@ -377,6 +438,8 @@ def names():
             text = f"Render x0{'' if name == 'Unknown' else ' ' + name}{' reactive' if reactive else ''}"
             add(text, effect("Render", place(0, name, reactive)))
     for name in KIND:
+        if name == "Apply":
+            continue  # in the terminal below
         behind = {"CreateFunction": " function f0"}.get(name, " diagnostic 0/0" if MOST_EXTRA[name] > 100 else "")
         places = ["", " x0", " x0 into x1"][PLACES[name]]
         add(name + places + behind, effect(name, *[place(0), place(1)][:PLACES[name]]))
@@ -387,17 +450,28 @@ def names():
             add("Create x0" + text, create(place(0), value, name))
     add("Mutate x0 reason AssignCurrentProperty", effect("Mutate", place(0), extra=ASSIGN_CURRENT_PROPERTY))
     identifiers = [(0, 0, name) for name in TYPE]
-    terminals = [other(2), returned(3, place(0)), maybe_throw(4)]
+    terminals = [other(2, place(1), place(2, "Read")), returned(3, place(0)), maybe_throw(4, effect("Apply"))]
     blocks = [block(i, [], [], terminal) for i, terminal in enumerate(terminals, 1)]
-    words = sheet(identifiers, place(0), [block(0, [], [instruction(1, *effects)], other(2))] + blocks, [[]])
+    values = [
+        instruction(5, lvalue=place(1), lvalues=[place(0, "Store")], operands=[place(2, span=9)]),
+        instruction(6, function=0),
+        instruction(7, lvalue=place(0, "Read"), stores=2),
+    ]
+    blocks.append(block(4, [], values, other(8)))
+    functions = [inner([], [place(1, "Capture"), place(0)])]
+    words = sheet(identifiers, place(0), [block(0, [], [instruction(1, *effects)], other(2))] + blocks, functions)
     done = run([TOOL, "text", "-"], bytes_of(words))
     check(done.stderr, b"", "the tool on a sheet with every name")
     text = [line.strip() for line in done.stdout.decode().splitlines()]
     expected = ["flags validations"]
     expected += [f"identifier x{i}" + unless_first("type", name, TYPE) for i, name in enumerate(TYPE)]
-    expected += ["function f0", "returns x0", "block 0", "instruction at 1"] + lines + ["terminal Other at 2"]
-    expected += ["block 1", "terminal Other at 2", "block 2", "terminal Return x0 at 3"]
-    expected += ["block 3", "terminal MaybeThrow at 4"]
+    expected += ["function f0 context x1 Capture context x0", "returns x0"]
+    expected += ["block 0", "instruction at 1"] + lines + ["terminal Other at 2"]
+    expected += ["block 1", "terminal Other at 2", "operand x1", "operand x2 Read"]
+    expected += ["block 2", "terminal Return x0 at 3", "block 3", "terminal MaybeThrow at 4", "Apply"]
+    expected += ["block 4", "instruction at 5 lvalue x1", "lvalue x0 Store", "operand x2 span 9"]
+    expected += ["instruction at 6 function f0", "instruction at 7 lvalue x0 Read StoreContext x2"]
+    expected += ["terminal Other at 8"]
     check(text, expected, "the names of a sheet's parts")
 
 
@@ -434,7 +508,9 @@ def limits():
     word("an inner function's diagnostics", head + [1], FUNCTION_DIAGNOSTICS, 4)
     word("identity", head + [1, 1], most("a diagnostic's identity"), 5)
     word("instance", head + [1, 1, 0], most("a diagnostic's instance"), 5)
-    head += [1, 0]
+    word("an inner function's context", head + [1, 0], PLACE_LIST, 4)
+    word("an inner function's context place", head + [1, 0, 1], 1, 5)
+    head += [1, 0, 0]
     word("parameters", head, COUNT["parameters"], 4)
     check(MOST["a place's identifier"], "N - 1", "a place's identifier")
     word("a place's identifier", head + [1], 1, 5)
@@ -456,32 +532,49 @@ def limits():
     head += [0]
     word("instructions", head, LIST, 4)
     word("order", head + [1], most("order"), 5)
-    word("effects", head + [1, 0], LIST, 4)
-    word("effect kind", head + [1, 0, 1], most("effect kind"), 5)
+    word("lvalue", head + [1, 0], 1, 5)
+    plain = head + [1, 0] + place(0)
+    word("value lvalues", plain, PLACE_LIST, 4)
+    word("a value lvalue", plain + [1], 1, 5)
+    word("operands of an instruction", plain + [0], PLACE_LIST, 4)
+    word("an operand", plain + [0, 1], 1, 5)
+    word("value", plain + [0, 0], most("value"), 5)
+    check(most("value"), len(INSTRUCTION) - 1, "values")
+    check(MOST["a value's inner function"], "their count - 1", "a value's inner function")
+    word("a value's inner function", plain + [0, 0, INSTRUCTION["Function"]], 0, 5)
+    check(MOST["a stored identifier"], "N - 1", "a stored identifier")
+    word("a stored identifier", plain + [0, 0, INSTRUCTION["StoreContext"]], 1, 5)
+    plain += [0, 0, INSTRUCTION["Plain"]]
+    word("effects", plain, LIST, 4)
+    word("effect kind", plain + [1], most("effect kind"), 5)
     check(most("effect kind"), len(KIND) - 1, "effect kinds")
     for kind in KIND:
-        words = head + [1, 0, 1] + effect(kind, *[place(0), place(0)][:PLACES[kind]])
+        words = plain + [1] + effect(kind, *[place(0), place(0)][:PLACES[kind]])
         for at in range(3 * PLACES[kind], 6):
             instance = at == 3 and kind in ("MutateFrozen", "MutateGlobal", "Impure")
             largest = most("a diagnostic's instance") if instance else 0
             word(f"word of a place that {kind} does not use", cut(words, 7 - at), largest, 5)
         word(f"extra word of {kind}", cut(words, 1), 0 if kind == "CreateFunction" else MOST_EXTRA[kind], 5)
-    many = sheet([(0, 0, "Other")], place(0), [[7] + counted([]) + [1, 0, 1]], [[]] * COUNT["inner functions"])
+    many = sheet([(0, 0, "Other")], place(0), [[7] + counted([]) + [1]], [inner()] * COUNT["inner functions"])
+    many += [0] + place(0) + [0, 0, INSTRUCTION["Plain"], 1]
     word("extra word of CreateFunction", many + [KIND["CreateFunction"]] + [0] * 6, MOST_EXTRA["CreateFunction"], 5)
     head += [0]
     word("terminal kind", head, most("terminal kind"), 5)
     check(most("terminal kind"), len(TERMINAL) - 1, "terminals")
-    for kind, at_end in ((0, True), (1, False), (2, False)):
-        check(isinstance(answer(head + [kind, most("order")]), list), at_end, f"terminal {kind}")
-        check(answer(head + [kind, most("order") + 1]), 5, f"the order of terminal {kind}")
-    word("effects of Return", head + [1, 0, 0, 0, 0], LIST, 4)
-    word("effects of MaybeThrow", head + [2, 0], LIST, 4)
+    for kind in range(len(TERMINAL)):
+        word(f"the order of terminal {kind}", head + [kind], most("order"), 5)
+    word("operands of a terminal", head + [0, 0], PLACE_LIST, 4)
+    word("an operand of a terminal", head + [0, 0, 1], 1, 5)
+    for what, before in (("Return", [1, 0, 0, 0, 0]), ("MaybeThrow", [2, 0])):
+        word(f"effects of {what}", head + before, LIST, 4)
+        check(isinstance(answer(head + before + [0, 0]), list), True, f"{what} without operands")
+        check(answer(head + before + [0, 1]), 4, f"{what} with an operand")
 
 
 # ---- refusals 2, 6, 7 and 8, and which comes first
 
 def refusals():
-    check([row[0] for row in table("refusal", "what is wrong")], list("123456789"), "the refusals")
+    check([row[0] for row in table("refusal", "what is wrong")], [str(n) for n in range(1, 11)], "the refusals")
 
     def blocks(*all_):
         return sheet([(0, 0, "Other")], place(0), all_)
@@ -514,7 +607,7 @@ def refusals():
     most |= {kind: TOTAL["mutations"] for kind in range(first, last + 1)} | {int(renders): TOTAL["renders"]}
     for name, kind in KIND.items():
         one = effect(name, *[place(0), place(0)][:PLACES[name]])
-        functions = [[]] if name == "CreateFunction" else []
+        functions = [inner()] if name == "CreateFunction" else []
         times = most.get(kind, max(TOTAL.values())) + 1
         lists = [instruction(1, *[one] * count) for count in (times // 2, times - times // 2)]
         words = sheet([(0, 0, "Other")], place(0), [block(0, [], lists, other(2))], functions)
@@ -528,11 +621,15 @@ def refusals():
     check(isinstance(answer(blocks(block(0, *mixed))), list), True, "1,024 relation effects")
     check(answer(blocks(block(0, *mixed), block(1, [], [], maybe_throw(3, alias)))), 8, "1,025 relation effects")
     check(answer(blocks(block(0, *mixed)) + [0]), 7, "7 before 8")
-    apply = [effect("Apply")] * 2_044
-    full = in_one(*apply)
-    check((len(full), isinstance(answer(full), list)), (16_376, True), "a long sheet")
-    check(answer(full + [0] * 8), 7, "16,384 words")
-    check(answer(full + [0] * 9), 2, "16,385 words")
+    full = in_one(*[effect("Freeze", place(0))] * 2_042)
+    check((len(full), isinstance(answer(full), list)), (16_373, True), "a long sheet")
+    check(answer(full + [0] * 11), 7, "16,384 words")
+    check(answer(full + [0] * 12), 2, "16,385 words")
+    apply = effect("Apply")
+    check(answer(in_one(mutate, apply)), 10, "Apply in an instruction")
+    check(isinstance(answer(blocks(block(0, [], [], maybe_throw(2, apply)))), list), True, "Apply in a terminal")
+    check(answer(in_one(mutate, apply) + [0]), 7, "7 before 10")
+    check(answer(in_one(apply, *[render] * (TOTAL["renders"] + 1))), 8, "8 before 10")
     # From the page.
     check(answer([2, 7]), 5, "a sheet that is cut behind a flag 7")
     large = block(65_536, [], [], other(1))
@@ -547,14 +644,14 @@ def longest():
     effects += [effect("Capture", place(i + 1), place(i)) for i in ids[:-1]]
     effects += [effect("Render", place(0))] * TOTAL["renders"]
     lists = [instruction(1, *effects[at:at + LIST]) for at in range(0, len(effects), LIST)]
-    words = sheet([(0, 0, "Other")] * len(ids), place(0), [block(0, [], lists, other(2))], [[[9, 8]] * FUNCTION_DIAGNOSTICS])
+    words = sheet([(0, 0, "Other")] * len(ids), place(0), [block(0, [], lists, other(2))], [inner([[9, 8]] * FUNCTION_DIAGNOSTICS)])
     said = answer(words)
     counts = f"a sheet of {len(words):,} words", f"with {int(said[3].split()[1]):,} diagnostics"
     for count in counts:
         check(count in TEXT, True, f"the page has `{count}`")
     places, effects = COUNT["parameters"] + COUNT["context"], 16_384 // 8
-    most = 6 + 2 * len(ids) + 3 * places + 2 * (effects + len(ids) * TOTAL["renders"] * FUNCTION_DIAGNOSTICS)
-    most += 8 * (effects + 2 * places + 1 + places * places) + TOTAL["mutations"] + places + 1
+    most = 10 + 2 * len(ids) + 3 * places + 2 * (effects + len(ids) * TOTAL["renders"] * FUNCTION_DIAGNOSTICS)
+    most += 8 * (effects + 2 * places + 1 + places * places) + TOTAL["mutations"] + places + 1 + 3 * (16_384 // 3)
     check(f"No answer has more than {most:,} words" in TEXT, True, f"the longest answer is {most:,} words")
 
 
@@ -593,13 +690,13 @@ def loads():
         for n, m in sizes:
             made = asked_for(seed, n, m).stdout
             check(made, bytes_of(load(seed, n, m)), f"the class load {seed} {n} {m}")
-            check(len(made), 4 * (20 + 3 * n + 10 * m), f"its length, {n} and {m}")
-    said = f"has 20 + 3 × n + 10 × m words, at most {20 + 3 * most_n + 10 * most_m:,}."
+            check(len(made), 4 * (21 + 3 * n + 16 * m), f"its length, {n} and {m}")
+    said = f"has 21 + 3 × n + 16 × m words, at most {21 + 3 * most_n + 16 * most_m:,}."
     check(said in TEXT, True, "the longest class load")
     for n, m in ((least_n - 1, 1), (most_n + 1, 1), (2, least_m - 1), (2, most_m + 1), (65_538, 1), (2, 65_537)):
         check("refused 5: " in asked_for(7, n, m).stderr.decode(), True, f"a class load {n} {m}")
     said = answer(load(2026, 300, 400))
-    check(sum(len(line.split()) - 1 for line in said) <= 43 + 2 * 300 + 400, True, "the answer's length")
+    check(sum(len(line.split()) - 1 for line in said) <= 47 + 2 * 300 + 4 * 400, True, "the answer's length")
 
 
 if __name__ == "__main__":

@@ -32,17 +32,17 @@ extern "C" {
  * 16 times as many each time until this number is reached: a refused call takes no serial and
  * leaves nothing behind. Every word lent is cleared, so that a long buffer for every call would
  * cost time. A host that wants no answer so long takes 9 as the last word. */
-#define SERVICE_MOST_ANSWER 16932879
+#define SERVICE_MOST_ANSWER 16949266
 
 /* The arguments of a class load (service_load), and how many words its sheet has at most. */
 #define SERVICE_LEAST_LOAD_IDENTIFIERS 2
 #define SERVICE_MOST_LOAD_IDENTIFIERS 512
 #define SERVICE_LEAST_LOAD_EFFECTS 1
 #define SERVICE_MOST_LOAD_EFFECTS 512
-#define SERVICE_MOST_LOAD 6676
+#define SERVICE_MOST_LOAD 9749
 
 /* Why a call was refused. The lower number is checked first, but 3 to 6 come from one reading from
- * left to right: the first faulty word decides. */
+ * left to right, where the first faulty word decides, and 10 comes before 9. */
 enum ServiceRefusal {
     SERVICE_ACCEPTED = 0,
     /* The workspace has fewer than 16,384 words. */
@@ -62,7 +62,9 @@ enum ServiceRefusal {
     /* The sheet has over 1,024 relation effects, 512 mutations or 256 renders. */
     SERVICE_REFUSED_TOTALS = 8,
     /* The answer buffer is shorter than the answer: see SERVICE_MOST_ANSWER. */
-    SERVICE_REFUSED_SHORT_ANSWER = 9
+    SERVICE_REFUSED_SHORT_ANSWER = 9,
+    /* Apply is among an instruction's effects. */
+    SERVICE_REFUSED_APPLY = 10
 };
 
 /* An identifier's type. */
@@ -140,11 +142,18 @@ enum ServiceValue {
 
 #define SERVICE_CREATED(reason, value) (6 * (reason) + (value))
 
+/* What an instruction's value is: the word behind its lvalue, value lvalues and operands. */
+enum ServiceInstruction {
+    SERVICE_INSTRUCTION_PLAIN = 0,        /* no word */
+    SERVICE_INSTRUCTION_FUNCTION = 1,     /* an inner function's number */
+    SERVICE_INSTRUCTION_STORE_CONTEXT = 2 /* the identifier that is stored */
+};
+
 /* How a block ends. */
 enum ServiceTerminal {
-    SERVICE_TERMINAL_OTHER = 0,      /* an order */
-    SERVICE_TERMINAL_RETURN = 1,     /* an order, a place, a count of effects and the effects */
-    SERVICE_TERMINAL_MAYBE_THROW = 2 /* an order, a count of effects and the effects */
+    SERVICE_TERMINAL_OTHER = 0,      /* an order, a count of operands and the operands */
+    SERVICE_TERMINAL_RETURN = 1,     /* an order, a place, a count of effects and the effects, 0 */
+    SERVICE_TERMINAL_MAYBE_THROW = 2 /* an order, a count of effects and the effects, 0 */
 };
 
 /* The next serial. Make it with service_new, or restore one that was kept. */
@@ -170,8 +179,9 @@ struct Reply {
  * No pointer is NULL. The buffers have as many words as said, and neither of them overlaps the
  * other, the sheet or the state.
  *
- * An answer has six sections, each a count and then so many records: ranges (2 words: start,
- * end), params and context (places of 3 words), diagnostics (2: identity, instance), effects (8), walks (1). */
+ * An answer has ten sections, each a count and then so many records: ranges (2 words: start,
+ * end), params and context (places of 3 words), diagnostics (2: identity, instance), effects (8),
+ * walks (1), and of places phis, instructions, terminals and inner. */
 struct Reply service_infer(struct ServiceState *state,
                            const uint32_t *sheet, size_t sheet_words,
                            uint32_t *workspace, size_t workspace_words,
@@ -180,12 +190,12 @@ struct Reply service_infer(struct ServiceState *state,
 /* A class load: the sheet that a seed, a count of identifiers and a count of effects stand for, the
  * same on every machine. The seed is any number; the counts are from SERVICE_LEAST_LOAD_IDENTIFIERS
  * to SERVICE_MOST_LOAD_IDENTIFIERS and from SERVICE_LEAST_LOAD_EFFECTS to SERVICE_MOST_LOAD_EFFECTS,
- * else the call is refused 5. A sheet has 20 + 3 * identifiers + 10 * effects words; with fewer words
+ * else the call is refused 5. A sheet has 21 + 3 * identifiers + 16 * effects words; with fewer words
  * lent the call is refused 9, with SERVICE_MOST_LOAD never. `length` says how many it has; there is no
  * serial, so that `serial` is 0. Afterwards the words from `length` on, all of them after a refusal,
  * are 0; what they held before does not matter.
  *
- * service_infer accepts every such sheet: its answer has at most 43 + 2 * identifiers + effects
+ * service_infer accepts every such sheet: its answer has at most 47 + 2 * identifiers + 4 * effects
  * words. `sheet` is not NULL and has as many words as said. */
 struct Reply service_load(uint32_t seed, uint32_t identifiers, uint32_t effects,
                           uint32_t *sheet, size_t sheet_words);

@@ -16,6 +16,7 @@ use bench::shapes;
 use bench::sides::{Ours, analysis, compare, same_job};
 use oracle::generate::{self, LIMITS};
 use oracle::load::Load;
+use oracle::original_side::carries;
 use oracle::plain;
 use oracle::plain::sheet::Sheet;
 use oracle::random::Random;
@@ -179,7 +180,9 @@ fn corpora(bench: &mut Bench, asked: &mut Vec<String>) {
     );
     println!("|---|---|---|---|---|---|---|");
     let mut random = Random::new(1);
-    let generated: Vec<Sheet> = (0..2_000).map(|_| generate::sheet(&mut random)).collect();
+    // Those whose lists the original can carry: else it has not the same job.
+    let made = std::iter::repeat_with(|| generate::sheet(&mut random));
+    let generated: Vec<Sheet> = made.filter(carries).take(2_000).collect();
     let mut panels = |count: usize, low: usize, high: usize| -> Vec<Sheet> {
         (0..count)
             .map(|_| {
@@ -189,7 +192,7 @@ fn corpora(bench: &mut Bench, asked: &mut Vec<String>) {
             .collect()
     };
     let small = panels(500, 10, 60);
-    let large = panels(100, 100, 512);
+    let large = panels(100, 100, 400);
     let rounds = (bench.rounds / 5).max(5);
     let mut measured = |name: &str, sheets: &[Sheet]| {
         let corpus = Corpus(sheets.iter().map(|sheet| bench.measure(sheet, rounds)).collect());
@@ -198,7 +201,7 @@ fn corpora(bench: &mut Bench, asked: &mut Vec<String>) {
     };
     let generated = measured("generated sheets", &generated);
     measured("small panels, 10 to 60 identifiers", &small);
-    let large = measured("large panels, 100 to 512 identifiers", &large);
+    let large = measured("large panels, 100 to 400 identifiers", &large);
     println!();
     asked.push(format!(
         "- Generated sheets, the median of same job / ours: {}.",

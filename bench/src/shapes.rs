@@ -1,16 +1,19 @@
 //! Sheets: panels as they are written, the limits, and the worst for each side.
 
 use oracle::dense::{block, place, sheet, two};
-use oracle::plain::sheet::{Block, Diagnostic, Effect, Instruction, Phi, Sheet, Terminal};
+use oracle::plain::sheet::{
+    Block, Diagnostic, Effect, InnerFunction, Instruction, Phi, Place, Sheet, Terminal, Value,
+};
 use oracle::random::Random;
 
 fn one(kind: u32, identifier: usize) -> Effect {
     Effect { kind, first: place(identifier), ..Effect::default() }
 }
 
-/// So many diagnostics, with rising identities.
-fn diagnostics(first: u32, count: u32) -> Vec<Diagnostic> {
-    (first..first + count).map(|i| Diagnostic { identity: i, instance: i }).collect()
+/// An inner function with so many diagnostics, with rising identities.
+fn function(first: u32, count: u32, context: Vec<Place>) -> InnerFunction {
+    let diagnostic = |i| Diagnostic { identity: i, instance: i };
+    InnerFunction { diagnostics: (first..first + count).map(diagnostic).collect(), context }
 }
 
 /// The smallest sheet: one identifier, which is returned, and no block.
@@ -18,13 +21,15 @@ pub fn smallest() -> Sheet {
     Sheet { params: Vec::new(), ..sheet(1, Vec::new()) }
 }
 
-/// A panel as people write them: each instruction makes one value from earlier ones, about a
-/// third change one, and every few instructions a branch joins in a phi.
+/// A panel as people write them: each instruction makes one value from earlier ones, its operands,
+/// about a third change one, and every few instructions a branch joins in a phi. With 400
+/// identifiers it is nearly as long as a sheet may be.
 pub fn panel(random: &mut Random, identifiers: usize) -> Sheet {
     let mut sheet = sheet(identifiers, Vec::new());
     let context = (identifiers / 10).min(8).min(identifiers - 2);
     sheet.context = (1..=context).map(place).collect();
-    sheet.functions = vec![diagnostics(7, 2), diagnostics(9, 1)];
+    let captured = (0..=context).map(place).collect();
+    sheet.functions = vec![function(7, 2, captured), function(9, 1, vec![place(0)])];
     let mut made = context + 1;
     let mut order = 0;
     let mut number = 0;
@@ -51,6 +56,7 @@ pub fn panel(random: &mut Random, identifiers: usize) -> Sheet {
                 6..8 => vec![two(8, from(random), made)],
                 _ => vec![Effect { extra: random.below(2) as u32, ..one(13, made) }],
             };
+            let made_function = (effects[0].kind == 13).then_some(effects[0].extra);
             for _ in 0..random.below(3) {
                 effects.push(two(random.choose(&[5, 5, 5, 6, 7, 11]), from(random), made));
             }
@@ -61,11 +67,20 @@ pub fn panel(random: &mut Random, identifiers: usize) -> Sheet {
             if random.percent(5) {
                 effects.push(one(17, from(random)));
             }
-            instructions.push(Instruction { order, effects });
+            let mut operands: Vec<Place> =
+                effects.iter().map(|e| e.first).filter(|p| p.identifier != made as u32).collect();
+            operands.dedup();
+            let mut instruction = Instruction::plain(order, effects);
+            instruction.lvalue = place(made);
+            match made_function {
+                Some(function) => instruction.value = Value::Function(function),
+                None => instruction.operands = operands,
+            }
+            instructions.push(instruction);
             made += 1;
         }
         order += 1;
-        let terminal = Terminal::Other { order };
+        let terminal = Terminal::Other { order, operands: vec![place(made - 1)] };
         sheet.blocks.push(Block { number: number as u32, phis, instructions, terminal });
         number += 1;
     }
@@ -173,8 +188,35 @@ pub fn renders(nodes: usize, renders: usize) -> Sheet {
     effects.extend((1..nodes).map(|i| two(5, i, i - 1)));
     effects.extend((0..renders).map(|_| one(17, 0)));
     let mut sheet = sheet(nodes + 1, vec![block(0, Vec::new(), &effects)]);
-    sheet.functions = vec![diagnostics(0, 64)];
+    sheet.functions = vec![function(0, 64, Vec::new())];
     sheet.params = Vec::new();
+    sheet
+}
+
+/// So many instructions with 64 operands, and effects on some of them.
+pub fn operands(instructions: usize) -> Sheet {
+    let mut block = block(0, Vec::new(), &[]);
+    for order in 1..=instructions {
+        let used = || (0..64).map(|i| (order * 7 + i) % 200);
+        let effects = used().take(8).map(|i| two(11, i, 0)).collect();
+        let mut instruction = Instruction::plain(order as u32, effects);
+        instruction.lvalue = place(200 + order);
+        instruction.operands = used().map(place).collect();
+        block.instructions.push(instruction);
+    }
+    sheet(300, vec![block])
+}
+
+/// One inner function with 64 context places, made by so many instructions.
+pub fn contexts(instructions: usize) -> Sheet {
+    let mut block = block(0, Vec::new(), &[]);
+    for order in 1..=instructions {
+        let mut instruction = Instruction::plain(order as u32, Vec::new());
+        instruction.value = Value::Function(0);
+        block.instructions.push(instruction);
+    }
+    let mut sheet = sheet(65, vec![block]);
+    sheet.functions = vec![function(0, 0, (0..64).map(place).collect())];
     sheet
 }
 
@@ -184,7 +226,7 @@ pub fn worst() -> Vec<(String, Sheet)> {
         .into_iter()
         .map(|(name, sheet)| (format!("{name}, 512 mutations"), sheet))
         .collect();
-    let more: [(&str, Sheet); 12] = [
+    let more: [(&str, Sheet); 14] = [
         ("the smallest sheet", smallest()),
         ("one phi with 1,024 operands", phi(1_024)),
         ("one phi with 1,024 operands, predecessors falling", falling_phi(1_024)),
@@ -197,6 +239,8 @@ pub fn worst() -> Vec<(String, Sheet)> {
         ("100 renders over 300 functions", renders(300, 100)),
         ("256 renders over 500 functions", renders(500, 256)),
         ("one mutation, 1,024 relations", dense(512, 1_024, 1)),
+        ("48 instructions with 64 operands each", operands(48)),
+        ("64 context places, made by 1,024 instructions", contexts(1_024)),
     ];
     all.extend(more.map(|(name, sheet)| (name.to_string(), sheet)));
     all
@@ -209,7 +253,7 @@ pub fn doublings() -> Vec<(&'static str, Vec<(usize, Sheet)>)> {
         sizes.map(|n| (n, make(n))).collect::<Vec<_>>()
     };
     vec![
-        ("panel, identifiers", grow(8, 512, &|n| panel(&mut Random::new(5), n))),
+        ("panel, identifiers", grow(8, 256, &|n| panel(&mut Random::new(5), n))),
         ("chain, identifiers and mutations", grow(8, 512, &chain)),
         ("dense, relations (64 identifiers, 64 mutations)", grow(64, 1_024, &|n| dense(64, n, 64))),
         ("mutations (512 identifiers, 1,024 relations)", grow(8, 512, &|n| dense(512, 1_024, n))),
@@ -218,5 +262,7 @@ pub fn doublings() -> Vec<(&'static str, Vec<(usize, Sheet)>)> {
         ("values created again", grow(16, 512, &recreated)),
         ("relations between the same pairs", grow(16, 1_024, &repeated)),
         ("blocks", grow(4, 256, &blocks)),
+        ("instructions with 64 operands", grow(1, 32, &operands)),
+        ("instructions that make a function of 64 context places", grow(16, 1_024, &contexts)),
     ]
 }

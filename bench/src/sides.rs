@@ -47,10 +47,12 @@ impl Default for Ours {
     }
 }
 
+const ACCEPTED: &str = "the sheets of the benchmark are accepted";
+
 /// The original's same job: the sheet's words read, its HIR built, the pass, the answer's words.
 pub fn same_job(words: &[u32]) -> Vec<u32> {
-    let sheet = plain::read(words).expect("the sheets of the benchmark are accepted");
-    original_side::answer(&sheet).words()
+    let sheet = plain::read(words).expect(ACCEPTED);
+    original_side::answer(&sheet).expect(ACCEPTED).answer.words()
 }
 
 /// The time of the original's pass alone, with its HIR built before.
@@ -60,12 +62,12 @@ pub fn analysis(sheet: &Sheet) -> f64 {
     time(|| original_side::call(&mut prepared)).0
 }
 
-/// Fails if the two sides disagree on what both have: the answer up to the walks.
+/// Fails if the two sides disagree on what both have: all but the walks.
 pub fn compare(ours: &mut Ours, words: &[u32]) {
     let reply = ours.call(words);
     assert_eq!(reply.refusal, 0);
-    // The original's answer has an empty section of walks.
-    let original = same_job(words);
-    let five = &original[..original.len() - 1];
-    assert!(ours.answer(reply).starts_with(five), "the two sides disagree");
+    let sheet = plain::read(words).expect(ACCEPTED);
+    let original = original_side::answer(&sheet).expect(ACCEPTED);
+    let original = original.filled(&plain::answer(&sheet)).words();
+    assert_eq!(ours.answer(reply), original, "the two sides disagree");
 }

@@ -14,19 +14,24 @@ static const uint32_t sheet[] = {
     1, 2, 0, 0,                                          /* returns: result */
     1,                                                   /* blocks */
     0, 0, 2,                                             /* number 0, no phis, two instructions */
-    1, 2,                                                /* at order 1, two effects */
+    1, 0, 0, 0,                                          /* at order 1, lvalue place 0 */
+    0, 0, SERVICE_INSTRUCTION_PLAIN,                     /* no value lvalues, no operands */
+    2,                                                   /* two effects */
     SERVICE_KIND_CREATE, 1, 0, 0, 0, 0, 0, 0,            /* list */
     SERVICE_KIND_CAPTURE, 0, 0, 0, 1, 0, 0, 0,           /* props into list */
-    2, 1,                                                /* at order 2, one effect */
+    2, 0, 0, 0,                                          /* at order 2, lvalue place 0 */
+    0, 0, SERVICE_INSTRUCTION_PLAIN,                     /* no value lvalues, no operands */
+    1,                                                   /* one effect */
     SERVICE_KIND_MUTATE_TRANSITIVE, 1, 0, 7, 0, 0, 0, 0, /* list, at span 7 */
-    SERVICE_TERMINAL_RETURN, 3, 1, 0, 0, 0,              /* at order 3, list, no effects */
+    SERVICE_TERMINAL_RETURN, 3, 1, 0, 0, 0, 0,           /* at order 3, list, no effects, no operands */
 };
 
 static const struct {
     const char *name;
     size_t words; /* of a record */
 } sections[] = {
-    {"ranges", 2}, {"params", 3}, {"context", 3}, {"diagnostics", 2}, {"effects", 8}, {"walks", 1},
+    {"ranges", 2},  {"params", 3}, {"context", 3},      {"diagnostics", 2}, {"effects", 8},
+    {"walks", 1},   {"phis", 3},   {"instructions", 3}, {"terminals", 3},   {"inner", 3},
 };
 
 #define COUNT(array) (sizeof(array) / sizeof((array)[0]))

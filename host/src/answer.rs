@@ -7,13 +7,17 @@ use crate::parts::{
 };
 
 /// The name of each section and how many words a record of it has.
-const SECTIONS: [(&str, usize); 6] = [
+const SECTIONS: [(&str, usize); 10] = [
     ("ranges", 2),
     ("params", 3),
     ("context", 3),
     ("diagnostics", 2),
     ("effects", 8),
     ("walks", 1),
+    ("phis", 3),
+    ("instructions", 3),
+    ("terminals", 3),
+    ("inner", 3),
 ];
 
 /// What the library says must be as the library promises.
@@ -21,13 +25,13 @@ const PROMISED: &str = "the library's answer has the sections that it promises";
 
 /// An answer, in the service's buffer until the next call.
 ///
-/// `Display` writes the six lines that the program `ranges` prints.
+/// `Display` writes the ten lines that the program `ranges` prints.
 #[derive(Clone, Copy)]
 pub struct Answer<'s> {
     serial: u32,
     words: &'s [u32],
     /// The records of each section.
-    sections: [&'s [u32]; 6],
+    sections: [&'s [u32]; 10],
 }
 
 impl<'s> Answer<'s> {
@@ -49,8 +53,9 @@ impl<'s> Answer<'s> {
         self.serial
     }
 
-    /// The range of each identifier, in order: the start is the sheet's, the end is moved to
-    /// behind the last mutation that reaches the value.
+    /// The range of each identifier, in order. The end is moved to behind the last mutation that
+    /// reaches the value; then the pass over operands sets a start or an end that is unset, and
+    /// moves the end of what StoreContext stores.
     pub fn ranges(&self) -> impl ExactSizeIterator<Item = MutableRange> + use<'s> {
         self.sections[0].as_chunks().0.iter().map(|&[start, end]| MutableRange {
             start: EvaluationOrder(start),
@@ -91,6 +96,30 @@ impl<'s> Answer<'s> {
         self.sections[5]
     }
 
+    /// The sheet's phis, in order, each before its operands, with the effects that the pass over
+    /// operands gives them.
+    pub fn phis(&self) -> impl ExactSizeIterator<Item = Place> + use<'s> {
+        places(self.sections[6])
+    }
+
+    /// The places of the sheet's instructions, in order: each lvalue, value lvalues and operands,
+    /// with the effects that the pass over operands gives them.
+    pub fn instructions(&self) -> impl ExactSizeIterator<Item = Place> + use<'s> {
+        places(self.sections[7])
+    }
+
+    /// The values of Return and the operands of other terminals, in order, with the effects that
+    /// the pass over operands gives them.
+    pub fn terminals(&self) -> impl ExactSizeIterator<Item = Place> + use<'s> {
+        places(self.sections[8])
+    }
+
+    /// The context places of the sheet's inner functions, in order. Those of a function that an
+    /// instruction makes have the effects that the pass over operands gives them.
+    pub fn inner(&self) -> impl ExactSizeIterator<Item = Place> + use<'s> {
+        places(self.sections[9])
+    }
+
     /// The words as the library wrote them.
     pub fn words(&self) -> &'s [u32] {
         self.words
@@ -124,6 +153,10 @@ impl fmt::Debug for Answer<'_> {
             .field("diagnostics", &self.diagnostics().collect::<Vec<_>>())
             .field("effects", &self.effects().collect::<Vec<_>>())
             .field("walks", &self.walks())
+            .field("phis", &self.phis().collect::<Vec<_>>())
+            .field("instructions", &self.instructions().collect::<Vec<_>>())
+            .field("terminals", &self.terminals().collect::<Vec<_>>())
+            .field("inner", &self.inner().collect::<Vec<_>>())
             .finish()
     }
 }

@@ -5,9 +5,9 @@ use std::fmt;
 use crate::limits;
 use crate::parts::{
     AliasingDiagnostic, AliasingEffect, BlockId, EvaluationOrder, FunctionId, Identifier,
-    IdentifierId, Place,
+    IdentifierId, InstructionValue, Place,
 };
-use crate::sheet::{Block, Instruction, Operand, Phi, Sheet, Terminal};
+use crate::sheet::{Block, InnerFunction, Instruction, Operand, Phi, Sheet, Terminal};
 
 /// Why a part was not taken. The builder is then as it was before.
 #[derive(Debug, Clone, PartialEq, Eq)]
@@ -99,15 +99,18 @@ enum Open {
     Instruction,
     /// A terminal that can have effects.
     Terminal,
+    /// A terminal that can have operands.
+    Other,
 }
 
 /// Makes a [`Sheet`] from its parts, one after another. Every part is checked when it is added,
-/// so that no sheet made here is refused 3 to 7. Refusals 2 and 8 are about the whole sheet and
-/// are left to the service; [`Sheet::refusal`] tells them before.
+/// so that no sheet made here is refused 3 to 7. Refusals 2, 8 and 10 are about the whole sheet
+/// and are left to the service; [`Sheet::refusal`] tells them before.
 ///
 /// Identifiers and inner functions are added before the parts that name them. In a block, phis
-/// (each followed by its operands) come before instructions (each followed by its effects), and
-/// the terminal, followed by its effects, comes last.
+/// (each followed by its operands) come before instructions (each followed by its lvalues,
+/// operands, value and effects), and the terminal, followed by its effects or operands, comes
+/// last.
 #[derive(Debug, Clone)]
 pub struct SheetBuilder {
     sheet: Sheet,
@@ -165,17 +168,27 @@ impl SheetBuilder {
         Ok(IdentifierId(sheet.identifiers.len() as u32 - 1))
     }
 
-    /// Adds an inner function with its diagnostics and gives its number.
-    pub fn function(&mut self, diagnostics: &[AliasingDiagnostic]) -> Taken<FunctionId> {
-        let sheet = &mut self.sheet;
-        room(&sheet.functions, "inner functions", limits::FUNCTIONS)?;
+    /// Adds an inner function with its diagnostics and context places, and gives its number.
+    pub fn function(
+        &mut self,
+        diagnostics: &[AliasingDiagnostic],
+        context: &[Place],
+    ) -> Taken<FunctionId> {
+        room(&self.sheet.functions, "inner functions", limits::FUNCTIONS)?;
         let most = limits::FUNCTION_DIAGNOSTICS;
         if diagnostics.len() > most {
             return Err(PartError::TooMany { what: "diagnostics of an inner function", most });
         }
+        let most = limits::PLACES;
+        if context.len() > most {
+            return Err(PartError::TooMany { what: "context places of an inner function", most });
+        }
         diagnostics.iter().try_for_each(within_limits)?;
-        sheet.functions.push(diagnostics.to_vec());
-        Ok(FunctionId(sheet.functions.len() as u32 - 1))
+        context.iter().try_for_each(|place| self.known(place))?;
+        let function =
+            InnerFunction { diagnostics: diagnostics.to_vec(), context: context.to_vec() };
+        self.sheet.functions.push(function);
+        Ok(FunctionId(self.sheet.functions.len() as u32 - 1))
     }
 
     /// Adds a parameter. A spread parameter is its place.
@@ -210,6 +223,7 @@ impl SheetBuilder {
             // Replaced by the block's own.
             terminal: Terminal::Other { order: EvaluationOrder::UNSET },
             terminal_effects: Vec::new(),
+            terminal_operands: Vec::new(),
         });
         self.open = Open::Block;
         Ok(())
@@ -242,14 +256,70 @@ impl SheetBuilder {
         Ok(())
     }
 
-    /// Adds an instruction to the block.
+    /// Adds an instruction to the block. Unless it is given another one, its lvalue is a place of
+    /// the first identifier with nothing else said; its value is plain.
     pub fn instruction(&mut self, order: EvaluationOrder) -> Taken {
         let open = [Open::Block, Open::Phi, Open::Instruction];
         let block = self.within(&open, "an instruction", "a block without a terminal")?;
         room(&block.instructions, "instructions of a block", limits::COUNT)?;
         at_most("an instruction's order", order.0, limits::ORDER)?;
-        self.last_block().instructions.push(Instruction { order, effects: Vec::new() });
+        let lvalue = Place::of(IdentifierId(0));
+        self.known(&lvalue)?;
+        self.last_block().instructions.push(Instruction {
+            order,
+            lvalue,
+            lvalues: Vec::new(),
+            operands: Vec::new(),
+            value: InstructionValue::Plain,
+            effects: Vec::new(),
+        });
         self.open = Open::Instruction;
+        Ok(())
+    }
+
+    /// Sets the instruction's lvalue.
+    pub fn lvalue(&mut self, place: Place) -> Taken {
+        self.within(&[Open::Instruction], "an lvalue", "an instruction")?;
+        self.known(&place)?;
+        self.last_instruction().lvalue = place;
+        Ok(())
+    }
+
+    /// Adds one to the instruction's value lvalues.
+    pub fn value_lvalue(&mut self, place: Place) -> Taken {
+        self.within(&[Open::Instruction], "a value lvalue", "an instruction")?;
+        self.known(&place)?;
+        let lvalues = &mut self.last_instruction().lvalues;
+        room(lvalues, "value lvalues of an instruction", limits::PLACES)?;
+        lvalues.push(place);
+        Ok(())
+    }
+
+    /// Adds one to the operands of the instruction, or of a terminal `Other`.
+    pub fn value_operand(&mut self, place: Place) -> Taken {
+        let follows = "a phi, an instruction or a terminal Other";
+        self.within(&[Open::Instruction, Open::Other], "an operand", follows)?;
+        self.known(&place)?;
+        let (operands, what) = match self.open {
+            Open::Instruction => {
+                (&mut self.last_instruction().operands, "operands of an instruction")
+            }
+            _ => (&mut self.last_block().terminal_operands, "operands of a terminal"),
+        };
+        room(operands, what, limits::PLACES)?;
+        operands.push(place);
+        Ok(())
+    }
+
+    /// Sets the instruction's value.
+    pub fn value(&mut self, value: InstructionValue) -> Taken {
+        self.within(&[Open::Instruction], "a value", "an instruction")?;
+        match value {
+            InstructionValue::Plain => {}
+            InstructionValue::Function(function) => self.known_function(function)?,
+            InstructionValue::StoreContext(identifier) => self.known(&Place::of(identifier))?,
+        }
+        self.last_instruction().value = value;
         Ok(())
     }
 
@@ -279,7 +349,7 @@ impl SheetBuilder {
         }
         self.last_block().terminal = terminal;
         self.open = match terminal {
-            Terminal::Other { .. } => Open::Nothing,
+            Terminal::Other { .. } => Open::Other,
             Terminal::Return { .. } | Terminal::MaybeThrow { .. } => Open::Terminal,
         };
         Ok(())
@@ -303,17 +373,24 @@ impl SheetBuilder {
         }
     }
 
+    /// Fails if the inner function has not been added.
+    fn known_function(&self, function: FunctionId) -> Taken {
+        let count = self.sheet.functions.len();
+        if (function.0 as usize) < count {
+            Ok(())
+        } else {
+            Err(PartError::NoFunction { function, count })
+        }
+    }
+
     fn known_effect(&self, effect: &AliasingEffect) -> Taken {
         let (first, second) = effect.places();
         for place in first.iter().chain(&second) {
             self.known(place)?;
         }
         match *effect {
-            AliasingEffect::CreateFunction { function_id: function, .. } => {
-                let count = self.sheet.functions.len();
-                if function.0 as usize >= count {
-                    return Err(PartError::NoFunction { function, count });
-                }
+            AliasingEffect::CreateFunction { function_id, .. } => {
+                self.known_function(function_id)?;
             }
             AliasingEffect::MutateFrozen { error, .. }
             | AliasingEffect::MutateGlobal { error, .. }
@@ -335,6 +412,15 @@ impl SheetBuilder {
 
     fn last_block(&mut self) -> &mut Block {
         self.sheet.blocks.last_mut().expect("a block is open")
+    }
+
+    fn last_instruction(&mut self) -> &mut Instruction {
+        self.last_block().instructions.last_mut().expect("an instruction is open")
+    }
+
+    /// Whether a phi is open: what is added as an operand is one of the phi's.
+    pub(crate) fn in_phi(&self) -> bool {
+        self.open == Open::Phi
     }
 
     /// Fails if a block lacks its terminal.

@@ -16,7 +16,7 @@ use crate::refusal::Refusal;
 ///
 /// let load = ClassLoad { seed: 2026, identifiers: 4, effects: 6 };
 /// let words = load.words()?;
-/// assert_eq!(words.len(), 20 + 3 * 4 + 10 * 6);
+/// assert_eq!(words.len(), 21 + 3 * 4 + 16 * 6);
 /// let mut service = Service::new();
 /// assert_eq!(service.infer(&words)?.ranges().len(), 4);
 /// # Ok::<(), service_host::Refusal>(())

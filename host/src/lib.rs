@@ -2,7 +2,7 @@
 //! for hosts in Rust.
 //!
 //! A [`Service`] takes a sheet, the words that describe one function, and gives an [`Answer`] or
-//! one of nine [`Refusal`]s. It never panics and never runs without end, whatever the words are:
+//! one of ten [`Refusal`]s. It never panics and never runs without end, whatever the words are:
 //! that is proved of the library behind it. Nothing is proved of this wrapper, which is kept thin.
 //!
 //! ```
@@ -60,13 +60,13 @@ pub use builder::{PartError, SheetBuilder};
 pub use class_load::ClassLoad;
 pub use parts::{
     AliasingDiagnostic, AliasingEffect, BlockId, DiagnosticId, DiagnosticInstanceId, Effect,
-    EffectKind, EvaluationOrder, FunctionId, Identifier, IdentifierId, MutableRange,
-    MutationReason, Place, Type, ValueKind, ValueReason,
+    EffectKind, EvaluationOrder, FunctionId, Identifier, IdentifierId, InstructionValue,
+    MutableRange, MutationReason, Place, Type, ValueKind, ValueReason,
 };
 pub use reading::ReadError;
 pub use refusal::Refusal;
 pub use service::{Service, first_lent};
-pub use sheet::{Block, Instruction, Operand, Phi, Sheet, Terminal, Totals};
+pub use sheet::{Block, InnerFunction, Instruction, Operand, Phi, Sheet, Terminal, Totals};
 
 /// The program of README.md is tried as a test.
 #[cfg(doctest)]

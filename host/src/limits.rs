@@ -12,7 +12,8 @@ pub const IDENTIFIERS: usize = 512;
 pub const FUNCTIONS: usize = 64;
 /// Of diagnostics of an inner function.
 pub const FUNCTION_DIAGNOSTICS: usize = 64;
-/// Of parameters, and of context variables.
+/// Of parameters, of context variables, of context places of an inner function, and of value
+/// lvalues and operands of an instruction and operands of a terminal.
 pub const PLACES: usize = 64;
 /// Of blocks.
 pub const BLOCKS: usize = 256;
@@ -42,16 +43,18 @@ pub const LOAD_IDENTIFIERS: RangeInclusive<u32> = 2..=512;
 pub const LOAD_EFFECTS: RangeInclusive<u32> = 1..=512;
 /// Of words of a class load: with so many lent, none is refused 9.
 pub const LOAD: usize =
-    20 + 3 * *LOAD_IDENTIFIERS.end() as usize + 10 * *LOAD_EFFECTS.end() as usize;
+    21 + 3 * *LOAD_IDENTIFIERS.end() as usize + 16 * *LOAD_EFFECTS.end() as usize;
 
-/// Of words of an answer: no sheet has a longer one. Six counts and the records of each section,
-/// every section as long as it can be alone.
-pub const ANSWER: usize = 6
+/// Of words of an answer: no sheet has a longer one. Ten counts and the records of each section,
+/// every section as long as it can be alone, but the places of the last four as many together as
+/// a sheet can have.
+pub const ANSWER: usize = 10
     + 2 * IDENTIFIERS
     + 3 * TRACKED
     + 2 * (EFFECTS + IDENTIFIERS * RENDERS * FUNCTION_DIAGNOSTICS)
     + 8 * (EFFECTS + 2 * TRACKED + 1 + TRACKED * TRACKED)
-    + (MUTATIONS + TRACKED + 1);
+    + (MUTATIONS + TRACKED + 1)
+    + 3 * (WORDS / 3);
 
 /// Of parameters and context variables together.
 const TRACKED: usize = 2 * PLACES;

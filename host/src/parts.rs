@@ -132,7 +132,7 @@ numbered! {
 /// An identifier of a sheet: its range as known so far, and its type.
 #[derive(Debug, Clone, Copy, PartialEq, Eq, Hash)]
 pub struct Identifier {
-    /// The range as known so far; the answer has the start as it is and moves the end.
+    /// The range as known so far; the answer moves its end, and sets its start where it is unset.
     pub range: MutableRange,
     /// The type, which decides what Create says of the value returned.
     pub type_: Type,
@@ -348,6 +348,19 @@ impl EffectKind {
     }
 }
 
+/// What an instruction's value is, as far as the pass over operands looks at it.
+#[derive(Debug, Clone, Copy, PartialEq, Eq, Hash, Default)]
+pub enum InstructionValue {
+    /// None of the others.
+    #[default]
+    Plain,
+    /// FunctionExpression or ObjectMethod: this inner function is made, and its context places are
+    /// operands too.
+    Function(FunctionId),
+    /// StoreContext: this identifier's value is stored in a context variable.
+    StoreContext(IdentifierId),
+}
+
 /// What an instruction or a terminal does to values.
 #[derive(Debug, Clone, Copy, PartialEq, Eq, Hash)]
 pub enum AliasingEffect {
@@ -431,7 +444,8 @@ pub enum AliasingEffect {
         /// What it goes into.
         into: Place,
     },
-    /// A call whose effects are not known. Does nothing in this pass.
+    /// A call whose effects are not known. Does nothing in a terminal; among the effects of an
+    /// instruction it is refused 10.
     Apply,
     /// A new value that is an inner function.
     CreateFunction {

@@ -4,11 +4,11 @@ use std::fmt;
 
 use crate::limits;
 use crate::parts::{
-    AliasingDiagnostic, AliasingEffect, BlockId, EffectKind, EvaluationOrder, Identifier,
-    IdentifierId, MutableRange, Place, Type,
+    AliasingDiagnostic, AliasingEffect, BlockId, EffectKind, EvaluationOrder, FunctionId,
+    Identifier, IdentifierId, InstructionValue, MutableRange, Place, Type,
 };
 use crate::refusal::Refusal;
-use crate::sheet::{Block, Instruction, Operand, Phi, Sheet, Terminal};
+use crate::sheet::{Block, InnerFunction, Instruction, Operand, Phi, Sheet, Terminal};
 
 /// The first fault in a sheet's words.
 #[derive(Debug, Clone, PartialEq, Eq)]
@@ -143,9 +143,11 @@ impl Reader<'_> {
         Ok(AliasingDiagnostic::new(identity, instance))
     }
 
-    fn function(&mut self) -> Read<Vec<AliasingDiagnostic>> {
+    fn function(&mut self) -> Read<InnerFunction> {
         let count = self.count("an inner function's diagnostics", limits::FUNCTION_DIAGNOSTICS)?;
-        self.times("diagnostic", count, Self::diagnostic)
+        let diagnostics = self.times("diagnostic", count, Self::diagnostic)?;
+        let context = self.places("an inner function's context places", "context place")?;
+        Ok(InnerFunction { diagnostics, context })
     }
 
     fn place(&mut self) -> Read<Place> {
@@ -153,6 +155,12 @@ impl Reader<'_> {
         let traits = self.at_most("a place's traits (effect, plus 8 if reactive)", 15)?;
         let span = self.word("a place's span")?;
         Ok(Place::from_words([identifier, traits, span]).expect("traits are at most 15"))
+    }
+
+    /// A count of places, and each of them.
+    fn places(&mut self, what: &str, part: &'static str) -> Read<Vec<Place>> {
+        let count = self.count(what, limits::PLACES)?;
+        self.times(part, count, Self::place)
     }
 
     /// A place, of which the effect has one; else three words 0.
@@ -227,21 +235,45 @@ impl Reader<'_> {
 
     fn instruction(&mut self) -> Read<Instruction> {
         let order = EvaluationOrder(self.at_most("an instruction's order", limits::ORDER)?);
+        let lvalue = self.place()?;
+        let lvalues = self.places("an instruction's value lvalues", "value lvalue")?;
+        let operands = self.places("an instruction's operands", "operand")?;
+        let value = self.value()?;
         let effects = self.effects()?;
-        Ok(Instruction { order, effects })
+        Ok(Instruction { order, lvalue, lvalues, operands, value, effects })
     }
 
-    fn terminal(&mut self) -> Read<(Terminal, Vec<AliasingEffect>)> {
+    fn value(&mut self) -> Read<InstructionValue> {
+        let what = "a value (0 plain, 1 function, 2 StoreContext)";
+        Ok(match self.at_most(what, 2)? {
+            0 => InstructionValue::Plain,
+            1 => {
+                let number = self.below("an inner function's number", self.functions)?;
+                InstructionValue::Function(FunctionId(number))
+            }
+            _ => {
+                let number = self.below("a stored identifier", self.identifiers)?;
+                InstructionValue::StoreContext(IdentifierId(number))
+            }
+        })
+    }
+
+    /// A terminal, its effects and its operands.
+    fn terminal(&mut self) -> Read<(Terminal, Vec<AliasingEffect>, Vec<Place>)> {
         let kind = self.at_most("a terminal kind (0 other, 1 Return, 2 MaybeThrow)", 2)?;
         let order = EvaluationOrder(self.at_most("a terminal's order", limits::ORDER)?);
-        Ok(match kind {
-            0 => (Terminal::Other { order }, Vec::new()),
-            1 => {
-                let value = self.place()?;
-                (Terminal::Return { order, value }, self.effects()?)
+        let terminal = match kind {
+            0 => {
+                let operands = self.places("a terminal's operands", "operand")?;
+                return Ok((Terminal::Other { order }, Vec::new(), operands));
             }
-            _ => (Terminal::MaybeThrow { order }, self.effects()?),
-        })
+            1 => Terminal::Return { order, value: self.place()? },
+            _ => Terminal::MaybeThrow { order },
+        };
+        let effects = self.effects()?;
+        let what = if kind == 1 { "a Return's operands" } else { "a MaybeThrow's operands" };
+        self.fixed_count(what, 0)?;
+        Ok((terminal, effects, Vec::new()))
     }
 
     fn block(&mut self, before: &mut Vec<u32>) -> Read<Block> {
@@ -250,8 +282,8 @@ impl Reader<'_> {
         let phis = self.times("phi", count, Self::phi)?;
         let count = self.count("a block's instructions", limits::COUNT)?;
         let instructions = self.times("instruction", count, Self::instruction)?;
-        let (terminal, terminal_effects) = self.terminal()?;
-        Ok(Block { number, phis, instructions, terminal, terminal_effects })
+        let (terminal, terminal_effects, terminal_operands) = self.terminal()?;
+        Ok(Block { number, phis, instructions, terminal, terminal_effects, terminal_operands })
     }
 
     fn sheet(&mut self) -> Read<Sheet> {
@@ -264,10 +296,8 @@ impl Reader<'_> {
         let count = self.count("inner functions", limits::FUNCTIONS)?;
         self.functions = count as u32;
         let functions = self.times("inner function", count, Self::function)?;
-        let count = self.count("parameters", limits::PLACES)?;
-        let params = self.times("parameter", count, Self::place)?;
-        let count = self.count("context places", limits::PLACES)?;
-        let context = self.times("context place", count, Self::place)?;
+        let params = self.places("parameters", "parameter")?;
+        let context = self.places("context places", "context place")?;
         self.fixed_count("returns", 1)?;
         let returns = self.place()?;
         let count = self.count("blocks", limits::BLOCKS)?;

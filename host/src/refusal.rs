@@ -3,11 +3,12 @@
 use std::fmt;
 
 /// Why a call was refused. The lower number is checked first, but 3 to 6 come from one reading
-/// left to right: the first faulty word decides.
+/// left to right, where the first faulty word decides, and 10 comes before 9.
 ///
 /// The library says no more than the number. Which word is faulty and what was expected there says
 /// [`Sheet::read`](crate::Sheet::read) of the same words; how many relation effects, mutations and
-/// renders a sheet has says [`Sheet::totals`](crate::Sheet::totals).
+/// renders a sheet has says [`Sheet::totals`](crate::Sheet::totals), and which instructions have
+/// Apply [`Sheet::applies`](crate::Sheet::applies).
 #[derive(Debug, Clone, Copy, PartialEq, Eq, Hash)]
 #[repr(u32)]
 #[non_exhaustive]
@@ -33,11 +34,13 @@ pub enum Refusal {
     /// it has. Comes from [`Service`](crate::Service) only where it was given a longest answer, and
     /// never from [`ClassLoad`](crate::ClassLoad).
     ShortAnswer = 9,
+    /// Apply is among an instruction's effects.
+    Apply = 10,
 }
 
 impl Refusal {
     /// All, in the order of their numbers.
-    pub const ALL: [Refusal; 9] = [
+    pub const ALL: [Refusal; 10] = [
         Refusal::ShortWorkspace,
         Refusal::LongSheet,
         Refusal::SheetEnds,
@@ -47,14 +50,15 @@ impl Refusal {
         Refusal::WordsFollow,
         Refusal::Totals,
         Refusal::ShortAnswer,
+        Refusal::Apply,
     ];
 
-    /// The number, 1 to 9.
+    /// The number, 1 to 10.
     pub fn number(self) -> u32 {
         self as u32
     }
 
-    /// The refusal of a number; none for 0, which stands for no refusal, and above 9.
+    /// The refusal of a number; none for 0, which stands for no refusal, and above 10.
     pub fn from_number(number: u32) -> Option<Refusal> {
         Refusal::ALL.into_iter().find(|r| r.number() == number)
     }
@@ -81,6 +85,7 @@ impl Refusal {
                 "The sheet has over 1,024 relation effects, 512 mutations or 256 renders."
             }
             Refusal::ShortAnswer => "The answer buffer is shorter than the answer.",
+            Refusal::Apply => "Apply is among an instruction's effects.",
         }
     }
 }

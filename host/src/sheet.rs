@@ -2,7 +2,7 @@
 
 use crate::parts::{
     AliasingDiagnostic, AliasingEffect, BlockId, EffectKind, EvaluationOrder, Identifier,
-    IdentifierId, Place,
+    IdentifierId, InstructionValue, Place,
 };
 use crate::reading::{self, ReadError};
 use crate::{limits, refusal::Refusal};
@@ -14,11 +14,20 @@ pub struct Sheet {
     pub(crate) function_expression: bool,
     pub(crate) validations: bool,
     pub(crate) identifiers: Vec<Identifier>,
-    pub(crate) functions: Vec<Vec<AliasingDiagnostic>>,
+    pub(crate) functions: Vec<InnerFunction>,
     pub(crate) params: Vec<Place>,
     pub(crate) context: Vec<Place>,
     pub(crate) returns: Place,
     pub(crate) blocks: Vec<Block>,
+}
+
+/// A function inside the sheet's own.
+#[derive(Debug, Clone, PartialEq, Eq, Default)]
+pub struct InnerFunction {
+    /// What it would report.
+    pub diagnostics: Vec<AliasingDiagnostic>,
+    /// What it uses from around it.
+    pub context: Vec<Place>,
 }
 
 /// A block: what is done one after another, and how it ends.
@@ -34,6 +43,9 @@ pub struct Block {
     pub terminal: Terminal,
     /// What the terminal does to values. None where the terminal is `Other`.
     pub terminal_effects: Vec<AliasingEffect>,
+    /// What the terminal uses, in the visitors' order. None where the terminal is `Return` or
+    /// `MaybeThrow`.
+    pub terminal_operands: Vec<Place>,
 }
 
 /// A value that comes from the predecessor by which its block was entered.
@@ -54,16 +66,25 @@ pub struct Operand {
     pub place: Place,
 }
 
-/// An instruction: when it comes and what it does to values.
+/// An instruction: when it comes, what it uses, and what it does to values.
 #[derive(Debug, Clone, PartialEq, Eq)]
 pub struct Instruction {
     /// When it comes.
     pub order: EvaluationOrder,
+    /// What its value is assigned to.
+    pub lvalue: Place,
+    /// What its value assigns to itself (a declaration, a store, a pattern), in the visitors' order.
+    pub lvalues: Vec<Place>,
+    /// What its value uses, in the visitors' order. The context places of an inner function that
+    /// is made are not among them.
+    pub operands: Vec<Place>,
+    /// What its value is.
+    pub value: InstructionValue,
     /// What it does to values, in order.
     pub effects: Vec<AliasingEffect>,
 }
 
-/// How a block ends. Only `Return` and `MaybeThrow` can have effects.
+/// How a block ends. Only `Return` and `MaybeThrow` can have effects, and only `Other` operands.
 #[derive(Debug, Clone, Copy, PartialEq, Eq)]
 pub enum Terminal {
     /// In another way than the two below, without effects.
@@ -144,8 +165,8 @@ impl Sheet {
         &self.identifiers
     }
 
-    /// The diagnostics of each inner function; the position is the number.
-    pub fn functions(&self) -> &[Vec<AliasingDiagnostic>] {
+    /// The inner functions; the position is the number.
+    pub fn functions(&self) -> &[InnerFunction] {
         &self.functions
     }
 
@@ -191,13 +212,22 @@ impl Sheet {
         totals
     }
 
-    /// Refusal 2 or 8, if the service will give it: they are about the sheet as a whole.
+    /// The instructions with Apply among their effects: block and order.
+    pub fn applies(&self) -> impl Iterator<Item = (BlockId, EvaluationOrder)> {
+        let apply = |effect: &AliasingEffect| effect.kind() == EffectKind::Apply;
+        self.blocks.iter().flat_map(move |block| {
+            let applies = block.instructions.iter().filter(move |i| i.effects.iter().any(apply));
+            applies.map(|instruction| (block.number, instruction.order))
+        })
+    }
+
+    /// Refusal 2, 8 or 10, if the service will give it: they are about the sheet as a whole.
     pub fn refusal(&self) -> Option<Refusal> {
         if self.words().len() > limits::WORDS {
-            Some(Refusal::LongSheet)
-        } else {
-            self.totals().over().next().map(|_| Refusal::Totals)
+            return Some(Refusal::LongSheet);
         }
+        let over = self.totals().over().next().map(|_| Refusal::Totals);
+        over.or_else(|| self.applies().next().map(|_| Refusal::Apply))
     }
 
     /// The words that the service takes.
@@ -209,13 +239,13 @@ impl Sheet {
             words.extend([range.start.0, range.end.0, identifier.type_.number()]);
         }
         words.push(self.functions.len() as u32);
-        for diagnostics in &self.functions {
-            words.push(diagnostics.len() as u32);
-            words.extend(diagnostics.iter().flat_map(|d| d.words()));
+        for function in &self.functions {
+            words.push(function.diagnostics.len() as u32);
+            words.extend(function.diagnostics.iter().flat_map(|d| d.words()));
+            put_places(&mut words, &function.context);
         }
         for places in [&self.params[..], &self.context, &[self.returns]] {
-            words.push(places.len() as u32);
-            words.extend(places.iter().flat_map(Place::words));
+            put_places(&mut words, places);
         }
         words.push(self.blocks.len() as u32);
         for block in &self.blocks {
@@ -223,6 +253,11 @@ impl Sheet {
         }
         words
     }
+}
+
+fn put_places(words: &mut Vec<u32>, places: &[Place]) {
+    words.push(places.len() as u32);
+    words.extend(places.iter().flat_map(Place::words));
 }
 
 fn put_effects(words: &mut Vec<u32>, effects: &[AliasingEffect]) {
@@ -243,6 +278,14 @@ fn put_block(words: &mut Vec<u32>, block: &Block) {
     words.push(block.instructions.len() as u32);
     for instruction in &block.instructions {
         words.push(instruction.order.0);
+        words.extend(instruction.lvalue.words());
+        put_places(words, &instruction.lvalues);
+        put_places(words, &instruction.operands);
+        match instruction.value {
+            InstructionValue::Plain => words.push(0),
+            InstructionValue::Function(function) => words.extend([1, function.0]),
+            InstructionValue::StoreContext(identifier) => words.extend([2, identifier.0]),
+        }
         put_effects(words, &instruction.effects);
     }
     match block.terminal {
@@ -257,4 +300,5 @@ fn put_block(words: &mut Vec<u32>, block: &Block) {
             put_effects(words, &block.terminal_effects);
         }
     }
+    put_places(words, &block.terminal_operands);
 }

@@ -26,9 +26,10 @@ use std::fmt::{self, Write};
 use crate::builder::{SheetBuilder, within_limits};
 use crate::parts::{
     AliasingDiagnostic, AliasingEffect, BlockId, Effect, EffectKind, EvaluationOrder, FunctionId,
-    Identifier, IdentifierId, MutableRange, MutationReason, Place, Type, ValueKind, ValueReason,
+    Identifier, IdentifierId, InstructionValue, MutableRange, MutationReason, Place, Type,
+    ValueKind, ValueReason,
 };
-use crate::sheet::{Sheet, Terminal};
+use crate::sheet::{Instruction, Sheet, Terminal};
 use crate::spelling::nearest;
 
 /// The names that a text gives to identifiers and inner functions. A sheet's words have none.
@@ -140,13 +141,16 @@ fn put_sheet(text: &mut String, sheet: &Sheet, names: &Names) -> fmt::Result {
         }
         writeln!(text)?;
     }
-    for (diagnostics, name) in sheet.functions().iter().zip(&names.functions) {
+    for (function, name) in sheet.functions().iter().zip(&names.functions) {
         write!(text, "function {name}")?;
-        if !diagnostics.is_empty() {
+        if !function.diagnostics.is_empty() {
             write!(text, " diagnostics")?;
         }
-        for diagnostic in diagnostics {
+        for diagnostic in &function.diagnostics {
             write!(text, " {diagnostic}")?;
+        }
+        for place in &function.context {
+            write!(text, " context {}", names.place(place))?;
         }
         writeln!(text)?;
     }
@@ -167,8 +171,7 @@ fn put_sheet(text: &mut String, sheet: &Sheet, names: &Names) -> fmt::Result {
             }
         }
         for instruction in &block.instructions {
-            writeln!(text, "  instruction at {}", instruction.order.0)?;
-            put_effects(text, &instruction.effects, names)?;
+            put_instruction(text, instruction, names)?;
         }
         match block.terminal {
             Terminal::Other { order } => writeln!(text, "  terminal Other at {}", order.0)?,
@@ -179,9 +182,32 @@ fn put_sheet(text: &mut String, sheet: &Sheet, names: &Names) -> fmt::Result {
                 writeln!(text, "  terminal MaybeThrow at {}", order.0)?;
             }
         }
+        put_places(text, "operand", &block.terminal_operands, names)?;
         put_effects(text, &block.terminal_effects, names)?;
     }
     Ok(())
+}
+
+fn put_instruction(text: &mut String, instruction: &Instruction, names: &Names) -> fmt::Result {
+    write!(text, "  instruction at {}", instruction.order.0)?;
+    if instruction.lvalue != Place::of(IdentifierId(0)) {
+        write!(text, " lvalue {}", names.place(&instruction.lvalue))?;
+    }
+    match instruction.value {
+        InstructionValue::Plain => {}
+        InstructionValue::Function(id) => write!(text, " function {}", names.function(id))?,
+        InstructionValue::StoreContext(id) => {
+            write!(text, " StoreContext {}", names.identifier(id))?;
+        }
+    }
+    writeln!(text)?;
+    put_places(text, "lvalue", &instruction.lvalues, names)?;
+    put_places(text, "operand", &instruction.operands, names)?;
+    put_effects(text, &instruction.effects, names)
+}
+
+fn put_places(text: &mut String, word: &str, places: &[Place], names: &Names) -> fmt::Result {
+    places.iter().try_for_each(|place| writeln!(text, "    {word} {}", names.place(place)))
 }
 
 fn put_effects(text: &mut String, effects: &[AliasingEffect], names: &Names) -> fmt::Result {
@@ -375,7 +401,7 @@ fn more_of_place<'n>(or: &[&'n str]) -> impl Iterator<Item = &'n str> {
 }
 
 /// What a line can begin with, effects aside.
-const LINES: [&str; 11] = [
+const LINES: [&str; 12] = [
     "flags",
     "identifier",
     "function",
@@ -386,6 +412,7 @@ const LINES: [&str; 11] = [
     "phi",
     "operand",
     "instruction",
+    "lvalue",
     "terminal",
 ];
 
@@ -418,6 +445,7 @@ impl Parser {
             "phi" => Parser::phi,
             "operand" => Parser::operand,
             "instruction" => Parser::instruction,
+            "lvalue" => Parser::lvalue,
             "terminal" => Parser::terminal,
             _ => {
                 let (lines, effects) = (LINES.join(", "), EffectKind::NAMES.join(", "));
@@ -480,24 +508,47 @@ impl Parser {
         }
         let mut diagnostics = Vec::new();
         if words.take("diagnostics") {
-            while words.rest.peek().is_some() {
+            while words.rest.peek().is_some_and(|word| *word != "context") {
                 diagnostics.push(words.diagnostic()?);
             }
         }
-        words.end_or(&["diagnostics IDENTITY/INSTANCE .."])?;
-        let id = self.builder.function(&diagnostics).map_err(|e| e.to_string())?;
+        let mut context = Vec::new();
+        while words.take("context") {
+            context.push(self.place(words)?);
+        }
+        if context.is_empty() {
+            words.end_or(&["diagnostics IDENTITY/INSTANCE ..", "context PLACE"])?;
+        }
+        words.end_of_place(&["context PLACE"])?;
+        let id = self.builder.function(&diagnostics, &context).map_err(|e| e.to_string())?;
         self.names.functions.push(name.clone());
         self.functions.insert(name, id);
         Ok(())
     }
 
-    fn place(&self, words: &mut Words) -> Parsed<Place> {
+    fn identifier_name(&self, words: &mut Words) -> Parsed<IdentifierId> {
         let known = words.rest.peek().and_then(|name| self.identifiers.get(*name));
         let Some(&identifier) = known else {
             let names = self.names.identifiers.iter().map(String::as_str);
             return words.expected_name("the name of an identifier declared above", names);
         };
         words.rest.next();
+        Ok(identifier)
+    }
+
+    fn function_name(&self, words: &mut Words) -> Parsed<FunctionId> {
+        let known = words.rest.peek().and_then(|name| self.functions.get(*name));
+        let Some(&function) = known else {
+            let names = self.names.functions.iter().map(String::as_str);
+            let what = "the name of an inner function declared above";
+            return words.expected_name(what, names);
+        };
+        words.rest.next();
+        Ok(function)
+    }
+
+    fn place(&self, words: &mut Words) -> Parsed<Place> {
+        let identifier = self.identifier_name(words)?;
         let effect = words.take_named(Effect::from_name).unwrap_or(Effect::Unknown);
         let reactive = words.take("reactive");
         let span = if words.take("span") { words.number("a span")? } else { 0 };
@@ -550,7 +601,12 @@ impl Parser {
         self.builder.phi(place).map_err(|e| e.to_string())
     }
 
+    /// An operand of a phi comes from a block; one of an instruction or a terminal from nowhere.
     fn operand(&mut self, words: &mut Words) -> Parsed {
+        if !self.builder.in_phi() {
+            let place = self.last_place(words)?;
+            return self.builder.value_operand(place).map_err(|e| e.to_string());
+        }
         let place = self.place_then(words, "from")?;
         let predecessor = BlockId(words.number("the number of a block")?);
         words.end()?;
@@ -560,8 +616,34 @@ impl Parser {
     fn instruction(&mut self, words: &mut Words) -> Parsed {
         words.keyword("at")?;
         let order = EvaluationOrder(words.number("an order")?);
-        words.end()?;
-        self.builder.instruction(order).map_err(|e| e.to_string())
+        let lvalue = if words.take("lvalue") { Some(self.place(words)?) } else { None };
+        let value = self.value(words)?;
+        let values = ["function NAME", "StoreContext NAME"];
+        match (lvalue, value) {
+            (_, Some(_)) => words.end()?,
+            (Some(_), None) => words.end_of_place(&values)?,
+            (None, None) => words.end_or(&["lvalue PLACE", values[0], values[1]])?,
+        }
+        self.builder.instruction(order).map_err(|e| e.to_string())?;
+        let lvalue = lvalue.map_or(Ok(()), |place| self.builder.lvalue(place));
+        let value = lvalue.and_then(|()| self.builder.value(value.unwrap_or_default()));
+        value.map_err(|e| e.to_string())
+    }
+
+    /// What an instruction's value is, if the line says so.
+    fn value(&self, words: &mut Words) -> Parsed<Option<InstructionValue>> {
+        if words.take("function") {
+            return Ok(Some(InstructionValue::Function(self.function_name(words)?)));
+        }
+        if words.take("StoreContext") {
+            return Ok(Some(InstructionValue::StoreContext(self.identifier_name(words)?)));
+        }
+        Ok(None)
+    }
+
+    fn lvalue(&mut self, words: &mut Words) -> Parsed {
+        let place = self.last_place(words)?;
+        self.builder.value_lvalue(place).map_err(|e| e.to_string())
     }
 
     fn terminal(&mut self, words: &mut Words) -> Parsed {
@@ -639,13 +721,7 @@ impl Parser {
                     let what = format!("{MORE_OF_PLACE} or `function NAME`");
                     return words.expected_name(&what, more_of_place(&["function"]));
                 }
-                let known = words.rest.peek().and_then(|name| self.functions.get(*name));
-                let Some(&function) = known else {
-                    let names = self.names.functions.iter().map(String::as_str);
-                    let what = "the name of an inner function declared above";
-                    return words.expected_name(what, names);
-                };
-                words.rest.next();
+                let function = self.function_name(words)?;
                 words.end()?;
                 Ok(function.0)
             }

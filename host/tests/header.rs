@@ -48,6 +48,8 @@ fn names_and_numbers() {
     assert_eq!(constants("ServiceKind", "SERVICE_KIND_"), numbered(EffectKind::NAMES));
     assert_eq!(constants("ServiceReason", "SERVICE_REASON_"), numbered(ValueReason::NAMES));
     assert_eq!(constants("ServiceValue", "SERVICE_VALUE_"), numbered(ValueKind::NAMES));
+    let instructions = numbered(&["Plain", "Function", "StoreContext"]);
+    assert_eq!(constants("ServiceInstruction", "SERVICE_INSTRUCTION_"), instructions);
     let terminals = numbered(&["Other", "Return", "MaybeThrow"]);
     assert_eq!(constants("ServiceTerminal", "SERVICE_TERMINAL_"), terminals);
     let refusals = Refusal::ALL.map(|r| (format!("REFUSED_{}", capitals(&format!("{r:?}"))), r));

@@ -15,42 +15,42 @@ const WORKED_OUT: [(u32, u32, u32, &str); 4] = [
         2,
         1,
         "0  1 0 0 0  0  1 1 0 0  1  0 0 1
-         1 1 10 0 0 0 0 0 0 0
-         0 2",
+         1 0 0 0 0 0 0 1 10 0 0 0 0 0 0 0
+         0 2 0",
     ),
     (
         1,
         3,
         4,
         "0  1 0 0 0  0  1 2 0 0  1  0 0 4
-         1 1 8 2 0 0 1 0 0 0
-         2 1 8 0 0 0 0 0 0 0
-         3 1 6 0 0 0 0 0 0 0
-         4 1 8 0 0 0 2 0 0 0
-         0 5",
+         1 0 0 0 0 0 0 1 8 2 0 0 1 0 0 0
+         2 0 0 0 0 0 0 1 8 0 0 0 0 0 0 0
+         3 0 0 0 0 0 0 1 6 0 0 0 0 0 0 0
+         4 0 0 0 0 0 0 1 8 0 0 0 2 0 0 0
+         0 5 0",
     ),
     (
         2026,
         4,
         6,
         "0  1 0 0 0  0  1 3 0 0  1  0 0 6
-         1 1 7 1 0 0 2 0 0 0
-         2 1 10 0 0 0 1 0 0 0
-         3 1 3 0 0 0 0 0 0 0
-         4 1 8 2 0 0 1 0 0 0
-         5 1 2 1 0 0 0 0 0 0
-         6 1 7 2 0 0 0 0 0 0
-         0 7",
+         1 0 0 0 0 0 0 1 7 1 0 0 2 0 0 0
+         2 0 0 0 0 0 0 1 10 0 0 0 1 0 0 0
+         3 0 0 0 0 0 0 1 3 0 0 0 0 0 0 0
+         4 0 0 0 0 0 0 1 8 2 0 0 1 0 0 0
+         5 0 0 0 0 0 0 1 2 1 0 0 0 0 0 0
+         6 0 0 0 0 0 0 1 7 2 0 0 0 0 0 0
+         0 7 0",
     ),
     (
         4_294_967_295,
         5,
         3,
         "0  1 0 0 0  0  1 4 0 0  1  0 0 3
-         1 1 2 1 0 0 0 0 0 0
-         2 1 7 3 0 0 4 0 0 0
-         3 1 10 3 0 0 0 0 0 0
-         0 4",
+         1 0 0 0 0 0 0 1 2 1 0 0 0 0 0 0
+         2 0 0 0 0 0 0 1 7 3 0 0 4 0 0 0
+         3 0 0 0 0 0 0 1 10 3 0 0 0 0 0 0
+         0 4 0",
     ),
 ];
 
@@ -70,9 +70,9 @@ fn words_worked_out() {
 #[test]
 fn long_loads() {
     for (seed, identifiers, effects, length, sum, digits) in [
-        (1, 512, 512, 6_676, 349_117, 3_312_967_355),
-        (u32::MAX, 2, 512, 5_146, 135_857, 4_252_347_729),
-        (7, 512, 1, 1_566, 1_719, 3_890_536_229),
+        (1, 512, 512, 9_749, 349_117, 1_648_462_629),
+        (u32::MAX, 2, 512, 8_219, 135_857, 2_995_338_191),
+        (7, 512, 1, 1_573, 1_719, 1_764_468_155),
     ] {
         let words = ClassLoad { seed, identifiers, effects }.words().unwrap();
         assert_eq!(words.len(), length);
@@ -124,7 +124,7 @@ fn accepted() {
         assert!(matches!(sheet.blocks()[0].terminal, Terminal::Other { .. }));
         let answer = service.infer(&words).unwrap();
         assert_eq!(answer.serial(), serial);
-        assert!(answer.words().len() <= 43 + 2 * n as usize + m as usize);
+        assert!(answer.words().len() <= 47 + 2 * n as usize + 4 * m as usize);
     }
 }
 
@@ -146,11 +146,11 @@ fn refused() {
         assert_eq!(words(identifiers, effects), Err(Refusal::OutOfRange));
     }
     assert_eq!(words(1, 1).unwrap_err().to_string(), "refused 5: A word is outside its range.");
-    assert_eq!(words(2, 1).map(|words| words.len()), Ok(36));
+    assert_eq!(words(2, 1).map(|words| words.len()), Ok(43));
     assert_eq!(words(512, 512).map(|words| words.len()), Ok(limits::LOAD));
     // 5 comes before 9.
     assert_eq!(lent(Load { seed: 9, n: 1, m: 1 }, 0).0.refusal, 5);
     assert_eq!(lent(Load { seed: 9, n: 2, m: 1 }, 0).0.refusal, 9);
-    assert_eq!(lent(Load { seed: 9, n: 2, m: 1 }, 35).0.refusal, 9);
-    assert_eq!(lent(Load { seed: 9, n: 2, m: 1 }, 36).0.refusal, 0);
+    assert_eq!(lent(Load { seed: 9, n: 2, m: 1 }, 42).0.refusal, 9);
+    assert_eq!(lent(Load { seed: 9, n: 2, m: 1 }, 43).0.refusal, 0);
 }

@@ -32,29 +32,35 @@ fn case_1() -> Vec<u32> {
     CASE_1.split_whitespace().filter_map(|word| word.parse().ok()).collect()
 }
 
-/// The entries of the first walk, and every end.
+/// The entries of the first walk, and every end but that of identifier 0: it is the lvalue of
+/// every instruction, and the cases' ends are those before the pass over operands.
 fn walked(sheet: &plain::Sheet) -> (u32, Vec<u32>) {
     let mut service = Service::new();
     let answer = service.infer(&sheet.words()).unwrap();
-    (answer.walks()[0], answer.ranges().map(|r| r.end.0).collect())
+    (answer.walks()[0], answer.ranges().skip(1).map(|r| r.end.0).collect())
 }
 
 #[test]
 fn bench_case_1() {
     let mut service = Service::new();
     let answer = service.infer(&case_1()).unwrap();
-    let lines = "ranges 3 0 3 0 3 0 0\n\
+    let lines = "ranges 3 1 3 0 3 0 0\n\
                  params 1 0 3 5\n\
                  context 0\n\
                  diagnostics 0\n\
                  effects 3 3 0 0 7 0 0 0 0 9 2 0 0 0 0 0 0 6 0 3 5 2 0 0 0\n\
-                 walks 3 3 5 5\n";
+                 walks 3 3 5 5\n\
+                 phis 0\n\
+                 instructions 2 0 3 0 0 5 0\n\
+                 terminals 1 1 1 0\n\
+                 inner 0\n";
     assert_eq!(answer.to_string(), lines);
 
     assert_eq!(answer.serial(), 0);
     let moved = MutableRange { start: EvaluationOrder::UNSET, end: EvaluationOrder(3) };
     let ranges: Vec<_> = answer.ranges().collect();
-    assert_eq!(ranges, [moved, moved, MutableRange::default()]);
+    let begun = MutableRange { start: EvaluationOrder(1), ..moved };
+    assert_eq!(ranges, [begun, moved, MutableRange::default()]);
     assert_eq!(answer.range(IdentifierId(1)), Some(moved));
     assert_eq!(answer.range(IdentifierId(3)), None);
     let param = Place { effect: Effect::Capture, ..place(0).span(5) };
@@ -68,6 +74,63 @@ fn bench_case_1() {
     ];
     assert_eq!(answer.effects().collect::<Vec<_>>(), effects);
     assert_eq!(answer.walks(), [3, 5, 5]);
+    assert_eq!(answer.phis().len(), 0);
+    let marked = |identifier, effect| Place { effect, ..place(identifier) };
+    let lvalues = [marked(0, Effect::Capture), marked(0, Effect::ConditionallyMutate)];
+    assert_eq!(answer.instructions().collect::<Vec<_>>(), lvalues);
+    assert_eq!(answer.terminals().collect::<Vec<_>>(), [marked(1, Effect::Freeze)]);
+    assert_eq!(answer.inner().len(), 0);
+}
+
+/// The sections of the pass over operands, as typed places.
+#[test]
+fn operands() {
+    let text = "\
+flags function-expression
+identifier a range 0 9
+identifier b
+identifier p range 0 3
+function f context a Mutate reactive span 3 context b
+returns b
+block 0
+  phi p span 1
+    operand a from 0
+  instruction at 2 lvalue b span 4 function f
+    Capture a into b
+  instruction at 3 lvalue b StoreContext p
+    lvalue a
+    operand a Store span 5
+    operand p
+  terminal Other at 4
+    operand a reactive
+block 1
+  terminal Return b at 5
+";
+    let (sheet, _) = service_host::text::parse(text).unwrap();
+    let mut service = Service::new();
+    let answer = service.infer(&sheet.words()).unwrap();
+    let places = |section: Vec<Place>| -> Vec<(u32, Effect, bool, u32)> {
+        section.iter().map(|p| (p.identifier.0, p.effect, p.reactive, p.span)).collect()
+    };
+    use Effect::{Capture, ConditionallyMutate, Read, Store};
+    // a is captured by b, whose end was set to 3, above 2; p is stored at 3, its end.
+    let ranges: Vec<_> = answer.ranges().map(|r| (r.start.0, r.end.0)).collect();
+    assert_eq!(ranges, [(2, 9), (2, 3), (1, 4)]);
+    let phis = places(answer.phis().collect());
+    assert_eq!(phis, [(2, Store, false, 1), (0, Capture, false, 0)]);
+    let instructions = places(answer.instructions().collect());
+    let expected = [
+        (1, Store, false, 4),
+        (1, ConditionallyMutate, false, 0),
+        (0, ConditionallyMutate, false, 0),
+        (0, Read, false, 5),
+        (2, Read, false, 0),
+    ];
+    assert_eq!(instructions, expected);
+    let terminals = places(answer.terminals().collect());
+    assert_eq!(terminals, [(0, Read, true, 0), (1, Read, false, 0)]);
+    let inner = places(answer.inner().collect());
+    assert_eq!(inner, [(0, Capture, true, 3), (1, Store, false, 0)]);
 }
 
 #[test]
@@ -86,12 +149,12 @@ fn bench_case_2() {
 #[test]
 fn bench_cases_3_to_7() {
     let [created_from, capture, waiting, operand, phi, twice] = graph_sheets();
-    assert_eq!(walked(&created_from), (2, vec![0, 3, 0]));
-    assert_eq!(walked(&capture), (1, vec![0, 3, 0]));
-    assert_eq!(walked(&waiting), (1, vec![2, 0, 0, 0]));
-    assert_eq!(walked(&operand), (2, vec![2, 0, 2, 0]));
-    assert_eq!(walked(&phi), (5, vec![2, 2, 2, 0]));
-    assert_eq!(walked(&twice), (7, vec![4, 4, 0]));
+    assert_eq!(walked(&created_from), (2, vec![3, 0]));
+    assert_eq!(walked(&capture), (1, vec![3, 0]));
+    assert_eq!(walked(&waiting), (1, vec![0, 0, 0]));
+    assert_eq!(walked(&operand), (2, vec![0, 2, 0]));
+    assert_eq!(walked(&phi), (5, vec![2, 2, 0]));
+    assert_eq!(walked(&twice), (7, vec![4, 0]));
 }
 
 #[test]
@@ -144,10 +207,10 @@ fn bench_case_9() {
         assert_eq!(over.totals().relations, 1_025);
         assert_eq!(lent(&mut state, &over.words(), 16_384, 100_000).0.refusal, 8);
     }
-    let (reply, words) = lent(&mut state, &sheet, 16_384, 17);
-    assert_eq!((reply.refusal, reply.length), (0, 17));
-    assert_eq!(words, [1, 0, 0, 0, 0, 0, 1, 9, 0, 0, 0, 0, 0, 0, 0, 1, 1]);
-    assert_eq!(lent(&mut state, &sheet, 16_384, 16).0.refusal, 9);
+    let (reply, words) = lent(&mut state, &sheet, 16_384, 21);
+    assert_eq!((reply.refusal, reply.length), (0, 21));
+    assert_eq!(words, [1, 0, 0, 0, 0, 0, 1, 9, 0, 0, 0, 0, 0, 0, 0, 1, 1, 0, 0, 0, 0]);
+    assert_eq!(lent(&mut state, &sheet, 16_384, 20).0.refusal, 9);
     assert_eq!(state.next, 4);
 }
 
@@ -162,7 +225,12 @@ fn every_refusal() {
     let mut two_blocks = sheet.clone();
     // Two blocks of number 7: no phi, no instruction, terminal Other at order 1.
     two_blocks.pop();
-    two_blocks.extend([2, 7, 0, 0, 0, 1, 7, 0, 0, 0, 1]);
+    two_blocks.extend([2, 7, 0, 0, 0, 1, 0, 7, 0, 0, 0, 1, 0]);
+    // A block whose one instruction has Apply among its effects.
+    let mut applied = sheet.clone();
+    applied.pop();
+    applied.extend([1, 7, 0, 1, 1, 0, 0, 0, 0, 0, 0, 1]);
+    applied.extend([12, 0, 0, 0, 0, 0, 0, 0, 0, 2, 0]);
     let over = |limit| past_limit(&mut Random::new(1), limit).words();
 
     let mut state = ffi::new_state();
@@ -183,6 +251,8 @@ fn every_refusal() {
         assert_eq!(refusal(&over(limit), 16_384, 1_000), Some(Refusal::Totals));
     }
     assert_eq!(refusal(&sheet, 16_384, 0), Some(Refusal::ShortAnswer));
+    assert_eq!(refusal(&applied, 16_384, 1_000), Some(Refusal::Apply));
+    assert_eq!(refusal(&applied, 16_384, 0), Some(Refusal::Apply));
 }
 
 #[test]
@@ -202,7 +272,7 @@ fn longest_answer() -> Vec<u32> {
     sheet.validations(true);
     let ids: Vec<_> = (0..512).map(|_| sheet.identifier(Identifier::default()).unwrap()).collect();
     let list: Vec<_> = (0..64).map(|d| AliasingDiagnostic::new(1_000 + d, d)).collect();
-    let function_id = sheet.function(&list).unwrap();
+    let function_id = sheet.function(&list, &[]).unwrap();
     sheet.block(service_host::BlockId(0)).unwrap();
     let mut effects = Vec::new();
     for &id in &ids {
@@ -228,19 +298,19 @@ fn answers_of_any_length() {
     let mut service = Service::new();
     let answer = service.infer(&sheet).unwrap();
     assert_eq!(answer.serial(), 0, "attempts with too short a buffer take no serial");
-    assert_eq!((sheet.len(), answer.diagnostics().len()), (11_918, 8_388_608));
+    assert_eq!((sheet.len(), answer.diagnostics().len()), (11_932, 8_388_608));
     assert!(answer.words().len() <= limits::ANSWER);
     assert!(answer.diagnostics().zip((0..64).cycle()).all(|(d, i)| d.words() == [1_000 + i, i]));
     // The next call is a small one again.
     let answer = service.infer(&case_1()).unwrap();
-    assert_eq!((answer.serial(), answer.words().len()), (1, 42));
+    assert_eq!((answer.serial(), answer.words().len()), (1, 55));
 
     let mut limited = Service::new().most_answer(8_000_000);
     assert_eq!(limited.infer(&sheet).unwrap_err(), Refusal::ShortAnswer);
     assert_eq!(limited.infer(&case_1()).unwrap().serial(), 0);
-    let mut tight = Service::new().most_answer(42);
-    assert_eq!(tight.infer(&case_1()).unwrap().words().len(), 42);
-    let mut short = Service::new().most_answer(41);
+    let mut tight = Service::new().most_answer(55);
+    assert_eq!(tight.infer(&case_1()).unwrap().words().len(), 55);
+    let mut short = Service::new().most_answer(54);
     assert_eq!(short.infer(&case_1()).unwrap_err(), Refusal::ShortAnswer);
 }
 
@@ -284,7 +354,8 @@ fn answers_are_the_oracles() {
                 assert_eq!(answer.serial(), serial);
                 serial = serial.wrapping_add(1);
                 let sheet = oracle_plain::read(&words).unwrap();
-                let original = oracle::original_side::answer(&sheet);
+                let original = oracle::original_side::answer(&sheet).expect("there is no Apply");
+                let original = original.filled(&oracle_plain::answer(&sheet));
                 let effects = original.effects.iter().map(|e| {
                     let (a, b) = (e.first, e.second);
                     let words = [a.identifier, a.traits, a.span, b.identifier, b.traits, b.span];
@@ -298,6 +369,14 @@ fn answers_are_the_oracles() {
                 assert!(ranges.eq(original.ranges));
                 assert_eq!(answer.params().len(), original.params.len());
                 assert_eq!(answer.context().len(), original.context.len());
+                let places = |list: &[plain::Place]| -> Vec<[u32; 3]> {
+                    list.iter().map(|p| [p.identifier, p.traits, p.span]).collect()
+                };
+                let words = |list: Vec<Place>| list.iter().map(Place::words).collect::<Vec<_>>();
+                assert_eq!(words(answer.phis().collect()), places(&original.phis));
+                assert_eq!(words(answer.instructions().collect()), places(&original.instructions));
+                assert_eq!(words(answer.terminals().collect()), places(&original.terminals));
+                assert_eq!(words(answer.inner().collect()), places(&original.inner));
             }
             (Err(refusal), Outcome::Refused(number)) => assert_eq!(refusal.number(), number),
             (got, expected) => panic!("{got:?}, not {expected:?}"),

@@ -6,7 +6,8 @@ use oracle::random::Random;
 use service_host::text::{self, Names};
 use service_host::{
     AliasingDiagnostic, AliasingEffect, BlockId, Effect, EvaluationOrder, FunctionId, Identifier,
-    IdentifierId, MutableRange, PartError, Place, Service, Sheet, SheetBuilder, Terminal, limits,
+    IdentifierId, InstructionValue, MutableRange, PartError, Place, Service, Sheet, SheetBuilder,
+    Terminal, limits,
 };
 
 /// The generator's sheets, as words.
@@ -23,8 +24,8 @@ fn rebuilt(sheet: &Sheet) -> Result<Sheet, PartError> {
     for identifier in sheet.identifiers() {
         builder.identifier(*identifier)?;
     }
-    for diagnostics in sheet.functions() {
-        builder.function(diagnostics)?;
+    for function in sheet.functions() {
+        builder.function(&function.diagnostics, &function.context)?;
     }
     for place in sheet.params() {
         builder.param(*place)?;
@@ -42,11 +43,22 @@ fn rebuilt(sheet: &Sheet) -> Result<Sheet, PartError> {
         }
         for instruction in &block.instructions {
             builder.instruction(instruction.order)?;
+            builder.lvalue(instruction.lvalue)?;
+            for place in &instruction.lvalues {
+                builder.value_lvalue(*place)?;
+            }
+            for place in &instruction.operands {
+                builder.value_operand(*place)?;
+            }
+            builder.value(instruction.value)?;
             for effect in &instruction.effects {
                 builder.effect(*effect)?;
             }
         }
         builder.terminal(block.terminal)?;
+        for place in &block.terminal_operands {
+            builder.value_operand(*place)?;
+        }
         for effect in &block.terminal_effects {
             builder.effect(*effect)?;
         }
@@ -72,7 +84,7 @@ fn words_parts_and_text_are_the_same() {
 fn faults_are_the_librarys() {
     let mut random = Random::new(2);
     let mut service = Service::new();
-    let mut seen = [0; 10];
+    let mut seen = [0; 11];
     for _ in 0..6_000 {
         let words = damaged(&mut random).sheet;
         let ours = match Sheet::read(&words) {
@@ -83,7 +95,8 @@ fn faults_are_the_librarys() {
         assert_eq!(ours, library, "{words:?}");
         seen[library.map_or(0, |r| r.number() as usize)] += 1;
     }
-    assert!(seen[2..9].iter().all(|&count| count > 50), "{seen:?}");
+    assert_eq!(seen[9], 0);
+    assert!(seen[2..9].iter().all(|&count| count > 50) && seen[10] > 50, "{seen:?}");
 }
 
 #[test]
@@ -102,18 +115,48 @@ fn the_first_fault_in_words() {
     let head = [2, 0, 1, 1, 0, 0, 0, 0, 0, 0, 1, 0, 0, 0];
     let with = |blocks: &[u32]| [&head[..], blocks].concat();
     assert_eq!(
-        error(&with(&[2, 7, 0, 0, 0, 1, 7])),
-        "refused 6: word 20 (block 2 of 2): expected a block number, found 7, which was used before"
+        error(&with(&[2, 7, 0, 0, 0, 1, 0, 7])),
+        "refused 6: word 21 (block 2 of 2): expected a block number, found 7, which was used before"
     );
     assert_eq!(
-        error(&with(&[1, 7, 0, 1, 1, 1, 6, 0, 0, 0, 1])),
-        "refused 5: word 24 (block 1 of 1, instruction 1 of 1, effect 1 of 1): expected a \
+        error(&with(&[1, 7, 0, 1, 1, 0, 0, 0, 0, 0, 0, 1, 6, 0, 0, 0, 1])),
+        "refused 5: word 30 (block 1 of 1, instruction 1 of 1, effect 1 of 1): expected a \
          place's identifier, found 1, but the sheet has 1 of them"
     );
     assert_eq!(
-        error(&with(&[1, 7, 0, 1, 1, 1, 17, 0, 0, 0, 0, 2])),
-        "refused 5: word 25 (block 1 of 1, instruction 1 of 1, effect 1 of 1): expected a word \
+        error(&with(&[1, 7, 0, 1, 1, 0, 0, 0, 0, 0, 0, 1, 17, 0, 0, 0, 0, 2])),
+        "refused 5: word 31 (block 1 of 1, instruction 1 of 1, effect 1 of 1): expected a word \
          of a place that Render does not use, 0, found 2"
+    );
+    assert_eq!(
+        error(&with(&[1, 7, 0, 1, 1, 1])),
+        "refused 5: word 19 (block 1 of 1, instruction 1 of 1): expected a place's identifier, \
+         found 1, but the sheet has 1 of them"
+    );
+    assert_eq!(
+        error(&with(&[1, 7, 0, 1, 1, 0, 0, 0, 0, 65])),
+        "refused 4: word 23 (block 1 of 1, instruction 1 of 1): expected a count of an \
+         instruction's operands, at most 64, found 65"
+    );
+    assert_eq!(
+        error(&with(&[1, 7, 0, 1, 1, 0, 0, 0, 0, 1, 0, 16])),
+        "refused 5: word 25 (block 1 of 1, instruction 1 of 1, operand 1 of 1): expected a \
+         place's traits (effect, plus 8 if reactive), at most 15, found 16"
+    );
+    assert_eq!(
+        error(&with(&[1, 7, 0, 1, 1, 0, 0, 0, 0, 0, 3])),
+        "refused 5: word 24 (block 1 of 1, instruction 1 of 1): expected a value (0 plain, \
+         1 function, 2 StoreContext), at most 2, found 3"
+    );
+    assert_eq!(
+        error(&with(&[1, 7, 0, 1, 1, 0, 0, 0, 0, 0, 2, 1])),
+        "refused 5: word 25 (block 1 of 1, instruction 1 of 1): expected a stored identifier, \
+         found 1, but the sheet has 1 of them"
+    );
+    assert_eq!(
+        error(&with(&[1, 7, 0, 0, 2, 1, 0, 1])),
+        "refused 4: word 21 (block 1 of 1): expected the count of a MaybeThrow's operands, 0, \
+         found 1"
     );
     assert_eq!(error(&with(&[0, 5, 5])), "refused 7: word 15: 2 words follow the last block");
     assert_eq!(
@@ -161,7 +204,7 @@ fn full(
 #[test]
 fn every_count_has_its_limit() {
     full(builder(0), 512, |b, _| b.identifier(Identifier::default()).map(drop));
-    full(builder(0), 64, |b, _| b.function(&[]).map(drop));
+    full(builder(0), 64, |b, _| b.function(&[], &[]).map(drop));
     full(builder(1), 64, |b, _| b.param(place(0)));
     full(builder(1), 64, |b, _| b.context(place(0)));
     full(builder(1), 256, |b, i| {
@@ -177,14 +220,21 @@ fn every_count_has_its_limit() {
     full(phi, 1_024, |b, i| b.operand(BlockId(i), place(0)));
     let mut instruction = open.clone();
     instruction.instruction(order(0)).unwrap();
-    full(instruction, 1_024, |b, _| b.effect(AliasingEffect::Apply));
-    let mut terminal = open;
+    full(instruction.clone(), 1_024, |b, _| b.effect(AliasingEffect::Apply));
+    full(instruction.clone(), 64, |b, _| b.value_lvalue(place(0)));
+    full(instruction, 64, |b, _| b.value_operand(place(0)));
+    let mut terminal = open.clone();
     terminal.terminal(Terminal::MaybeThrow { order: order(0) }).unwrap();
     full(terminal, 1_024, |b, _| b.effect(AliasingEffect::Apply));
+    let mut terminal = open;
+    terminal.terminal(Terminal::Other { order: order(0) }).unwrap();
+    full(terminal, 64, |b, _| b.value_operand(place(0)));
 
     let diagnostics = [AliasingDiagnostic::default(); 65];
-    assert!(builder(0).function(&diagnostics[..64]).is_ok());
-    assert!(builder(0).function(&diagnostics).is_err());
+    assert!(builder(0).function(&diagnostics[..64], &[]).is_ok());
+    assert!(builder(0).function(&diagnostics, &[]).is_err());
+    assert!(builder(1).function(&[], &[place(0); 64]).is_ok());
+    assert!(builder(1).function(&[], &[place(0); 65]).is_err());
 }
 
 #[test]
@@ -206,7 +256,7 @@ fn every_number_has_its_limit() {
     at_limit(limits::RANGE, |n| identifier(0, n));
     let halves = |n| [AliasingDiagnostic::new(n, 0), AliasingDiagnostic::new(0, n)];
     for half in 0..2 {
-        at_limit(limits::DIAGNOSTIC, |n| builder(0).function(&[halves(n)[half]]).map(drop));
+        at_limit(limits::DIAGNOSTIC, |n| builder(0).function(&[halves(n)[half]], &[]).map(drop));
     }
     at_limit(limits::BLOCK_NUMBER, |n| builder(0).block(BlockId(n)));
     let mut open = builder(1);
@@ -244,14 +294,28 @@ fn parts_that_are_not_there() {
     none(b.effect(AliasingEffect::Alias { from: place(0), into: place(1) }));
     none(b.effect(AliasingEffect::Alias { from: place(1), into: place(0) }));
     none(b.effect(AliasingEffect::Render { place: place(1) }));
+    none(b.lvalue(place(1)));
+    none(b.value_lvalue(place(1)));
+    none(b.value_operand(place(1)));
+    none(b.value(InstructionValue::StoreContext(IdentifierId(1))));
+    none(b.function(&[], &[place(1)]).map(drop));
+    let made = InstructionValue::Function(FunctionId(0));
+    assert_eq!(b.value(made), Err(PartError::NoFunction { function: FunctionId(0), count: 0 }));
     none(b.terminal(Terminal::Return { order: order(1), value: place(1) }));
     let create = AliasingEffect::CreateFunction { into: place(0), function_id: FunctionId(0) };
     assert_eq!(b.effect(create), Err(PartError::NoFunction { function: FunctionId(0), count: 0 }));
-    b.function(&[]).unwrap();
+    b.function(&[], &[]).unwrap();
     assert_eq!(b.effect(create), Ok(()));
+    assert_eq!(b.value(made), Ok(()));
     assert_eq!(b.clone().finish(place(0)), Err(PartError::BlockNotEnded(BlockId(3))));
     assert_eq!(b.block(BlockId(4)), Err(PartError::BlockNotEnded(BlockId(3))));
     b.terminal(Terminal::Other { order: order(1) }).unwrap();
+    none(b.value_operand(place(1)));
+    // An instruction without an lvalue of its own has the first identifier's.
+    let mut none_yet = SheetBuilder::new();
+    none_yet.block(BlockId(0)).unwrap();
+    let first = PartError::NoIdentifier { identifier: IdentifierId(0), count: 0 };
+    assert_eq!(none_yet.instruction(order(0)), Err(first));
     assert!(Service::new().infer(&b.finish(place(0)).unwrap().words()).is_ok());
 }
 
@@ -283,12 +347,21 @@ fn parts_out_of_place() {
     b.block(BlockId(0)).unwrap();
     misplaced(b.operand(BlockId(0), place(0)));
     misplaced(b.effect(AliasingEffect::Apply));
+    misplaced(b.lvalue(place(0)));
+    misplaced(b.value_lvalue(place(0)));
+    misplaced(b.value_operand(place(0)));
+    misplaced(b.value(InstructionValue::Plain));
     b.instruction(order(0)).unwrap();
     misplaced(b.phi(place(0)));
     misplaced(b.operand(BlockId(0), place(0)));
     b.terminal(Terminal::Other { order: order(0) }).unwrap();
     misplaced(b.effect(AliasingEffect::Apply));
+    misplaced(b.lvalue(place(0)));
     misplaced(b.instruction(order(0)));
+    b.value_operand(place(0)).unwrap();
+    b.block(BlockId(1)).unwrap();
+    b.terminal(Terminal::Return { order: order(0), value: place(0) }).unwrap();
+    misplaced(b.value_operand(place(0)));
 }
 
 /// Parts drawn at random, many of them faulty: what the builder makes is never refused 3 to 7.
@@ -309,7 +382,7 @@ fn no_sheet_that_is_refused_3_to_7() {
             let near = random.choose(&[0, 1, 2, 65_535, 65_536, 999_999, 1_000_000, 1_000_001]);
             let effect = std::array::from_fn(|_| random.below(18) as u32);
             // Faults are what is tried here.
-            _ = match random.below(11) {
+            _ = match random.below(15) {
                 0 => b
                     .identifier(Identifier {
                         range: MutableRange { start: order(near), end: order(near) },
@@ -317,7 +390,7 @@ fn no_sheet_that_is_refused_3_to_7() {
                     })
                     .map(drop),
                 1 => b.identifier(Identifier::default()).map(drop),
-                2 => b.function(&[AliasingDiagnostic::new(0, near)]).map(drop),
+                2 => b.function(&[AliasingDiagnostic::new(0, near)], &[p]).map(drop),
                 3 => b.param(p),
                 4 => b.context(p),
                 5 => b.block(BlockId(near)),
@@ -328,6 +401,14 @@ fn no_sheet_that_is_refused_3_to_7() {
                     Some(effect) => b.effect(effect),
                     None => b.effect(AliasingEffect::Alias { from: p, into: p }),
                 },
+                10 => b.lvalue(p),
+                11 => b.value_lvalue(p),
+                12 => b.value_operand(p),
+                13 => b.value(match random.below(3) {
+                    0 => InstructionValue::Plain,
+                    1 => InstructionValue::Function(FunctionId(near)),
+                    _ => InstructionValue::StoreContext(p.identifier),
+                }),
                 _ => b.terminal(match random.below(3) {
                     0 => Terminal::Other { order: order(near) },
                     1 => Terminal::Return { order: order(near), value: p },
@@ -337,7 +418,8 @@ fn no_sheet_that_is_refused_3_to_7() {
         }
         if let Ok(sheet) = b.finish(place(0)) {
             accepted += 1;
-            assert!(service.infer(&sheet.words()).is_ok(), "{sheet:?}");
+            let refusal = service.infer(&sheet.words()).err();
+            assert_eq!(refusal, sheet.refusal(), "{sheet:?}");
         }
     }
     assert!(accepted > 500, "{accepted}");
@@ -419,6 +501,51 @@ fn faults_in_text_name_the_line_and_what_was_expected() {
     );
     assert_eq!(error("block 4\nidentifier c"), "line 6: block 4 has no terminal yet");
     assert_eq!(block("instruction 1"), "line 6: expected `at`, found `1`");
+    assert_eq!(
+        block("instruction at 1 a"),
+        "line 6: expected `lvalue PLACE`, `function NAME`, `StoreContext NAME` or the end of the \
+         line, found `a`"
+    );
+    assert_eq!(
+        block("instruction at 1 lvalue a Reed"),
+        "line 6: expected an effect, `reactive`, `span NUMBER`, `function NAME`, `StoreContext \
+         NAME` or the end of the line, found `Reed`; did you mean `Read`?"
+    );
+    assert_eq!(
+        block("instruction at 1 function g"),
+        "line 6: expected the name of an inner function declared above, found `g`"
+    );
+    assert_eq!(
+        block("instruction at 1 StoreContext c"),
+        "line 6: expected the name of an identifier declared above, found `c`"
+    );
+    assert_eq!(
+        block("instruction at 1 function f StoreContext a"),
+        "line 6: expected the end of the line, found `StoreContext`"
+    );
+    assert_eq!(block("lvalue a"), "line 6: a value lvalue follows an instruction");
+    assert_eq!(
+        block("operand a"),
+        "line 6: an operand follows a phi, an instruction or a terminal Other"
+    );
+    assert_eq!(
+        block("instruction at 1\noperand a from 9"),
+        "line 7: expected an effect, `reactive`, `span NUMBER` or the end of the line, \
+         found `from`"
+    );
+    assert_eq!(
+        block("terminal MaybeThrow at 1\noperand a"),
+        "line 7: an operand follows a phi, an instruction or a terminal Other"
+    );
+    assert_eq!(
+        error("function g contxt a"),
+        "line 5: expected `diagnostics IDENTITY/INSTANCE ..`, `context PLACE` or the end of the \
+         line, found `contxt`; did you mean `context`?"
+    );
+    assert_eq!(
+        error("function g diagnostics 1 context c"),
+        "line 5: expected the name of an identifier declared above, found `c`"
+    );
     assert_eq!(
         block("phi a\noperand a from 9\noperand b from 9"),
         "line 8: the phi names predecessor 9 a second time"

@@ -47,29 +47,41 @@ fn words_and_text() {
 fn explained() {
     let text = String::from_utf8(out(&["explain", "panel.txt"])).unwrap();
     assert!(text.starts_with(
-        "props  0..0 -> 0..7\n    \
+        "props  0..0 -> 1..7\n    \
          MutateTransitive rows span 88, instruction at 6 in block 2 (index 4) \
          changes rows and all that it has captured\n    \
          -> rows.given, of which rows is an alias: \
          phi rows in block 2, operand from block 1 (index 3)\n    \
          -> props, from which rows.given was created, and all that it has captured: \
-         CreateFrom props into rows.given, instruction at 4 in block 1 (index 1)\n"
+         CreateFrom props into rows.given, instruction at 4 in block 1 (index 1)\n    \
+         start 1: it was 0, and the instruction at 1 in block 0 has it as an operand\n"
+    ));
+    assert!(text.contains(
+        "length  0..0 -> 6..7\n    \
+         end 7: it was 0, and the instruction at 6 in block 2 has it as an lvalue\n    \
+         start 6: it was 0, and the instruction at 6 in block 2 has it as an lvalue\n"
     ));
     assert!(text.ends_with(
-        "5 of 8 ends moved. Ends and walks made here agree with the library's answer.\n"
+        "result  0..0, not moved\n\
+         8 of 9 ends moved, 3 of them by the pass over operands. Ranges and walks made here agree \
+         with the library's answer.\n"
     ));
     let words = String::from_utf8(out(&["explain", "case1.sheet"])).unwrap();
-    assert!(words.starts_with("x0  0..0 -> 0..3\n"), "{words}");
+    assert!(words.starts_with("x0  0..0 -> 1..3\n"), "{words}");
 }
 
 #[test]
 fn answered() {
-    let lines = "ranges 3 0 3 0 3 0 0\n\
+    let lines = "ranges 3 1 3 0 3 0 0\n\
                  params 1 0 3 5\n\
                  context 0\n\
                  diagnostics 0\n\
                  effects 3 3 0 0 7 0 0 0 0 9 2 0 0 0 0 0 0 6 0 3 5 2 0 0 0\n\
-                 walks 3 3 5 5\n";
+                 walks 3 3 5 5\n\
+                 phis 0\n\
+                 instructions 2 0 3 0 0 5 0\n\
+                 terminals 1 1 1 0\n\
+                 inner 0\n";
     assert_eq!(String::from_utf8(out(&["answer", "case1.sheet"])).unwrap(), lines);
     assert_eq!(String::from_utf8(out(&["answer", "case1.txt"])).unwrap(), lines);
     let copy = file("answer.txt", b"");
@@ -143,7 +155,7 @@ fn class_loads() {
                 terminal Other at 5\n";
     assert_eq!(String::from_utf8(out(&["load", "1", "3", "4", "--text"])).unwrap(), text);
     let words = out(&["load", "1", "3", "4"]);
-    assert_eq!(words.len(), 4 * (20 + 3 * 3 + 10 * 4));
+    assert_eq!(words.len(), 4 * (21 + 3 * 3 + 16 * 4));
     assert_eq!(words, out(&["words", &file("load.txt", text.as_bytes())]));
     let copy = file("load.sheet", b"");
     assert!(out(&["load", "-o", &copy, "1", "3", "4"]).is_empty());
@@ -234,19 +246,23 @@ fn refusals_of_the_whole() {
         let words = file("totals.sheet", &output.stdout);
         assert_eq!(fault(&["answer", &words]), message.replace("totals.txt", "totals.sheet"));
     }
-    let long = text("Apply", 1_020) + "instruction at 2\n";
-    let path = file("long.txt", (long + &"Apply\n".repeat(1_024) + one).as_bytes());
-    let words = 3 + 4 + 1 + 1 + 1 + 4 + 1 + 2 + 1 + 2 + 2 + 8 * 2_044 + 2;
-    assert_eq!(words, 16_376);
+    let long = text("Freeze a", 1_018) + "instruction at 2\n";
+    let path = file("long.txt", (long + &"Freeze a\n".repeat(1_024) + one).as_bytes());
+    let words = 3 + 4 + 1 + 1 + 1 + 4 + 1 + 2 + 1 + 8 + 8 + 8 * 2_042 + 3;
+    assert_eq!(words, 16_373);
     assert!(sheet(&["answer", &path]).status.success());
     let more =
-        std::fs::read_to_string(&path).unwrap().replace(one, "instruction at 3\nApply\n") + one;
+        std::fs::read_to_string(&path).unwrap().replace(one, "instruction at 3\nFreeze a\n") + one;
     let path = file("long.txt", more.as_bytes());
-    assert!(fault(&["answer", &path]).ends_with("at most 16384 words, this one 16386\n"));
+    assert!(fault(&["answer", &path]).ends_with("at most 16384 words, this one 16389\n"));
     assert_eq!(
         fault(&["explain", &path]),
-        format!("sheet: {path}: refused 2: the sheet has 16386 words, at most 16384\n")
+        format!("sheet: {path}: refused 2: the sheet has 16389 words, at most 16384\n")
     );
+    let apply = file("apply.txt", (text("Mutate a", 1) + "Apply\n" + one).as_bytes());
+    let message = "refused 10: the sheet has Apply, instruction at 1 in block 0";
+    assert_eq!(fault(&["answer", &apply]), format!("sheet: {apply}: {message}\n"));
+    assert_eq!(fault(&["explain", &apply]), format!("sheet: {apply}: {message}\n"));
 }
 
 #[test]

@@ -62,6 +62,14 @@ impl Described {
         self.put(&format!("{of}: span"), 0, Nothing);
     }
 
+    /// A count of at most 64 and the places of these identifiers.
+    fn places(&mut self, of: &str, identifiers: &[u32]) {
+        self.put(&format!("count, {of}"), identifiers.len() as u32, Count(64));
+        for (i, identifier) in identifiers.iter().enumerate() {
+            self.place(&format!("place {i}, {of}"), *identifier);
+        }
+    }
+
     /// A place, or an unused one with the largest first word that it may have.
     fn place_if(&mut self, of: &str, used: bool, identifier: u32, instance: u32) {
         if used {
@@ -110,6 +118,7 @@ impl Described {
                 self.put(&format!("{of}: identity"), 2 * f + d, Range(65_535));
                 self.put(&format!("{of}: instance"), 7, Range(65_535));
             }
+            self.places(&format!("context of function {f}"), &[f, 2]);
         }
         self.put("parameters", 2, Count(64));
         self.place("first parameter", 0);
@@ -138,14 +147,34 @@ impl Described {
         self.put("instructions", count, Count(1_024));
     }
 
-    fn instruction(&mut self, order: u32, kinds: &[u32]) {
+    /// An instruction up to its value.
+    fn lists(&mut self, order: u32, lvalues: &[u32], operands: &[u32]) {
         self.put(&format!("order of instruction {order}"), order, Range(999_999));
+        self.place(&format!("lvalue of instruction {order}"), 0);
+        self.places(&format!("value lvalues of instruction {order}"), lvalues);
+        self.places(&format!("operands of instruction {order}"), operands);
+    }
+
+    fn value(&mut self, value: u32) {
+        self.put(&format!("value {value}"), value, Kind(2));
+        match value {
+            1 => self.put("function of a value", 0, Range(FUNCTIONS - 1)),
+            2 => self.put("identifier that is stored", 1, Range(IDENTIFIERS - 1)),
+            _ => {}
+        }
+    }
+
+    /// An instruction without lists and with a plain value.
+    fn instruction(&mut self, order: u32, kinds: &[u32]) {
+        self.lists(order, &[], &[]);
+        self.value(0);
         self.effects(&format!("instruction {order}"), kinds);
     }
 
-    fn other(&mut self, order: u32) {
+    fn other(&mut self, order: u32, operands: &[u32]) {
         self.put("terminal kind, other", 0, Kind(2));
         self.put("order of a terminal, other", order, Range(999_999));
+        self.places("operands of a terminal", operands);
     }
 
     fn returns(&mut self, order: u32, kinds: &[u32]) {
@@ -153,12 +182,14 @@ impl Described {
         self.put("order of a Return", order, Range(999_999));
         self.place("value of a Return", 0);
         self.effects("a Return", kinds);
+        self.put("operands of a Return", 0, Fixed);
     }
 
     fn maybe_throw(&mut self, order: u32, kinds: &[u32]) {
         self.put("terminal kind, MaybeThrow", 2, Kind(2));
         self.put("order of a MaybeThrow", order, Range(999_999));
         self.effects("a MaybeThrow", kinds);
+        self.put("operands of a MaybeThrow", 0, Fixed);
     }
 
     /// The word at its largest, and the refusal one past it.
@@ -203,7 +234,7 @@ impl Described {
         if let Some(refusal) = refusal {
             sheets.push(self.with(at, "passed", most + 1, length, refusal));
         }
-        if self.held[at].1 == Fixed {
+        if self.held[at].1 == Fixed && most > 0 {
             sheets.push(self.with(at, "one below", most - 1, length, 4));
         }
         sheets
@@ -217,17 +248,27 @@ fn every_section() -> Described {
     sheet.put("blocks", 3, Count(256));
     sheet.block(20, 1);
     sheet.phi(&[30, 20, 10]);
-    sheet.instructions(2);
+    sheet.instructions(4);
     sheet.instruction(1, &[13, 5]);
     sheet.instruction(2, &[]);
+    // Destructure and FunctionExpression; StoreContext follows.
+    sheet.lists(7, &[1, 2], &[0]);
+    sheet.value(0);
+    sheet.effects("instruction 7", &[8]);
+    sheet.lists(8, &[], &[]);
+    sheet.value(1);
+    sheet.effects("instruction 8", &[13]);
     sheet.returns(3, &[6]);
     sheet.block(10, 0);
-    sheet.instructions(1);
+    sheet.instructions(2);
     sheet.instruction(4, &[3, 17]);
+    sheet.lists(9, &[2], &[2, 1]);
+    sheet.value(2);
+    sheet.effects("instruction 9", &[]);
     sheet.maybe_throw(5, &[9]);
     sheet.block(30, 0);
     sheet.instructions(0);
-    sheet.other(6);
+    sheet.other(6, &[0, 1]);
     sheet
 }
 
@@ -256,40 +297,78 @@ fn effects() -> Vec<Boundary> {
         sheet.block(0, 0);
         sheet.instructions(1);
         sheet.instruction(1, &[kind]);
+        // Where the effects end: behind those of a terminal stands its operand count.
         let instruction = sheet.words.len();
         sheet.maybe_throw(2, &[kind]);
-        let maybe_throw = sheet.words.len();
+        let maybe_throw = sheet.words.len() - 1;
         sheet.block(1, 0);
         sheet.instructions(0);
         sheet.returns(3, &[kind]);
-        let whole = sheet.words.len();
-        for at in [instruction, maybe_throw, whole].into_iter().flat_map(|end| end - 8..end) {
+        let returns = sheet.words.len() - 1;
+        for at in [instruction, maybe_throw, returns].into_iter().flat_map(|end| end - 8..end) {
             if matches!(sheet.held[at].1, Range(_) | Nothing) {
                 sheet.words[at] = sheet.most(at).0;
             }
         }
-        sheets.push(sheet.whole(&format!("kind {kind}, every word met"), 0));
-        for at in (instruction - 8..instruction).chain([maybe_throw - 1, whole - 1]) {
+        let whole = sheet.words.len();
+        let met = if kind == 12 { 10 } else { 0 };
+        sheets.push(sheet.whole(&format!("kind {kind}, every word met"), met));
+        for at in (instruction - 8..instruction).chain([maybe_throw - 1, returns - 1]) {
             sheets.extend(sheet.passed(at, whole));
         }
     }
     sheets
 }
 
-/// CreateFunction's extra word, below the count of inner functions.
+/// CreateFunction's extra word, and a value's function, below the count of inner functions.
 fn functions() -> Vec<Boundary> {
     let mut sheets = Vec::new();
     for count in [0_u32, 1, 2, 63, 64] {
         for function in count.saturating_sub(1)..=count {
-            let mut words = vec![2, 0, 1, 1, 0, 0, 0, count];
-            words.extend(vec![0; count as usize]);
-            // No parameter, no context; returns; a block of one instruction of one effect.
-            words.extend([0, 0, 1, 0, 0, 0, 1, 0, 0, 1, 1, 1]);
-            words.extend([13, 0, 0, 0, 0, 0, 0, function, 0, 2]);
+            // Functions without diagnostics and context; no parameter, no context; returns; a block.
+            let mut head = vec![2, 0, 1, 1, 0, 0, 0, count];
+            head.extend(vec![0; 2 * count as usize]);
+            head.extend([0, 0, 1, 0, 0, 0, 1, 0, 0, 1]);
+            let create = [1, 0, 0, 0, 0, 0, 0, 1, 13, 0, 0, 0, 0, 0, 0, function];
+            let value = [1, 0, 0, 0, 0, 0, 1, function, 0];
+            for (what, instruction) in [("CreateFunction", &create[..]), ("value", &value[..])] {
+                sheets.push(Boundary {
+                    name: format!("{what} of {function} of {count} inner functions"),
+                    words: [&head[..], instruction, &[0, 2, 0]].concat(),
+                    refusal: if function < count { 0 } else { 5 },
+                });
+            }
+        }
+    }
+    sheets
+}
+
+/// Lists of 64 and of 65 places: context places of an inner function, value lvalues, operands,
+/// a terminal's operands.
+fn long_lists() -> Vec<Boundary> {
+    let mut sheets = Vec::new();
+    for count in [64, 65] {
+        for long in 0..4 {
+            let list = |position: u32| {
+                let length = if position == long { count } else { 0 };
+                let places = (0..length).flat_map(|i| [i % 2, i % 16, i]);
+                [length].into_iter().chain(places)
+            };
+            // Two identifiers; an inner function without diagnostics; returns; a block.
+            let mut words = vec![2, 0, 1, 2, 0, 0, 0, 0, 0, 0, 1, 0];
+            words.extend(list(0));
+            words.extend([0, 0, 1, 0, 0, 0, 1, 0, 0, 1, 5, 0, 0, 0]);
+            words.extend(list(1));
+            words.extend(list(2));
+            // The function's creation, if it has the list.
+            words.extend(if long == 0 { vec![1, 0] } else { vec![0] });
+            words.extend([0, 0, 2]);
+            words.extend(list(3));
+            let refusal = if count == 64 { 0 } else { 4 };
             sheets.push(Boundary {
-                name: format!("CreateFunction of {function} of {count} inner functions"),
+                name: format!("list {long} of {count} places"),
                 words,
-                refusal: if function < count { 0 } else { 5 },
+                refusal,
             });
         }
     }
@@ -323,7 +402,7 @@ fn numbers() -> Vec<Boundary> {
         for number in numbers {
             blocks.block(*number, 0);
             blocks.instructions(0);
-            blocks.other(1);
+            blocks.other(1, &[]);
         }
         sheets.push(blocks.whole(&format!("blocks {numbers:?}"), refusal));
         // Two phis with the same predecessors; blocks that come, and others that never do.
@@ -340,47 +419,47 @@ fn numbers() -> Vec<Boundary> {
             }
         }
         phis.instructions(0);
-        phis.other(1);
+        phis.other(1, &[]);
         phis.block(65_535, 0);
         phis.instructions(0);
-        phis.other(2);
+        phis.other(2, &[]);
         sheets.push(phis.whole(&format!("predecessors {numbers:?}"), refusal));
     }
     sheets
 }
 
-/// Twenty instructions without effects, then one with a mutation. One of the twenty may have an
-/// effect, all of whose words could be orders and effect counts of instructions without.
-fn instructions(with_effect: Option<u32>) -> (Described, Vec<usize>) {
-    const RUN: u32 = 20;
+/// How many instructions without lists and effects stand one after another.
+const RUN: u32 = 8;
+
+/// So many instructions, then one with a mutation. One of the first may have an effect, all of
+/// whose words could be those of an instruction.
+fn instructions(with_effect: Option<u32>) -> (Described, std::ops::Range<usize>) {
     let mut sheet = Described::default();
     sheet.head();
     sheet.put("blocks", 1, Count(256));
     sheet.block(0, 0);
     sheet.instructions(RUN + 1);
-    let mut words = Vec::new();
+    let start = sheet.words.len();
     for i in 0..RUN {
-        words.extend([sheet.words.len(), sheet.words.len() + 1]);
-        sheet.put(&format!("order {i} of {RUN}"), 999_999, Range(999_999));
-        if with_effect == Some(i) {
-            sheet.effects(&format!("instruction {i} of {RUN}"), &[12]);
-        } else {
-            sheet.put(&format!("effects of instruction {i} of {RUN}"), 0, Count(1_024));
-        }
+        let kinds: &[u32] = if with_effect == Some(i) { &[0] } else { &[] };
+        let order = sheet.words.len();
+        sheet.instruction(i, kinds);
+        sheet.words[order] = 999_999;
     }
+    let run = start..sheet.words.len();
     sheet.instruction(RUN, &[3]);
-    sheet.other(999_999);
-    (sheet, words)
+    sheet.other(999_999, &[]);
+    (sheet, run)
 }
 
-/// Instructions without effects, one after another: each order and each effect count passed; and an
+/// Instructions without lists and effects, one after another: each of their words passed; and an
 /// effect at each of them.
 fn runs() -> Vec<Boundary> {
-    let (sheet, words) = instructions(None);
+    let (sheet, run) = instructions(None);
     let whole = sheet.words.len();
     let mut sheets = vec![sheet.whole("the largest orders", 0)];
-    sheets.extend(words.iter().flat_map(|&at| sheet.passed(at, whole)));
-    for i in 0..words.len() as u32 / 2 {
+    sheets.extend(run.flat_map(|at| sheet.passed(at, whole)));
+    for i in 0..RUN {
         let (sheet, _) = instructions(Some(i));
         sheets.push(sheet.whole(&format!("an effect of instruction {i} alone"), 0));
     }
@@ -388,5 +467,5 @@ fn runs() -> Vec<Boundary> {
 }
 
 pub fn all() -> Vec<Boundary> {
-    [words(), effects(), functions(), numbers(), runs()].concat()
+    [words(), effects(), functions(), long_lists(), numbers(), runs()].concat()
 }

@@ -1,4 +1,6 @@
-//! The bench cases of document 01, with the numbers that it gives.
+//! The bench cases of document 01, with the numbers that it gives. In the form of order 4 they
+//! have lvalue place 0, empty lists and value 0, and their ranges are those before the pass
+//! over operands.
 
 use crate::boundaries;
 use crate::compare::{compare, roomy};
@@ -6,21 +8,28 @@ use crate::damage::{Call, Room};
 use crate::generate::{self, LIMITS, Limit, PASSABLE};
 use crate::plain::building::build;
 use crate::plain::sheet::{
-    Block, Effect, Identifier, Instruction, Phi, Place, Sheet, Terminal, WORKSPACE_WORDS,
+    APPLY, Block, Effect, Identifier, Instruction, Phi, Place, Sheet, Terminal, WORKSPACE_WORDS,
 };
 use crate::plain::walks::trace;
 use crate::plain::{self, Answer, Outcome};
 use crate::random::Random;
 
-pub const CASE_1: &str = "2 0 1 / 3 0 0 0 0 0 0 0 0 0 / 0 / 1 0 0 5 / 0 / 1 2 0 0 / 1 0 0 2 1 2 9 1 0 0 0 0 0 0 5 0 0 0 1 0 0 0 2 1 3 1 0 7 0 0 0 0 1 3 1 0 0 0";
+pub const CASE_1: &str = "2 0 1 / 3 0 0 0 0 0 0 0 0 0 / 0 / 1 0 0 5 / 0 / 1 2 0 0 / 1 0 0 2 1 0 0 0 0 0 0 2 9 1 0 0 0 0 0 0 5 0 0 0 1 0 0 0 2 0 0 0 0 0 0 1 3 1 0 7 0 0 0 0 1 3 1 0 0 0 0";
 
-const ANSWER_1: [&str; 6] = [
-    "ranges 3 0 3 0 3 0 0",
+/// Before the pass over operands.
+const RANGES_1: [(u32, u32); 3] = [(0, 3), (0, 3), (0, 0)];
+
+const ANSWER_1: [&str; 10] = [
+    "ranges 3 1 3 0 3 0 0",
     "params 1 0 3 5",
     "context 0",
     "diagnostics 0",
     "effects 3 3 0 0 7 0 0 0 0 9 2 0 0 0 0 0 0 6 0 3 5 2 0 0 0",
     "walks 3 3 5 5",
+    "phis 0",
+    "instructions 2 0 3 0 0 5 0",
+    "terminals 1 1 1 0",
+    "inner 0",
 ];
 
 fn place(identifier: u32) -> Place {
@@ -39,9 +48,10 @@ fn two(kind: u32, from: u32, into: u32) -> Effect {
 fn block(number: u32, effects: &[Effect]) -> Block {
     let instructions = (1..)
         .zip(effects)
-        .map(|(order, effect)| Instruction { order, effects: vec![*effect] })
+        .map(|(order, effect)| Instruction::plain(order, vec![*effect]))
         .collect();
-    Block { number, phis: Vec::new(), instructions, terminal: Terminal::Other { order: 9 } }
+    let terminal = Terminal::Other { order: 9, operands: Vec::new() };
+    Block { number, phis: Vec::new(), instructions, terminal }
 }
 
 fn sheet(identifiers: usize, params: &[u32], returns: u32, blocks: Vec<Block>) -> Sheet {
@@ -77,12 +87,19 @@ fn accepted(sheet: &Sheet, walk: usize) -> Vec<u32> {
     traced.walks[walk].accepted.iter().map(|s| s.identifier).collect()
 }
 
+/// The ranges before the pass over operands.
+fn ranges_before(sheet: &Sheet) -> Vec<(u32, u32)> {
+    let ends = trace(sheet, build(sheet)).ends;
+    sheet.identifiers.iter().zip(ends).map(|(i, end)| (i.start, end)).collect()
+}
+
 fn case_1_words() -> Vec<u32> {
     CASE_1.split_whitespace().filter_map(|w| w.parse().ok()).collect()
 }
 
 fn case_1() -> Result<(), String> {
     let sheet = plain::read(&case_1_words()).map_err(|r| format!("refused {r}"))?;
+    is("ranges before the pass", ranges_before(&sheet), RANGES_1.to_vec())?;
     is("lines", agreed(&sheet)?.lines(), ANSWER_1.map(String::from).to_vec())
 }
 
@@ -125,8 +142,9 @@ fn case_3() -> Result<(), String> {
     let [sheet, ..] = graph_sheets();
     let answer = agreed(&sheet)?;
     is("entries", answer.walks[0], 2)?;
-    is("end of 0", answer.ranges[0].1, 0)?;
-    is("end of 1", answer.ranges[1].1, 3)
+    let ranges = ranges_before(&sheet);
+    is("end of 0", ranges[0].1, 0)?;
+    is("end of 1", ranges[1].1, 3)
 }
 
 fn case_4() -> Result<(), String> {
@@ -134,14 +152,14 @@ fn case_4() -> Result<(), String> {
     let answer = agreed(&sheet)?;
     is("entries", answer.walks[0], 1)?;
     is("accepted", accepted(&sheet, 0), vec![1])?;
-    is("end of 0", answer.ranges[0].1, 0)
+    is("end of 0", ranges_before(&sheet)[0].1, 0)
 }
 
 fn case_5() -> Result<(), String> {
     let [_, _, sheet, ..] = graph_sheets();
     let answer = agreed(&sheet)?;
     is("entries", answer.walks[0], 1)?;
-    is("end of the phi", answer.ranges[2].1, 0)?;
+    is("end of the phi", ranges_before(&sheet)[2].1, 0)?;
     let built = build(&sheet);
     let edges = &built.nodes[0].as_ref().ok_or("x has no node")?.edges;
     is("stored order", edges.iter().map(|e| e.index).collect(), vec![2, 0])
@@ -207,7 +225,7 @@ fn case_9() -> Result<(), String> {
     let Outcome::Accepted(words) = plain::outcome(&good.sheet, good.workspace, usize::MAX) else {
         return Err("refused".into());
     };
-    is("answer", words, vec![1, 0, 0, 0, 0, 0, 1, 9, 0, 0, 0, 0, 0, 0, 0, 1, 1])
+    is("answer", words, vec![1, 0, 0, 0, 0, 0, 1, 9, 0, 0, 0, 0, 0, 0, 0, 1, 1, 0, 0, 0, 0])
 }
 
 /// Every limit: met exactly it is accepted, passed by one it is refused.
@@ -239,8 +257,8 @@ fn limits() -> Result<(), String> {
 /// For one word the lower number, and the first faulty word decides: sheets with their refusals.
 fn ordered_sheets() -> Vec<(&'static str, Vec<u32>, u32)> {
     let good = sheet(1, &[], 0, vec![block(7, &[]), block(8, &[])]).words();
-    // The words of the second block: number, phis, instructions, terminal, order.
-    let number = good.len() - 5;
+    // The words of the second block: number, phis, instructions, terminal, order, operands.
+    let number = good.len() - 6;
     let with = |changes: &[(usize, u32)], length: usize| {
         let mut words = good.clone();
         changes.iter().for_each(|&(at, word)| words[at] = word);
@@ -250,6 +268,13 @@ fn ordered_sheets() -> Vec<(&'static str, Vec<u32>, u32)> {
     let whole = good.len();
     let past = generate::past_limit(&mut Random::new(1), Limit::Renders).words();
     let longer: Vec<u32> = past.iter().copied().chain([0]).collect();
+    let apply = Effect { kind: APPLY, ..Effect::default() };
+    let applied = sheet(1, &[], 0, vec![block(0, &[one(1, 0)]), block(1, &[apply])]).words();
+    let mut applied_past = generate::past_limit(&mut Random::new(1), Limit::Renders);
+    applied_past.blocks[0].instructions[0].effects.push(apply);
+    let mut in_terminal = sheet(1, &[], 0, vec![block(0, &[])]);
+    in_terminal.blocks[0].terminal = Terminal::MaybeThrow { order: 2, effects: vec![apply] };
+    let applied_longer = applied.iter().copied().chain([0]).collect();
     vec![
         ("good", with(&[], whole), 0),
         ("number again", with(&[(number, 7)], whole), 6),
@@ -264,6 +289,10 @@ fn ordered_sheets() -> Vec<(&'static str, Vec<u32>, u32)> {
         ("7 up to 16,384 words", with(&[], 16_384), 7),
         ("flags 3", with(&[(0, 3)], whole), 4),
         ("empty", with(&[], 0), 3),
+        ("Apply in a terminal", in_terminal.words(), 0),
+        ("10", applied, 10),
+        ("7 before 10", applied_longer, 7),
+        ("8 before 10", applied_past.words(), 8),
         ("8", past, 8),
         ("7 before 8", longer, 7),
     ]
@@ -276,6 +305,9 @@ fn refusal_order() -> Result<(), String> {
     }
     let [.., (_, past, _), (_, longer, _)] = &sheets[..] else { unreachable!("there are two") };
     is("8 before 9", refusal(&Call { room: Room::None, ..roomy(past) })?, 8)?;
+    let (_, applied, _) = sheets.iter().find(|sheet| sheet.0 == "10").ok_or("no Apply")?;
+    is("10 before 9", refusal(&Call { room: Room::None, ..roomy(applied) })?, 10)?;
+    is("1 before 10", refusal(&Call { workspace: 0, ..roomy(applied) })?, 1)?;
     is("1 before 7", refusal(&Call { workspace: 0, ..roomy(longer) })?, 1)
 }
 

@@ -4,11 +4,11 @@
 use std::panic::{AssertUnwindSafe, catch_unwind};
 
 use crate::damage::{Call, Room};
-use crate::original_side;
+use crate::original_side::{self, Answered};
 use crate::plain::{self, Outcome, sheet};
 
 /// A further side of the comparison, such as our own library. It answers every
-/// call, refusals 1 and 9 included, with all six sections.
+/// call, refusals 1 and 9 included, with all ten sections.
 pub trait Side {
     fn name(&self) -> &'static str;
 
@@ -46,6 +46,10 @@ fn words_in_lines(words: &[u32]) -> Vec<String> {
         ("diagnostics", 2),
         ("effects", 8),
         ("walks", 1),
+        ("phis", 3),
+        ("instructions", 3),
+        ("terminals", 3),
+        ("inner", 3),
     ];
     let mut lines = Vec::new();
     let mut rest = words;
@@ -62,15 +66,24 @@ fn words_in_lines(words: &[u32]) -> Vec<String> {
     lines
 }
 
-/// The original's five lines, or why there are none.
+/// The original's lines, all but the walks, or why there are none. Where it has nothing of its own
+/// to say they are the plain reader's.
 pub fn original_lines(sheet: &sheet::Sheet) -> Vec<String> {
     match original_answer(sheet) {
-        Ok(answer) => answer.lines()[..5].to_vec(),
+        Ok(Some(original)) => without_walks(&original.filled(&plain::answer(sheet))),
+        Ok(None) => vec!["an Apply is met".to_string()],
         Err(message) => vec![message],
     }
 }
 
-fn original_answer(sheet: &sheet::Sheet) -> Result<plain::Answer, String> {
+pub fn without_walks(answer: &plain::Answer) -> Vec<String> {
+    let mut lines = answer.lines();
+    lines.retain(|line| !line.starts_with("walks"));
+    lines
+}
+
+/// What the original leaves, none if it meets an Apply; or its panic.
+fn original_answer(sheet: &sheet::Sheet) -> Result<Option<Answered>, String> {
     catch_unwind(AssertUnwindSafe(|| original_side::answer(sheet))).map_err(|panic| {
         let text = panic
             .downcast_ref::<String>()
@@ -82,7 +95,8 @@ fn original_answer(sheet: &sheet::Sheet) -> Result<plain::Answer, String> {
 }
 
 /// The plain reader's answer held to the original's, to the bound of a walk, and its reading of
-/// the sheet to the sheet's words.
+/// the sheet to the sheet's words. The original's has been filled from the plain reader's where
+/// it has nothing of its own to say.
 fn compare_answers(
     words: &[u32],
     sheet: &sheet::Sheet,
@@ -91,12 +105,8 @@ fn compare_answers(
 ) -> Option<Difference> {
     let difference = |side, expected, got| Some(Difference { side, expected, got });
     match original {
-        Ok(original) => {
-            let five = plain::Answer { walks: Vec::new(), ..plain.clone() };
-            if *original != five {
-                return difference("original", plain.lines(), original.lines()[..5].to_vec());
-            }
-        }
+        Ok(original) if original == plain => {}
+        Ok(original) => return difference("original", plain.lines(), without_walks(original)),
         Err(message) => return difference("original", plain.lines(), vec![message.clone()]),
     }
     // Every walk ends after at most 4R + 1 entries.
@@ -109,6 +119,16 @@ fn compare_answers(
         return difference("words of the sheet as read", vec![given], vec![read]);
     }
     None
+}
+
+/// The original ends with an error on a sheet with an Apply.
+fn compare_apply(sheet: &sheet::Sheet) -> Option<Difference> {
+    let got = match original_answer(sheet) {
+        Ok(None) => return None,
+        Ok(Some(original)) => without_walks(&original.answer),
+        Err(message) => vec![message],
+    };
+    Some(Difference { side: "original", expected: vec!["refused 10".into()], got })
 }
 
 /// The lengths at which a call is made: workspace and answer buffer. The first are the call's own;
@@ -130,8 +150,7 @@ fn lengths(call: &Call, answer: Option<usize>) -> Vec<(usize, usize)> {
     lengths
 }
 
-/// One side at one call's lengths, held to the plain reader; of the original only the five sections
-/// that it has.
+/// One side at one call's lengths, held to the plain reader and to the original.
 fn compare_side(
     side: &mut dyn Side,
     sheet: &[u32],
@@ -142,7 +161,7 @@ fn compare_side(
     let expected = plain::lend(judged.clone(), workspace, room);
     let got = side.outcome(sheet, workspace, room);
     let of_original = match (&got, original) {
-        (Ok(Outcome::Accepted(words)), Some(five)) => words.starts_with(five),
+        (Ok(Outcome::Accepted(words)), Some(original)) => words == original,
         _ => true,
     };
     if of_original && got.as_ref() == Ok(&expected) {
@@ -157,18 +176,25 @@ fn compare_side(
 pub fn compare(call: &Call, sides: &mut [Box<dyn Side>]) -> (u32, Option<Difference>) {
     let mut difference = None;
     let mut original_words = None;
-    let judged = plain::read(&call.sheet).map(|sheet| {
-        let plain = plain::answer(&sheet);
-        let original = original_answer(&sheet);
-        difference = compare_answers(&call.sheet, &sheet, &plain, &original);
-        // All but the count of walks, which is the last word.
-        original_words = original.ok().map(|answer| {
-            let mut words = answer.words();
-            words.pop();
-            words
-        });
-        plain.words()
-    });
+    let judged = match plain::sheet::read_whole(&call.sheet) {
+        Ok((sheet, 0)) => {
+            let plain = plain::answer(&sheet);
+            let original = original_answer(&sheet).and_then(|answered| {
+                let answered = answered.ok_or("an Apply is met")?;
+                Ok(answered.filled(&plain))
+            });
+            difference = compare_answers(&call.sheet, &sheet, &plain, &original);
+            original_words = original.ok().map(|answer| answer.words());
+            Ok(plain.words())
+        }
+        Ok((sheet, refusal)) => {
+            if refusal == 10 {
+                difference = compare_apply(&sheet);
+            }
+            Err(refusal)
+        }
+        Err(refusal) => Err(refusal),
+    };
     let lengths = lengths(call, judged.as_ref().ok().map(Vec::len));
     for side in sides {
         for &lent in &lengths {
@@ -210,10 +236,30 @@ fn smaller(sheet: &sheet::Sheet) -> Vec<sheet::Sheet> {
         for p in 0..block.phis.len() {
             with(&|s| _ = s.blocks[b].phis.remove(p));
         }
-        with(&|s| s.blocks[b].terminal = Terminal::Other { order: 0 });
+        with(&|s| s.blocks[b].terminal = Terminal::Other { order: 0, operands: Vec::new() });
         for (i, instruction) in block.instructions.iter().enumerate() {
             for e in 0..instruction.effects.len() {
                 with(&|s| _ = s.blocks[b].instructions[i].effects.remove(e));
+            }
+            for l in 0..instruction.lvalues.len() {
+                with(&|s| _ = s.blocks[b].instructions[i].lvalues.remove(l));
+            }
+            for o in 0..instruction.operands.len() {
+                with(&|s| _ = s.blocks[b].instructions[i].operands.remove(o));
+            }
+            with(&|s| {
+                let smaller = &mut s.blocks[b].instructions[i];
+                smaller.value = sheet::Value::Plain;
+                smaller.lvalues.clear();
+                smaller.operands.clear();
+            });
+        }
+        if let Terminal::Other { operands, .. } = &block.terminal {
+            for o in 0..operands.len() {
+                with(&|s| match &mut s.blocks[b].terminal {
+                    Terminal::Other { operands, .. } => _ = operands.remove(o),
+                    _ => {}
+                });
             }
         }
         for (p, phi) in block.phis.iter().enumerate() {
@@ -251,7 +297,8 @@ fn smaller(sheet: &sheet::Sheet) -> Vec<sheet::Sheet> {
     }
     with(&|s| _ = s.functions.pop());
     for f in 0..sheet.functions.len() {
-        with(&|s| _ = s.functions[f].pop());
+        with(&|s| _ = s.functions[f].diagnostics.pop());
+        with(&|s| _ = s.functions[f].context.pop());
     }
     all
 }
@@ -316,7 +363,7 @@ mod tests {
     use crate::generate;
     use crate::random::Random;
 
-    /// Answers like the plain reader, but forgets the last walk if there is a phi.
+    /// Answers like the plain reader, but forgets the last word if there is a phi.
     struct Faulty;
 
     impl Side for Faulty {
@@ -353,7 +400,7 @@ mod tests {
         let sheet = plain::read(&small.sheet).expect("it is accepted");
         // One identifier, one block, one phi without operands.
         assert_eq!(sheet.identifiers.len(), 1);
-        assert_eq!(small.sheet.len(), 24);
+        assert_eq!(small.sheet.len(), 25);
         assert!(small.sheet.iter().sum::<u32>() <= 8, "{:?}", small.sheet);
     }
 }

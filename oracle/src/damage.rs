@@ -2,8 +2,8 @@
 
 use crate::generate::{self, Limit, PASSABLE};
 use crate::plain::sheet::{
-    Diagnostic, EFFECTS, MAX_BLOCK_NUMBER, MAX_DIAGNOSTIC, MAX_ORDER, MAX_RANGE, MAX_TRAITS,
-    MAX_TYPE, SHEET_WORDS, Sheet, Terminal, WORKSPACE_WORDS,
+    APPLY, Diagnostic, EFFECTS, Effect, MAX_BLOCK_NUMBER, MAX_DIAGNOSTIC, MAX_ORDER, MAX_RANGE,
+    MAX_TRAITS, MAX_TYPE, SHEET_WORDS, Sheet, Terminal, Value, WORKSPACE_WORDS,
 };
 use crate::random::Random;
 
@@ -136,7 +136,7 @@ fn to_edge(sheet: &mut Sheet, random: &mut Random) {
     let past = random.percent(60) as u32;
     let count = sheet.identifiers.len() as u32;
     let inner = sheet.functions.len() as u32;
-    match random.below(9) {
+    match random.below(10) {
         0 => {
             let at = random.below(sheet.identifiers.len());
             let identifier = &mut sheet.identifiers[at];
@@ -147,7 +147,7 @@ fn to_edge(sheet: &mut Sheet, random: &mut Random) {
             }
         }
         1 => {
-            let all = sheet.functions.iter_mut().flatten().collect();
+            let all = sheet.functions.iter_mut().flat_map(|f| &mut f.diagnostics).collect();
             let diagnostic: Option<&mut Diagnostic> = pick(all, random);
             diagnostic.into_iter().for_each(|d| match random.below(2) {
                 0 => d.identity = MAX_DIAGNOSTIC + past,
@@ -175,7 +175,7 @@ fn to_edge(sheet: &mut Sheet, random: &mut Random) {
             for block in &mut sheet.blocks {
                 all.extend(block.instructions.iter_mut().map(|i| &mut i.order));
                 all.push(match &mut block.terminal {
-                    Terminal::Other { order } => order,
+                    Terminal::Other { order, .. } => order,
                     Terminal::Return { order, .. } => order,
                     Terminal::MaybeThrow { order, .. } => order,
                 });
@@ -183,6 +183,14 @@ fn to_edge(sheet: &mut Sheet, random: &mut Random) {
             pick(all, random).into_iter().for_each(|o| *o = MAX_ORDER + past);
         }
         7 => {
+            let instructions = sheet.blocks.iter_mut().flat_map(|b| &mut b.instructions);
+            let all = instructions.map(|i| &mut i.value).collect();
+            pick(all, random).into_iter().for_each(|v| match random.below(2) {
+                0 => *v = Value::Function((inner + past).saturating_sub(1)),
+                _ => *v = Value::StoreContext(count - 1 + past),
+            });
+        }
+        8 => {
             if let Some(effect) = pick(sheet.effects_mut(), random) {
                 let (_, instance, most) = EFFECTS[effect.kind as usize];
                 match effect.kind {
@@ -206,6 +214,15 @@ fn to_edge(sheet: &mut Sheet, random: &mut Random) {
                 }
             }
         }
+    }
+}
+
+/// Put Apply among the effects of an instruction.
+fn apply(sheet: &mut Sheet, random: &mut Random) {
+    let all = sheet.blocks.iter_mut().flat_map(|b| &mut b.instructions).collect();
+    if let Some(instruction) = pick(all, random) {
+        let at = random.below(instruction.effects.len() + 1);
+        instruction.effects.insert(at, Effect { kind: APPLY, ..Effect::default() });
     }
 }
 
@@ -263,7 +280,7 @@ pub fn damaged(random: &mut Random) -> Call {
             }
         }
         // A number used a second time, at times with another fault.
-        70..85 => {
+        70..82 => {
             for _ in 0..random.between(1, 2) {
                 repeat_number(&mut sheet, random);
             }
@@ -273,7 +290,7 @@ pub fn damaged(random: &mut Random) -> Call {
             }
         }
         // A limit passed by one.
-        85..89 => {
+        82..86 => {
             let limit = if random.percent(50) {
                 random.choose(&PASSABLE)
             } else {
@@ -288,6 +305,27 @@ pub fn damaged(random: &mut Random) -> Call {
         89..90 => {
             let length = random.below(60);
             call.sheet = (0..length).map(|_| random.choose(&EDGES)).collect();
+        }
+        // Apply, at times with another fault.
+        86..89 => {
+            for _ in 0..random.between(1, 2) {
+                apply(&mut sheet, random);
+            }
+            call.sheet = sheet.words();
+            match random.below(8) {
+                0 => call.room = random.choose(&[Room::None, Room::Short(1)]),
+                1 => call.workspace = WORKSPACE_WORDS - 1,
+                2 => call.sheet.push(0),
+                3 => change_word(&mut call.sheet, random),
+                4 => {
+                    let limit =
+                        random.choose(&[Limit::Relations, Limit::Mutations, Limit::Renders]);
+                    let mut past = generate::past_limit(random, limit);
+                    apply(&mut past, random);
+                    call.sheet = past.words();
+                }
+                _ => {}
+            }
         }
         // A short workspace, whatever else is wrong.
         90..93 => {

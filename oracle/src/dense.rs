@@ -19,9 +19,10 @@ pub fn two(kind: u32, from: usize, into: usize) -> Effect {
 pub fn block(number: usize, phis: Vec<Phi>, effects: &[Effect]) -> Block {
     let instructions = (1..)
         .zip(effects.chunks(MAX_COUNT as usize))
-        .map(|(order, part)| Instruction { order, effects: part.to_vec() })
+        .map(|(order, part)| Instruction::plain(order, part.to_vec()))
         .collect();
-    Block { number: number as u32, phis, instructions, terminal: Terminal::Other { order: 9 } }
+    let terminal = Terminal::Other { order: 9, operands: Vec::new() };
+    Block { number: number as u32, phis, instructions, terminal }
 }
 
 /// A sheet of these blocks. The first identifier is the parameter, the last one what is returned.

@@ -1,9 +1,10 @@
 //! Accepted sheets from random numbers: mostly small, with a tail up to the limits.
 
 use crate::plain::sheet::{
-    Block, Diagnostic, EFFECTS, Effect, Identifier, Instruction, MAX_BLOCK_NUMBER, MAX_DIAGNOSTIC,
-    MAX_MUTATIONS, MAX_ORDER, MAX_RANGE, MAX_RELATIONS, MAX_RENDERS, Phi, Place, SHEET_WORDS,
-    Sheet, Terminal, is_mutation, is_relation, is_render,
+    APPLY, Block, Diagnostic, EFFECTS, Effect, Identifier, InnerFunction, Instruction,
+    MAX_BLOCK_NUMBER, MAX_DIAGNOSTIC, MAX_MUTATIONS, MAX_ORDER, MAX_PLACES, MAX_RANGE,
+    MAX_RELATIONS, MAX_RENDERS, Phi, Place, SHEET_WORDS, Sheet, Terminal, Value, is_mutation,
+    is_relation, is_render,
 };
 use crate::random::Random;
 
@@ -17,6 +18,9 @@ struct Size {
     operands: usize,
     instructions: usize,
     effects: usize,
+    /// Value lvalues and operands of an instruction, operands of a terminal, context places of
+    /// an inner function.
+    lists: usize,
 }
 
 const TINY: Size = Size {
@@ -28,6 +32,7 @@ const TINY: Size = Size {
     operands: 3,
     instructions: 4,
     effects: 4,
+    lists: 3,
 };
 
 const SMALL: Size = Size {
@@ -39,6 +44,7 @@ const SMALL: Size = Size {
     operands: 5,
     instructions: 6,
     effects: 5,
+    lists: 4,
 };
 
 const MIDDLE: Size = Size {
@@ -50,6 +56,7 @@ const MIDDLE: Size = Size {
     operands: 8,
     instructions: 9,
     effects: 6,
+    lists: 5,
 };
 
 const LARGE: Size = Size {
@@ -61,6 +68,7 @@ const LARGE: Size = Size {
     operands: 10,
     instructions: 12,
     effects: 8,
+    lists: 6,
 };
 
 /// What is left before a limit.
@@ -79,6 +87,10 @@ pub struct Generator<'r> {
     hot: usize,
     /// One weight for each effect kind.
     weights: [usize; 18],
+    /// Orders and ranges are close together.
+    near: bool,
+    /// How many of 100 instructions have lists that no form need carry.
+    free: usize,
     left: Left,
 }
 
@@ -106,6 +118,9 @@ impl Generator<'_> {
     }
 
     fn order(&mut self) -> u32 {
+        if self.near && self.random.percent(90) {
+            return self.random.below(7) as u32;
+        }
         match self.random.below(20) {
             0 => 0,
             1 => MAX_ORDER,
@@ -115,6 +130,9 @@ impl Generator<'_> {
     }
 
     fn range_word(&mut self) -> u32 {
+        if self.near && self.random.percent(50) {
+            return self.random.below(9) as u32;
+        }
         match self.random.below(12) {
             0 => MAX_RANGE,
             1 => self.random.below(MAX_RANGE as usize + 1) as u32,
@@ -164,6 +182,9 @@ impl Generator<'_> {
         } else {
             self.kind()
         };
+        if !terminal && kind == APPLY {
+            kind = 0;
+        }
         if kind == 13 && self.functions == 0 {
             kind = 9;
         }
@@ -193,6 +214,82 @@ impl Generator<'_> {
     fn effects(&mut self, most: usize, terminal: bool) -> Vec<Effect> {
         let count = self.random.below(most + 1);
         (0..count).map_while(|_| self.effect(terminal)).collect()
+    }
+
+    /// So many places, or as many as still fit.
+    fn list(&mut self, count: usize) -> Vec<Place> {
+        let count = count.min(self.left.words / 3);
+        self.left.words -= 3 * count;
+        (0..count).map(|_| self.place()).collect()
+    }
+
+    /// At most so many places; seldom as many as a list may have.
+    fn list_of(&mut self, most: usize) -> Vec<Place> {
+        let most = if self.random.below(2_000) == 0 { MAX_PLACES as usize } else { most };
+        let count = self.random.below(most + 1);
+        self.list(count)
+    }
+
+    fn function_number(&mut self) -> u32 {
+        self.random.below(self.functions) as u32
+    }
+
+    /// Lists of any lengths with any value.
+    fn free_lists(&mut self, instruction: &mut Instruction, most: usize) {
+        instruction.lvalues = self.list_of(most);
+        instruction.operands = self.list_of(most);
+        instruction.value = match self.random.below(4) {
+            0 if self.functions > 0 => Value::Function(self.function_number()),
+            0 | 1 => Value::StoreContext(self.identifier()),
+            _ => Value::Plain,
+        };
+    }
+
+    /// Lists that some form of `InstructionValue` carries.
+    fn lists(&mut self, instruction: &mut Instruction, most: usize) {
+        match self.random.below(20) {
+            0..3 if self.functions > 0 => {
+                instruction.value = Value::Function(self.function_number());
+            }
+            // StoreContext: the target is the lvalue and the first operand.
+            3..6 if self.left.words >= 9 => {
+                instruction.lvalues = self.list(1);
+                instruction.operands = self.list(2);
+                instruction.lvalues[0].identifier = instruction.operands[0].identifier;
+                instruction.value = Value::StoreContext(instruction.operands[1].identifier);
+            }
+            // Declarations, stores and patterns.
+            6..8 => instruction.lvalues = self.list(1),
+            8..10 if self.left.words >= 6 => {
+                instruction.lvalues = self.list(1);
+                instruction.operands = self.list(1);
+            }
+            10..12 if self.left.words >= 3 => {
+                instruction.operands = self.list(1);
+                instruction.lvalues = self.list_of(most);
+            }
+            12..14 => instruction.operands = self.list(1),
+            14..16 => instruction.operands = self.list(2),
+            16..19 => instruction.operands = self.list_of(most),
+            _ => {}
+        }
+    }
+
+    /// An instruction that still fits.
+    fn instruction(&mut self, order: u32, lists: usize) -> Option<Instruction> {
+        // Order, lvalue, three counts, value and its word.
+        if self.left.words < 9 {
+            return None;
+        }
+        self.left.words -= 9;
+        let mut instruction = Instruction::plain(order, Vec::new());
+        instruction.lvalue = self.place();
+        if self.random.percent(self.free) {
+            self.free_lists(&mut instruction, lists);
+        } else {
+            self.lists(&mut instruction, lists);
+        }
+        Some(instruction)
     }
 
     fn phi(&mut self, numbers: &[u32], at: usize, most: usize) -> Phi {
@@ -226,21 +323,26 @@ impl Generator<'_> {
         for _ in 0..self.random.below(size.phis + 1) {
             if self.left.words >= 4 {
                 self.left.words -= 4;
-                phis.push(self.phi(numbers, at, size.operands));
+                let mut phi = self.phi(numbers, at, size.operands);
+                if let Some(Phi { place, .. }) = phis.last()
+                    && self.random.percent(20)
+                {
+                    phi.place.identifier = place.identifier;
+                }
+                phis.push(phi);
             }
         }
         let mut instructions = Vec::new();
         for _ in 0..self.random.below(size.instructions + 1) {
-            if self.left.words >= 2 {
-                self.left.words -= 2;
-                let order = self.order();
-                instructions
-                    .push(Instruction { order, effects: self.effects(size.effects, false) });
+            let order = self.order();
+            if let Some(mut instruction) = self.instruction(order, size.lists) {
+                instruction.effects = self.effects(size.effects, false);
+                instructions.push(instruction);
             }
         }
         let order = self.order();
         let terminal = match self.random.below(3) {
-            0 => Terminal::Other { order },
+            0 => Terminal::Other { order, operands: self.list_of(size.lists) },
             1 => {
                 let value = self.place();
                 Terminal::Return { order, value, effects: self.effects(size.effects, true) }
@@ -305,13 +407,16 @@ impl Generator<'_> {
                 type_: self.random.below(3) as u32,
             })
             .collect();
-        let functions: Vec<Vec<Diagnostic>> = (0..self.functions)
+        let functions: Vec<InnerFunction> = (0..self.functions)
             .map(|_| {
                 let most = self.random.choose(&[0, 1, 2, 3, 5]);
-                (0..self.random.below(most + 1)).map(|_| self.diagnostic()).collect()
+                let diagnostics: Vec<Diagnostic> =
+                    (0..self.random.below(most + 1)).map(|_| self.diagnostic()).collect();
+                // Two counts, and a diagnostic that may be added.
+                self.left.words -= 2 + 2 * diagnostics.len().max(1);
+                InnerFunction { diagnostics, context: self.list_of(size.lists) }
             })
             .collect();
-        self.left.words -= functions.iter().map(|f| 2 * f.len().max(1) + 1).sum::<usize>();
         let params = self.places(size.places);
         let context = self.places(size.places);
         let mut returns = self.place();
@@ -326,8 +431,10 @@ impl Generator<'_> {
         let mut blocks: Vec<Block> =
             (0..count).map_while(|at| self.block(&numbers, at, size)).collect();
         // Often most identifiers get a node first.
+        let order = self.order();
         if let Some(first) = blocks.first_mut()
             && self.random.percent(60)
+            && let Some(mut instruction) = self.instruction(order, size.lists)
         {
             let mut created = Vec::new();
             for identifier in 0..self.identifiers as u32 {
@@ -339,8 +446,8 @@ impl Generator<'_> {
                     created.push(effect);
                 }
             }
-            let order = self.order();
-            first.instructions.insert(0, Instruction { order, effects: created });
+            instruction.effects = created;
+            first.instructions.insert(0, instruction);
         }
         Sheet {
             function_expression: self.random.percent(30),
@@ -403,12 +510,16 @@ fn weights(random: &mut Random) -> [usize; 18] {
 fn generator(random: &mut Random, identifiers: usize, functions: usize) -> Generator<'_> {
     let hot = random.between(1, identifiers.min(8));
     let weights = weights(random);
+    let near = random.percent(50);
+    let free = if random.percent(15) { 50 } else { 0 };
     Generator {
         random,
         identifiers,
         functions,
         hot,
         weights,
+        near,
+        free,
         left: Left {
             words: SHEET_WORDS,
             relations: MAX_RELATIONS,
@@ -433,8 +544,8 @@ fn sized(random: &mut Random, size: &Size) -> Sheet {
         sheet.validations = true;
         sheet.function_expression = false;
         for (number, function) in (1..).zip(&mut sheet.functions) {
-            if function.is_empty() {
-                function.push(Diagnostic { identity: number, instance: 100 - number });
+            if function.diagnostics.is_empty() {
+                function.diagnostics.push(Diagnostic { identity: number, instance: 100 - number });
             }
         }
     }
@@ -481,12 +592,16 @@ pub enum Limit {
     PhiRelations,
     Mutations,
     Renders,
+    InnerContext,
+    ValueLvalues,
+    InstructionOperands,
+    TerminalOperands,
     Words,
     /// A long answer from function nodes and renders; nothing to pass.
     Diagnostics,
 }
 
-pub const LIMITS: [Limit; 17] = [
+pub const LIMITS: [Limit; 21] = [
     Limit::Identifiers,
     Limit::Functions,
     Limit::FunctionDiagnostics,
@@ -502,13 +617,17 @@ pub const LIMITS: [Limit; 17] = [
     Limit::PhiRelations,
     Limit::Mutations,
     Limit::Renders,
+    Limit::InnerContext,
+    Limit::ValueLvalues,
+    Limit::InstructionOperands,
+    Limit::TerminalOperands,
     Limit::Words,
     Limit::Diagnostics,
 ];
 
 /// Those of the limits that a sheet can pass by one.
-pub const PASSABLE: [Limit; 16] = {
-    let mut limits = [Limit::Words; 16];
+pub const PASSABLE: [Limit; 20] = {
+    let mut limits = [Limit::Words; 20];
     let mut i = 0;
     while i < limits.len() {
         limits[i] = LIMITS[i];
@@ -522,7 +641,7 @@ fn empty_block(number: u32) -> Block {
         number,
         phis: Vec::new(),
         instructions: Vec::new(),
-        terminal: Terminal::Other { order: 1 },
+        terminal: Terminal::Other { order: 1, operands: Vec::new() },
     }
 }
 
@@ -551,16 +670,57 @@ fn about_limit(random: &mut Random, limit: Limit, more: usize) -> Sheet {
         }
         Limit::Functions => {
             while sheet.functions.len() < 64 + more {
-                sheet.functions.push(Vec::new());
+                sheet.functions.push(InnerFunction::default());
             }
             let mut block = empty_block(65_535);
             let into = g.place();
             let create = Effect { kind: 13, first: into, second: Place::default(), extra: 63 };
-            block.instructions.push(Instruction { order: 1, effects: vec![create] });
+            let mut instruction = Instruction::plain(1, vec![create]);
+            instruction.value = Value::Function(63);
+            block.instructions.push(instruction);
             sheet.blocks = vec![block];
         }
         Limit::FunctionDiagnostics => {
-            sheet.functions = vec![(0..64 + more).map(|_| g.diagnostic()).collect()];
+            let diagnostics = (0..64 + more).map(|_| g.diagnostic()).collect();
+            sheet.functions = vec![InnerFunction { diagnostics, context: Vec::new() }];
+        }
+        Limit::InnerContext => {
+            // Every function has as many as may be, and each is created by an instruction.
+            let mut block = empty_block(0);
+            for number in 0..64 {
+                let context = g.list(64);
+                sheet.functions.resize(number + 1, InnerFunction::default());
+                sheet.functions[number].context = context;
+                let order = g.order();
+                let mut instruction = Instruction::plain(order, vec![g.effect_of(5)]);
+                instruction.value = Value::Function(number as u32);
+                block.instructions.push(instruction);
+            }
+            sheet.functions[63].context.extend(g.list(more));
+            sheet.blocks = vec![block];
+        }
+        Limit::ValueLvalues | Limit::InstructionOperands | Limit::TerminalOperands => {
+            let mut block = empty_block(0);
+            for i in 0..8 {
+                let count = if i == 7 { 64 + more } else { 64 };
+                let order = g.order();
+                let effects = (0..4).map(|_| g.effect_of(6)).collect();
+                let mut instruction = Instruction::plain(order, effects);
+                match limit {
+                    Limit::ValueLvalues => {
+                        instruction.lvalues = g.list(count);
+                        instruction.operands = g.list(1);
+                    }
+                    Limit::InstructionOperands => instruction.operands = g.list(count),
+                    _ => {}
+                }
+                block.instructions.push(instruction);
+            }
+            if limit == Limit::TerminalOperands {
+                let operands = g.list(64 + more);
+                block.terminal = Terminal::Other { order: 9, operands };
+            }
+            sheet.blocks = vec![block];
         }
         Limit::Params => {
             while sheet.params.len() < 64 + more {
@@ -595,20 +755,22 @@ fn about_limit(random: &mut Random, limit: Limit, more: usize) -> Sheet {
             let mut block = empty_block(0);
             for _ in 0..1_024 + more {
                 let order = g.order();
-                block.instructions.push(Instruction { order, effects: Vec::new() });
+                let mut instruction = Instruction::plain(order, Vec::new());
+                instruction.lvalue = g.place();
+                block.instructions.push(instruction);
             }
             sheet.blocks = vec![block];
         }
         Limit::Effects | Limit::TerminalEffects => {
             let effects = (0..1_024 + more)
                 .map(|_| {
-                    let kind = g.random.choose(&[0, 9, 11, 12, 14]);
+                    let kind = g.random.choose(&[0, 9, 11, 14, 15]);
                     g.effect_of(kind)
                 })
                 .collect();
             let mut block = empty_block(0);
             if limit == Limit::Effects {
-                block.instructions.push(Instruction { order: 1, effects });
+                block.instructions.push(Instruction::plain(1, effects));
             } else {
                 block.terminal = Terminal::MaybeThrow { order: 1, effects };
             }
@@ -633,7 +795,7 @@ fn about_limit(random: &mut Random, limit: Limit, more: usize) -> Sheet {
             }
             for part in effects.chunks(500) {
                 let order = g.order();
-                block.instructions.push(Instruction { order, effects: part.to_vec() });
+                block.instructions.push(Instruction::plain(order, part.to_vec()));
             }
             let value = g.place();
             let aliases = (0..23 + more).map(|_| g.effect_of(6)).collect();
@@ -657,14 +819,14 @@ fn about_limit(random: &mut Random, limit: Limit, more: usize) -> Sheet {
                     g.effect_of(kind)
                 })
                 .collect();
-            last.instructions.push(Instruction { order: 4, effects: mutations });
+            last.instructions.push(Instruction::plain(4, mutations));
             sheet.blocks = vec![block, last];
         }
         Limit::Mutations => {
             let mut block = empty_block(0);
             for _ in 0..(512 + more) / 8 + 1 {
                 let order = g.order();
-                block.instructions.push(Instruction { order, effects: Vec::new() });
+                block.instructions.push(Instruction::plain(order, Vec::new()));
             }
             for i in 0..512 + more {
                 let kind = g.random.between(1, 4) as u32;
@@ -681,7 +843,7 @@ fn about_limit(random: &mut Random, limit: Limit, more: usize) -> Sheet {
                 let other = g.random.choose(&[5, 6, 8, 10, 13]);
                 let effects = vec![g.effect_of(other), g.effect_of(17)];
                 let order = g.order();
-                block.instructions.push(Instruction { order, effects });
+                block.instructions.push(Instruction::plain(order, effects));
             }
             sheet.blocks = vec![block];
         }
@@ -690,19 +852,23 @@ fn about_limit(random: &mut Random, limit: Limit, more: usize) -> Sheet {
             let target = SHEET_WORDS + more;
             sheet.blocks = vec![block.clone()];
             let mut left = target - sheet.words().len();
-            while left >= 10 {
-                let count = ((left - 2) / 8).min(g.random.between(1, 600));
+            while left >= 16 {
+                let count = ((left - 8) / 8).min(g.random.between(1, 600));
                 let effects = (0..count)
                     .map(|_| {
-                        let kind = g.random.choose(&[0, 9, 11, 12, 13, 14, 15, 16]);
+                        let kind = g.random.choose(&[0, 9, 11, 13, 14, 15, 16]);
                         g.effect_of(kind)
                     })
                     .collect();
-                block.instructions.push(Instruction { order: 1, effects });
-                left -= 2 + 8 * count;
+                block.instructions.push(Instruction::plain(1, effects));
+                left -= 8 + 8 * count;
             }
-            for _ in 0..left {
-                sheet.functions.push(Vec::new());
+            // What is left is made up by functions, of two words each, and a value's own word.
+            if left % 2 == 1 {
+                block.instructions[0].value = Value::Function(0);
+            }
+            for _ in 0..left / 2 {
+                sheet.functions.push(InnerFunction::default());
             }
             sheet.blocks = vec![block];
         }
@@ -713,7 +879,8 @@ fn about_limit(random: &mut Random, limit: Limit, more: usize) -> Sheet {
 
 /// Many function nodes handed over by many renders.
 fn many_diagnostics(g: &mut Generator) -> Sheet {
-    let function: Vec<Diagnostic> = (0..64).map(|_| g.diagnostic()).collect();
+    let diagnostics = (0..64).map(|_| g.diagnostic()).collect();
+    let function = InnerFunction { diagnostics, context: Vec::new() };
     let nodes = g.random.between(2, 200) as u32;
     let renders = g.random.between(1, 60);
     let place = |identifier| Place { identifier, traits: 0, span: 0 };
@@ -731,7 +898,7 @@ fn many_diagnostics(g: &mut Generator) -> Sheet {
     let render = Effect { kind: 17, ..Effect::default() };
     effects.extend(std::iter::repeat_n(render, renders));
     let mut block = empty_block(0);
-    block.instructions.push(Instruction { order: 1, effects });
+    block.instructions.push(Instruction::plain(1, effects));
     Sheet {
         function_expression: false,
         validations: true,

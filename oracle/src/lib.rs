@@ -7,6 +7,7 @@ pub mod cases;
 pub mod compare;
 pub mod damage;
 pub mod dense;
+pub mod forms;
 pub mod generate;
 pub mod load;
 pub mod original_side;

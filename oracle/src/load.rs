@@ -54,15 +54,15 @@ impl Load {
         (2..=512).contains(&self.n) && (1..=512).contains(&self.m)
     }
 
-    /// The sheet of a load within its bounds.
+    /// The sheet of a load within its bounds: lvalue place 0, empty lists and value 0.
     pub fn sheet(self) -> Sheet {
         let mut draws = Draws(self.seed);
-        let instruction = |order| Instruction { order, effects: vec![draws.effect(self.n)] };
+        let instruction = |order| Instruction::plain(order, vec![draws.effect(self.n)]);
         let block = Block {
             number: 0,
             phis: Vec::new(),
             instructions: (1..=self.m).map(instruction).collect(),
-            terminal: Terminal::Other { order: self.m + 1 },
+            terminal: Terminal::Other { order: self.m + 1, operands: Vec::new() },
         };
         Sheet {
             function_expression: false,
@@ -87,12 +87,12 @@ impl Load {
 
     /// How many words the sheet has.
     pub fn words(self) -> usize {
-        20 + 3 * self.n as usize + 10 * self.m as usize
+        21 + 3 * self.n as usize + 16 * self.m as usize
     }
 
     /// How many words its answer has at most: what `crates/model` proves.
     pub fn most_answer(self) -> usize {
-        43 + 2 * self.n as usize + self.m as usize
+        47 + 2 * self.n as usize + 4 * self.m as usize
     }
 
     /// The load with the nearest arguments within the bounds.
@@ -237,7 +237,7 @@ mod tests {
         for load in fixed() {
             let words = load.sheet().words();
             assert_eq!(words.len(), load.words());
-            assert!(words.len() <= 6_676);
+            assert!(words.len() <= 9_749);
             let answer = plain::judge(&words).expect("a load is accepted");
             assert!(answer.len() <= load.most_answer(), "{load:?}: {}", answer.len());
             assert_eq!(load.outcome(words.len() - 1), Outcome::Refused(9));

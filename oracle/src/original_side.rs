@@ -1,9 +1,13 @@
 //! The original pass on a sheet: the sheet's parts become HIR, the pass runs, and
-//! what it changed becomes the five sections that it has.
+//! what it changed becomes the nine sections that it has.
 
 use original::react_compiler_hir::environment::Environment;
 use original::react_compiler_hir::object_shape::BUILT_IN_JSX_ID;
 use original::react_compiler_hir::type_config::{ValueKind, ValueReason};
+use original::react_compiler_hir::visitors::{
+    each_instruction_value_lvalue, for_each_instruction_value_operand_mut,
+    for_each_terminal_operand_mut,
+};
 use original::react_compiler_hir::{
     AliasingDiagnostic, AliasingEffect, BasicBlock, BlockId, BlockKind, DeclarationId, Effect,
     EvaluationOrder, FunctionId, HIR, HirFunction, Identifier, IdentifierId, Instruction,
@@ -17,6 +21,7 @@ use oxc_allocator::{Allocator, Vec as ArenaVec};
 use oxc_span::Span;
 use oxc_str::Ident;
 
+use crate::forms;
 use crate::plain::{self, sheet};
 
 const EFFECTS: [Effect; 8] = [
@@ -128,14 +133,11 @@ fn effect<'a>(effect: &sheet::Effect, env: &mut Environment<'a>) -> AliasingEffe
     }
 }
 
-/// The effects of an instruction or terminal; an absent list is written as count 0.
+/// The effects of an instruction or terminal; count 0 is built as an empty list.
 fn effects<'a>(
     list: &[sheet::Effect],
     env: &mut Environment<'a>,
 ) -> Option<ArenaVec<'a, AliasingEffect<'a>>> {
-    if list.is_empty() {
-        return None;
-    }
     let mut effects = ArenaVec::with_capacity_in(list.len(), env.allocator);
     for e in list {
         effects.push(effect(e, env));
@@ -163,13 +165,13 @@ fn function<'a>(returns: Place, allocator: &'a Allocator) -> HirFunction<'a> {
 
 /// An inner function: its diagnostics become effects that carry them.
 fn inner_function<'a>(
-    diagnostics: &[sheet::Diagnostic],
+    function_: &sheet::InnerFunction,
     env: &mut Environment<'a>,
 ) -> HirFunction<'a> {
     let nowhere = place(&sheet::Place::default());
     let mut inner = function(nowhere, env.allocator);
     let mut list = ArenaVec::new_in(env.allocator);
-    for (i, d) in diagnostics.iter().enumerate() {
+    for (i, d) in function_.diagnostics.iter().enumerate() {
         let error = env.intern_aliasing_diagnostic(d.identity, d.instance);
         list.push(match i % 3 {
             0 => AliasingEffect::Impure { place: nowhere, error },
@@ -178,14 +180,41 @@ fn inner_function<'a>(
         });
     }
     inner.aliasing_effects = Some(list);
+    for context in &function_.context {
+        inner.context.push(place(context));
+    }
     inner
 }
 
+/// The value of an instruction, if a form carries its lists. The target of StoreContext is
+/// one place there and stands in both lists; it is built as the operand.
+fn value<'a>(
+    instruction: &sheet::Instruction,
+    choice: usize,
+    allocator: &'a Allocator,
+) -> Option<InstructionValue<'a>> {
+    let sheet::Instruction { lvalues, operands, value, .. } = instruction;
+    let places = |list: &[sheet::Place]| -> Vec<Place> { list.iter().map(place).collect() };
+    match (value, &lvalues[..], &operands[..]) {
+        (sheet::Value::Plain, ..) => {
+            forms::plain(&places(lvalues), &places(operands), choice, allocator)
+        }
+        (sheet::Value::Function(number), [], []) => Some(forms::function(*number, choice)),
+        (sheet::Value::StoreContext(stored), [lvalue], [target, value])
+            if lvalue.identifier == target.identifier && value.identifier == *stored =>
+        {
+            Some(forms::store_context(place(target), place(value)))
+        }
+        _ => None,
+    }
+}
+
+/// A block, and whether forms carry the lists of all its instructions.
 fn block<'a>(
     block: &sheet::Block,
     instructions: &mut ArenaVec<'a, Instruction<'a>>,
     env: &mut Environment<'a>,
-) -> BasicBlock<'a> {
+) -> (BasicBlock<'a>, bool) {
     let allocator = env.allocator;
     let phis = block.phis.iter().map(|phi| {
         let mut operands = ArenaOrderedMap::new_in(allocator);
@@ -197,20 +226,25 @@ fn block<'a>(
     let phis = ArenaVec::from_iter_in(phis, allocator);
 
     let mut ids = ArenaVec::new_in(allocator);
+    let mut carried = true;
     for instruction in &block.instructions {
+        let choice = instructions.len() * 11 + instruction.order as usize * 5;
+        let value = value(instruction, choice, allocator);
+        carried &= value.is_some();
         ids.push(InstructionId::from_usize(instructions.len()));
         instructions.push(Instruction {
             id: order(instruction.order),
-            lvalue: place(&sheet::Place::default()),
-            value: InstructionValue::Debugger { span: None },
+            lvalue: place(&instruction.lvalue),
+            value: value.unwrap_or(InstructionValue::Debugger { span: None }),
             span: None,
             effects: effects(&instruction.effects, env),
         });
     }
 
     let terminal = match &block.terminal {
-        sheet::Terminal::Other { order: id } => {
-            Terminal::Unreachable { id: order(*id), span: None }
+        sheet::Terminal::Other { order: id, operands } => {
+            let operands: Vec<Place> = operands.iter().map(place).collect();
+            forms::terminal(&operands, order(*id), *id as usize + instructions.len(), allocator)
         }
         sheet::Terminal::Return { order: id, value, effects: list } => Terminal::Return {
             value: place(value),
@@ -227,14 +261,15 @@ fn block<'a>(
             effects: effects(list, env),
         },
     };
-    BasicBlock {
+    let block = BasicBlock {
         kind: BlockKind::Block,
         id: block_id(block.number),
         instructions: ids,
         terminal,
         preds: ArenaOrderedSet::new_in(allocator),
         phis,
-    }
+    };
+    (block, carried)
 }
 
 /// A function and its environment, ready for the pass.
@@ -242,6 +277,8 @@ pub struct Prepared<'a> {
     func: HirFunction<'a>,
     env: Environment<'a>,
     is_function_expression: bool,
+    /// Whether forms carry the lists of all instructions.
+    carried: bool,
 }
 
 pub fn prepare<'a>(sheet: &sheet::Sheet, allocator: &'a Allocator) -> Prepared<'a> {
@@ -264,8 +301,8 @@ pub fn prepare<'a>(sheet: &sheet::Sheet, allocator: &'a Allocator) -> Prepared<'
             span: None,
         });
     }
-    for diagnostics in &sheet.functions {
-        let inner = inner_function(diagnostics, &mut env);
+    for function in &sheet.functions {
+        let inner = inner_function(function, &mut env);
         env.functions.push(inner);
     }
 
@@ -281,21 +318,28 @@ pub fn prepare<'a>(sheet: &sheet::Sheet, allocator: &'a Allocator) -> Prepared<'
     for context in &sheet.context {
         func.context.push(place(context));
     }
+    let mut carried = true;
     for b in &sheet.blocks {
-        let built = block(b, &mut func.instructions, &mut env);
+        let (built, of_block) = block(b, &mut func.instructions, &mut env);
+        carried &= of_block;
         func.body.blocks.insert(block_id(b.number), built);
     }
-    Prepared { func, env, is_function_expression: sheet.function_expression }
+    Prepared { func, env, is_function_expression: sheet.function_expression, carried }
 }
 
-/// The pass alone, which a benchmark would time.
-pub fn call<'a>(prepared: &mut Prepared<'a>) -> Vec<AliasingEffect<'a>> {
+/// Whether forms carry the lists of all instructions.
+pub fn carries(sheet: &sheet::Sheet) -> bool {
+    prepare(sheet, &Allocator::new()).carried
+}
+
+/// The pass alone, which a benchmark would time. It gives none if it meets an Apply.
+pub fn call<'a>(prepared: &mut Prepared<'a>) -> Option<Vec<AliasingEffect<'a>>> {
     infer_mutation_aliasing_ranges(
         &mut prepared.func,
         &mut prepared.env,
         prepared.is_function_expression,
     )
-    .expect("only the loop that is cut can fail")
+    .ok()
 }
 
 // =============================================================================
@@ -358,12 +402,57 @@ fn sheet_effect(effect: &AliasingEffect, env: &Environment) -> sheet::Effect {
     }
 }
 
-/// The five sections that the original has; `walks` is left empty.
-pub fn answer(sheet: &sheet::Sheet) -> plain::Answer {
+/// The places of an instruction: lvalue, value lvalues, operands.
+fn instruction_places(instruction: &mut Instruction) -> Vec<sheet::Place> {
+    let mut places = vec![sheet_place(&instruction.lvalue)];
+    places.extend(each_instruction_value_lvalue(&instruction.value).iter().map(sheet_place));
+    for_each_instruction_value_operand_mut(&mut instruction.value, &mut |place| {
+        places.push(sheet_place(place));
+    });
+    places
+}
+
+/// What the original leaves.
+#[derive(Debug, Clone)]
+pub struct Answered {
+    /// Nine sections; `walks` is left empty.
+    pub answer: plain::Answer,
+    /// Whether forms carry the lists of all instructions. If not, then only params, context,
+    /// diagnostics, effects and terminals are the sheet's.
+    pub carried: bool,
+    /// Positions in the section instructions of the targets of StoreContext among the lvalues.
+    pub targets: Vec<usize>,
+}
+
+impl Answered {
+    /// The plain reader's answer where the original has nothing of its own to say.
+    pub fn filled(&self, plain: &plain::Answer) -> plain::Answer {
+        let mut answer = self.answer.clone();
+        answer.walks = plain.walks.clone();
+        if !self.carried {
+            answer.ranges = plain.ranges.clone();
+            answer.phis = plain.phis.clone();
+            answer.instructions = plain.instructions.clone();
+            answer.inner = plain.inner.clone();
+            return answer;
+        }
+        for &at in &self.targets {
+            if let (Some(own), Some(place)) =
+                (answer.instructions.get_mut(at), plain.instructions.get(at))
+            {
+                *own = *place;
+            }
+        }
+        answer
+    }
+}
+
+/// The original's sections, or none if it meets an Apply.
+pub fn answer(sheet: &sheet::Sheet) -> Option<Answered> {
     let allocator = Allocator::new();
     let mut prepared = prepare(sheet, &allocator);
-    let effects = call(&mut prepared);
-    let Prepared { func, env, .. } = &prepared;
+    let effects = call(&mut prepared)?;
+    let Prepared { func, env, carried, .. } = &mut prepared;
     let params = func.params.iter().map(|param| match param {
         ParamPattern::Place(p) => sheet_place(p),
         ParamPattern::Spread(s) => sheet_place(&s.place),
@@ -376,12 +465,65 @@ pub fn answer(sheet: &sheet::Sheet) -> plain::Answer {
         let (identity, instance) = recorded.numbers;
         sheet::Diagnostic { identity, instance }
     });
-    plain::Answer {
+    let mut answer = plain::Answer {
         ranges: ranges.collect(),
         params: params.collect(),
         context: func.context.iter().map(sheet_place).collect(),
         diagnostics: diagnostics.collect(),
         effects: effects.iter().map(|e| sheet_effect(e, env)).collect(),
-        walks: Vec::new(),
+        ..plain::Answer::default()
+    };
+    for function in env.functions.iter() {
+        answer.inner.extend(function.context.iter().map(sheet_place));
+    }
+    let mut targets = Vec::new();
+    for block in func.body.blocks.values_mut() {
+        for phi in &block.phis {
+            answer.phis.push(sheet_place(&phi.place));
+            answer.phis.extend(phi.operands.values().map(sheet_place));
+        }
+        for id in &block.instructions {
+            let instruction = &mut func.instructions[id.index()];
+            if let InstructionValue::StoreContext { .. } = instruction.value {
+                targets.push(answer.instructions.len() + 1);
+            }
+            answer.instructions.extend(instruction_places(instruction));
+        }
+        for_each_terminal_operand_mut(&mut block.terminal, &mut |place| {
+            answer.terminals.push(sheet_place(place));
+        });
+    }
+    Some(Answered { answer, carried: *carried, targets })
+}
+
+#[cfg(test)]
+mod tests {
+    use std::collections::BTreeSet;
+
+    use super::*;
+    use crate::generate;
+    use crate::random::Random;
+
+    fn name(form: &impl std::fmt::Debug) -> String {
+        format!("{form:?}").split_whitespace().next().unwrap_or_default().to_string()
+    }
+
+    /// Made sheets have all 42 forms of `InstructionValue` and all 21 of `Terminal`, and of
+    /// most sheets every list is carried.
+    #[test]
+    fn every_form_comes_up() {
+        const SHEETS: usize = 4_000;
+        let (mut values, mut terminals, mut carried) = (BTreeSet::new(), BTreeSet::new(), 0);
+        let mut random = Random::new(4);
+        for _ in 0..SHEETS {
+            let allocator = Allocator::new();
+            let prepared = prepare(&generate::sheet(&mut random), &allocator);
+            values.extend(prepared.func.instructions.iter().map(|i| name(&i.value)));
+            terminals.extend(prepared.func.body.blocks.values().map(|b| name(&b.terminal)));
+            carried += prepared.carried as usize;
+        }
+        assert_eq!((values.len(), terminals.len()), (42, 21), "{values:?} {terminals:?}");
+        assert!(carried > SHEETS * 4 / 5, "{carried} of {SHEETS}");
+        println!("{carried} of {SHEETS} sheets are carried");
     }
 }

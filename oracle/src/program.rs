@@ -8,7 +8,9 @@ use crate::compare::{Difference, compare, lines, roomy};
 use crate::damage::damaged;
 use crate::dense::{block, place, sheet};
 use crate::generate::{self, Limit};
-use crate::plain::sheet::{Diagnostic, Effect, MAX_FUNCTION_DIAGNOSTICS, Sheet, Terminal};
+use crate::plain::sheet::{
+    Diagnostic, Effect, InnerFunction, MAX_FUNCTION_DIAGNOSTICS, Sheet, Terminal,
+};
 use crate::plain::{self, Outcome};
 use crate::random::Random;
 
@@ -46,13 +48,14 @@ pub struct Fixed {
 fn answered_in(words: usize) -> Sheet {
     const EFFECT: usize = 8;
     const FULL: usize = MAX_FUNCTION_DIAGNOSTICS as usize;
-    // Six counts, four ranges, Create for returns, and its walk.
-    let rest = words - (6 + 4 * 2 + EFFECT + 1) - EFFECT;
+    // Ten counts, four ranges, Create for returns, its walk, and the lvalue of one instruction.
+    let rest = words - (10 + 4 * 2 + EFFECT + 1 + 3) - EFFECT;
     let (rest, odd) = (rest - rest % 2, rest % 2);
     let (renders, last) = (rest / (EFFECT + 2 * FULL), rest % (EFFECT + 2 * FULL) / 2);
     let diagnostics = |from: usize, count: usize| {
         let diagnostic = |i| Diagnostic { identity: i as u32, instance: 2 * i as u32 };
-        (from..from + count).map(diagnostic).collect()
+        let diagnostics = (from..from + count).map(diagnostic).collect();
+        InnerFunction { diagnostics, context: Vec::new() }
     };
     let function = |n| Effect { kind: 13, first: place(n), extra: n as u32, ..Effect::default() };
     let render = |n| Effect { kind: 17, first: place(n), ..Effect::default() };
@@ -66,11 +69,17 @@ fn answered_in(words: usize) -> Sheet {
     }
 }
 
-/// A sheet whose last word is the extra word of Freeze, which is at most 11.
-fn ending_in_freeze() -> Sheet {
-    let freeze = Effect { first: place(0), ..Effect::default() };
+/// A sheet whose last word is a span, which may be any, of an operand of its terminal.
+fn ending_in_span() -> Sheet {
     let mut last = block(0, Vec::new(), &[]);
-    last.terminal = Terminal::MaybeThrow { order: 1, effects: vec![freeze] };
+    last.terminal = Terminal::Other { order: 1, operands: vec![place(0)] };
+    sheet(1, vec![last])
+}
+
+/// A sheet whose last word is the operand count of a MaybeThrow, which is fixed at 0.
+fn ending_in_count() -> Sheet {
+    let mut last = block(0, Vec::new(), &[]);
+    last.terminal = Terminal::MaybeThrow { order: 1, effects: Vec::new() };
     sheet(1, vec![last])
 }
 
@@ -87,15 +96,19 @@ pub fn fixed() -> Result<Vec<Fixed>, String> {
         }
         put(format!("an answer of {words} words"), bytes(&sheet.words()), refusal);
     }
-    let whole = bytes(&ending_in_freeze().words());
-    let ending = |last: &[u8]| [&whole[..whole.len() - 4], last].concat();
-    put("no byte of the last word".into(), ending(&[]), 3);
+    let ending = |sheet: Sheet, last: &[u8]| {
+        let whole = bytes(&sheet.words());
+        [&whole[..whole.len() - 4], last].concat()
+    };
+    put("no byte of the last word".into(), ending(ending_in_count(), &[]), 3);
     for count in 1..=4 {
         let mut last = vec![0; count];
-        last[0] = 11;
-        put(format!("the last word is 11, in {count} bytes"), ending(&last), 0);
+        put(format!("the last word is 0, in {count} bytes"), ending(ending_in_count(), &last), 0);
         last[count - 1] += 1;
-        put(format!("byte {count} of the last word is the last and too large"), ending(&last), 5);
+        let name = format!("byte {count} of the last word is the last and too large");
+        put(name, ending(ending_in_count(), &last), 4);
+        let name = format!("byte {count} of a span is the last, and shown");
+        put(name, ending(ending_in_span(), &last), 0);
     }
     let full = bytes(&generate::at_limit(&mut Random::new(1), Limit::Words).words());
     for more in 0..=4 {

@@ -117,7 +117,7 @@ struct Host {
 /// The counts of a slice.
 #[derive(Default)]
 struct Tally {
-    refusals: [u64; 10],
+    refusals: [u64; 11],
     compared: u64,
     looked_at: u64,
     loads: u64,
@@ -136,7 +136,7 @@ fn check(
     workspace: usize,
     answer: &[u32],
 ) -> Result<(), String> {
-    is("the refusal's number", reply.refusal <= 9)?;
+    is("the refusal's number", reply.refusal <= 10)?;
     is("refusal 1", (reply.refusal == 1) == (workspace < LEAST_WORKSPACE))?;
     if reply.refusal != 0 {
         is("length and serial of a refusal", reply.length == 0 && reply.serial == 0)?;
@@ -146,9 +146,9 @@ fn check(
     is("the state after acceptance", state.next == before.wrapping_add(1))?;
     is("the length", reply.length <= answer.len())?;
     // The sections, each after its count.
-    let mut sections = [&answer[..0]; 6];
+    let mut sections = [&answer[..0]; 10];
     let mut rest = &answer[..reply.length];
-    for (section, size) in sections.iter_mut().zip([2, 3, 3, 2, 8, 1]) {
+    for (section, size) in sections.iter_mut().zip([2, 3, 3, 2, 8, 1, 3, 3, 3, 3]) {
         let (count, after) = rest.split_first().ok_or("a section is missing")?;
         (*section, rest) =
             after.split_at_checked(*count as usize * size).ok_or("a section is cut")?;
@@ -159,12 +159,15 @@ fn check(
     is("the count of ranges", sections[0].len() == 2 * identifiers)?;
     let ranges = sections[0].chunks_exact(2).zip(sheet[4..].chunks_exact(3));
     for (range, identifier) in ranges {
-        is("a range's start", range[0] == identifier[0])?;
+        is("a range's start", range[0] == identifier[0] || identifier[0] == 0)?;
         is("a range's end", range[1] >= identifier[1] && range[1] <= 1_000_000)?;
     }
     is("a walk's entries", sections[5].iter().all(|w| (1..=4_097).contains(w)))?;
     let tracked = (sections[1].len() + sections[2].len()) / 3 + 1;
     is("the count of walks", sections[5].len() >= tracked)?;
+    let places = sections[6..].iter().flat_map(|section| section.chunks_exact(3));
+    let mut places = places.map(|place| (place[0] as usize, place[1]));
+    is("a place", places.all(|(id, traits)| id < identifiers && traits <= 15))?;
     is("an effect's kind", sections[4].chunks_exact(8).all(|e| e[0] <= 17))
 }
 
@@ -424,7 +427,7 @@ fn soak(calls: u64, seed: u64) -> Result<(), String> {
     let (mut wrapped, mut accepted, mut compared, mut looked_at) = (false, 0, 0, 0);
     let mut loads = 0;
     println!(
-        "slice | calls | accepted | refused 1 to 9 | compared | memory kB | most kB | processor s | µs a call | probe µs"
+        "slice | calls | accepted | refused 1 to 10 | compared | memory kB | most kB | processor s | µs a call | probe µs"
     );
     for number in 1..=SLICES {
         let mut tally = Tally::default();

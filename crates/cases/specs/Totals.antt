@@ -5,10 +5,10 @@ use lib.ListN.{replicate}
 use Rattle.model.specs.Small.{one, sheet, block}
 use Rattle.model.specs.Refusals.{Call, row}
 
--- one instruction with n renders
-abbrev manyRenders : ℕ → List ℕ
-manyRenders n = sheet 1 [] 0 (block 0 [] (replicate n (one 17 0)) ∷ [])
+-- one instruction with these effects, then 257 renders
+abbrev manyRenders : List (List ℕ) → List ℕ
+manyRenders es = sheet 1 [] 0 (block 0 [] (es ++ replicate 257 (one 17 0)) ∷ [])
 
--- "over 256 renders" is 8, after 7 and before 9
+-- "over 256 renders" is 8, after 7 and before 9; document 02, order 4: before 10 too, if Apply is there
 unfoldable pub totals : List Call
-totals = row (manyRenders 257) 16384 0 8 ∷ row (manyRenders 257 ++ (0 ∷ [])) 16384 0 7 ∷ []
+totals = row (manyRenders (one 12 0 ∷ [])) 16384 0 8 ∷ row (manyRenders [] ++ (0 ∷ [])) 16384 0 7 ∷ []

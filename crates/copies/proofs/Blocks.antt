@@ -9,11 +9,11 @@ use Rattle.model.specs.Lists.{gather, listIf}
 use Rattle.model.specs.Sheet.{Effect}
 use Rattle.model.specs.Effects.{Role, rowOf}
 use Rattle.model.specs.Reading.{Position}
-use Rattle.hir.specs.Words.{wide, effectAt, several, phiFrom, phisFrom, instructionFrom, instructionsFrom, terminalFrom, blockFrom}
+use Rattle.hir.specs.Words.{wide, effectAt, several, phiFrom, phisFrom, effectsAt, instructionFrom, instructionsFrom, terminalFrom, blockFrom}
 use Rattle.model.specs.Limits.{effectWidth}
 use Rattle.hir.specs.Parts.{InstructionAt}
 use Rattle.hir.specs.declared.at.Instruction.{Instruction}
-use Rattle.hir.proofs.Widths.{Rises, listed-rises, instruction-rises, terminal-rises, block-rises}
+use Rattle.hir.proofs.Widths.{Rises, listed-rises, InstructionParts, instruction-parts, instruction-rises, terminal-rises, block-rises}
 use Rattle.hir.proofs.Several.{list-inside}
 use Rattle.writing.specs.Wrote.{Wrote}
 use Rattle.writing.proofs.Writing.{wrote-none, wrote-as}
@@ -46,19 +46,25 @@ module _ (s : Section) (sheet : List ℕ) (c : Position) {e : Effect} (is : e �
       none true h = absurd (true≢false (sym h))
       none false h = refl
 
--- ---- an instruction: its order, then its effects
+-- ---- an instruction: its effects stand behind all else
 pub instruction-follows : Rises instructionFrom
 instruction-follows ws c = omega (arith, instruction-rises ws c)
 
 module _ {sheet : List ℕ} {c : Position} {i : Instruction} (h : InstructionAt sheet c i) where
   pub effects-inside : instructionFrom sheet c .next ≤ length sheet → several (i .effects .count) (wide effectWidth effectAt) sheet (i .effects .first) .next ≤ length sheet
   unfolding instructionFrom
-  effects-inside k = list-inside (wide effectWidth effectAt) sheet (c + 1) (h .effects) k
+  effects-inside k = list-inside (wide effectWidth effectAt) sheet (effectsAt sheet c) (h .effects) k
+
+  before-effects : c ≤ effectsAt sheet c
+  before-effects = let p : InstructionParts sheet c = instruction-parts sheet c in omega (arith, p .operands, p .value, p .effects)
+
+  pub after-order : c ≤ i .effects .first
+  after-order = omega (arith, before-effects, h .effects .first)
 
   pub copies-instruction : (s : Section) {a : List ℕ} {at : ℕ} {a′ : List ℕ} {at′ d : ℕ}
       → Copies (several (i .effects .count) (wide effectWidth effectAt)) (gather (copyWords s)) sheet (i .effects .first) a at a′ at′ d → Copies instructionFrom (instructionWords s) sheet c a at a′ at′ d
   unfolding instructionFrom instructionWords
-  copies-instruction s p = let q = copies-listed (wide effectWidth effectAt) (copyWords s) (h .effects) p in record { wrote = q .wrote; after = q .after; few = omega (arith, q .few) }
+  copies-instruction s p = let q = copies-listed (wide effectWidth effectAt) (copyWords s) (h .effects) p in record { wrote = q .wrote; after = q .after; few = omega (arith, q .few, before-effects) }
 
 -- ---- a block: its phis and its terminal are passed over
 pub block-follows : Rises blockFrom

@@ -13,11 +13,10 @@ use Rattle.model.specs.Lists.{gather}
 use Rattle.model.specs.Sheet.{Diagnostic, InnerFunction, noFunction}
 use Rattle.model.specs.Reading.{Position}
 use Rattle.model.specs.Answer.{functionErrors, diagnosticWords}
-use Rattle.hir.specs.Words.{Part, wide, diagnosticAt, several, functionFrom}
+use Rattle.hir.specs.Words.{Part, wide, diagnosticAt, several, diagnosticsFrom, functionFrom}
 use Rattle.hir.specs.Parts.{ListAt}
 use Rattle.hir.specs.declared.at.List.{List as Listed}
-use Rattle.hir.proofs.Standing.{part}
-use Rattle.hir.proofs.Widths.{several-wide, function-rises}
+use Rattle.hir.proofs.Widths.{several-wide, places-rise, function-rises}
 use Rattle.hir.proofs.Several.{list-is, several-length}
 use Rattle.workspace.specs.Layout.{FUNCTIONS, HANDED}
 use Rattle.workspace.proofs.Tables.{tab-length, tab-at}
@@ -43,11 +42,15 @@ pub diagnostics-room : {sheet : List ℕ} {k₀ : ℕ} {c₀ : Position} {a₀ :
 diagnostics-room {sheet} {k₀} {c₀} {k = k} {c} v = omega (arith, v .few, v .next, several-wide diagnosticWidth k diagnosticAt sheet c, several-wide diagnosticWidth k₀ diagnosticAt sheet c₀)
 
 -- ---- one function
--- its list stands at p
-module _ (sheet : List ℕ) (p : Position) where
-  function-list : {l : Listed} → ListAt sheet p l → functionFrom sheet p ≡ part (record { diagnostics = several (l .count) diagnosticFrom sheet (l .first) .what }) (several (l .count) diagnosticFrom sheet (l .first) .next)
+-- its diagnostics stand at p, and its context behind them
+module _ (sheet : List ℕ) (p : Position) {l : Listed} (h : ListAt sheet p l) where
+  function-list : several (l .count) diagnosticFrom sheet (l .first) .what ≡ functionFrom sheet p .what .diagnostics
   unfolding functionFrom
-  function-list h = ap (λ (x : Part (List Diagnostic)). part (record { diagnostics = x .what }) (x .next)) (list-is diagnosticFrom sheet p h)
+  function-list = ap (λ (x : Part (List Diagnostic)). x .what) (sym (list-is diagnosticFrom sheet p h))
+
+  before-context : several (l .count) diagnosticFrom sheet (l .first) .next ≤ functionFrom sheet p .next
+  unfolding functionFrom
+  before-context = omega (arith, ap (λ (x : Part (List Diagnostic)). x .next) (list-is diagnosticFrom sheet p h), places-rise sheet (diagnosticsFrom sheet p .next))
 
 module _ (sheet ws : List ℕ) (m : ℕ) where
   pub functions-length : length (functionsOf sheet ws m) ≡ m
@@ -107,10 +110,10 @@ module _ {sheet ws : List ℕ} {m k : ℕ} (g : Functions sheet ws (functionsOf 
 
   module _ {l : Listed} (h : ListAt sheet (getD ws (FUNCTIONS + k) 0) l) where
     list-errors : several (l .count) diagnosticFrom sheet (l .first) .what ≡ functionErrors (functionsOf sheet ws m) k
-    list-errors = ap (λ (x : Part InnerFunction). x .what .diagnostics) (sym (function-list sheet (getD ws (FUNCTIONS + k) 0) h)) ∙ ap (λ (f : InnerFunction). f .diagnostics) (g .is k there)
+    list-errors = function-list sheet (getD ws (FUNCTIONS + k) 0) h ∙ ap (λ (f : InnerFunction). f .diagnostics) (g .is k there)
 
     pub errors-inside : several (l .count) diagnosticFrom sheet (l .first) .next ≤ length sheet
-    errors-inside = omega (arith, g .inside k there, ap (λ (x : Part InnerFunction). x .next) (function-list sheet (getD ws (FUNCTIONS + k) 0) h))
+    errors-inside = omega (arith, g .inside k there, before-context sheet (getD ws (FUNCTIONS + k) 0) h)
 
     pub errors-room : l .count ≤ mostInnerDiagnostics
     errors-room = omega (arith, g .few k there, ap (λ (x : List Diagnostic). length x) list-errors, several-length diagnosticFrom sheet (l .count) (l .first))

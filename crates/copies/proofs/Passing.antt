@@ -15,6 +15,7 @@ use Rattle.hir.specs.declared.at.Terminal.{Terminal}
 use Rattle.hir.specs.declared.at.Terminal.the-variants.{Other, Return, MaybeThrow}
 use Rattle.hir.proofs.Widths.{Rises, phi-rises}
 use Rattle.hir.proofs.Several.{list-is, several-next, first-inside, several-none, list-end}
+use Rattle.hir.proofs.Values.{list-end as places-end}
 
 -- ---- a phi, and several
 pub phi-past : (ws : List ℕ) (c : Position) {l : Listed} → ListAt ws (c + placeWidth) l → l .first + l .count * operandWidth ≡ phiFrom ws c .next
@@ -42,19 +43,19 @@ phis-end ws left c v z = sym (ap (λ (p : Part (List Phi)). p .next) (several-no
 
 -- ---- a terminal
 module _ (ws : List ℕ) (c : Position) {t : Terminal} (h : TerminalAt ws c t) where
-  pub other-past : {next : Position} → t ≡ Other next → next ≡ terminalFrom ws c .next
+  pub other-past : {l : Listed} → t ≡ Other l → l .first + placeWidth * l .count ≡ terminalFrom ws c .next
   unfolding terminalFrom terminalOf
-  other-past e = let k : TerminalAt ws c (Other _) = subst (TerminalAt ws c) e h in rw (k .0) (k .1)
+  other-past {l} e = let k : TerminalAt ws c (Other l) = subst (TerminalAt ws c) e h in rw (k .0) (places-end ws (c + 2) (k .1))
 
-  pub return-past : {value : Place} {l : Listed} → t ≡ Return value l → l .first + l .count * effectWidth ≡ terminalFrom ws c .next
+  pub return-past : {value : Place} {l : Listed} → t ≡ Return value l → l .first + effectWidth * l .count + 1 ≡ terminalFrom ws c .next
   unfolding terminalFrom terminalOf
-  return-past {value} {l} e = let k : TerminalAt ws c (Return value l) = subst (TerminalAt ws c) e h in rw (k .0) (list-end effectWidth effectAt ws (c + 2 + placeWidth) (k .1 .1))
+  return-past {value} {l} e = let k : TerminalAt ws c (Return value l) = subst (TerminalAt ws c) e h in rw (k .0) (omega (arith, list-end effectWidth effectAt ws (c + 2 + placeWidth) (k .1 .1)))
 
-  pub throw-past : {l : Listed} → t ≡ MaybeThrow l → l .first + l .count * effectWidth ≡ terminalFrom ws c .next
+  pub throw-past : {l : Listed} → t ≡ MaybeThrow l → l .first + effectWidth * l .count + 1 ≡ terminalFrom ws c .next
   unfolding terminalFrom terminalOf
-  throw-past {l} e = let k : TerminalAt ws c (MaybeThrow l) = subst (TerminalAt ws c) e h in list-end effectWidth effectAt ws (c + 2) (k .1) ∙ effects-follow (wordAt ws c) (wordAt ws (c + 1)) (k .0)
+  throw-past {l} e = let k : TerminalAt ws c (MaybeThrow l) = subst (TerminalAt ws c) e h in omega (arith, list-end effectWidth effectAt ws (c + 2) (k .1), effects-follow (wordAt ws c) (wordAt ws (c + 1)) (k .0))
     where
-      effects-follow : (k o : ℕ) → 2 ≤ k → effectsFrom ws (c + 2) .next ≡ terminalOf k o ws (c + 2) .next
+      effects-follow : (k o : ℕ) → 2 ≤ k → effectsFrom ws (c + 2) .next + 1 ≡ terminalOf k o ws (c + 2) .next
       effects-follow zero o i = absurd (omega (arith, i))
       effects-follow (suc zero) o i = absurd (omega (arith, i))
       effects-follow (suc (suc k)) o i = refl

@@ -14,7 +14,7 @@ use writing::put;
 
 pub mod effect_lists;
 pub mod functions;
-mod past;
+pub mod past;
 pub mod returns;
 
 // The place that an effect does not use.

@@ -7,7 +7,7 @@ use mathlib.Core.List.{List, [], _∷_}
 use lib.ListN.{length}
 use lib.Dec.{ltb}
 use borrow.Author.Tests.{ltb-false}
-use Rattle.model.specs.Limits.{mostSheet, mostIdentifiers, mostFunctions, mostParams, mostContext, returnsCount, mostBlocks, mostInnerDiagnostics}
+use Rattle.model.specs.Limits.{mostSheet, mostIdentifiers, mostFunctions, mostParams, mostContext, returnsCount, mostBlocks, mostInnerDiagnostics, mostInnerContext}
 use Rattle.model.specs.Lists.{pick, Every}
 use Rattle.model.specs.Sheet.{BlockId, Identifier, InnerFunction, Diagnostic, Block, Sheet}
 use Rattle.model.specs.Totals.{totals, over, judged}
@@ -32,11 +32,11 @@ record Known (s : Sheet) : Type 0 where
   blocks : Every BlockInRange (s .blocks)
   few : length (s .blocks) ≤ mostBlocks
 
-function-known : Reads innerFunction FewDiagnostics
+function-known : (n : ℕ) → Reads (innerFunction n) FewDiagnostics
 unfolding innerFunction
-function-known =
+function-known n =
     bind-reads (counted mostInnerDiagnostics diagnostic) _ (λ (l : List Diagnostic). length l ≤ mostInnerDiagnostics) FewDiagnostics (counted-length mostInnerDiagnostics diagnostic)
-    (λ l h. pure-reads _ FewDiagnostics h)
+    (λ l h. then-reads (counted mostInnerContext (place n)) _ FewDiagnostics (λ cs. pure-reads _ FewDiagnostics h))
 
 -- as many parts as the count says
 numbered-length : {A : Type 0} (k : ℕ) (used : List BlockId) (f : BlockId → Read A) → Reads (numbered k used f) (λ (l : List A). length l ≡ k)
@@ -53,8 +53,9 @@ unfolding sheet
 sheet-known =
     then-reads flags _ Known
     (λ fs. bind-reads (counted mostIdentifiers identifier) _ (λ (l : List Identifier). length l ≤ mostIdentifiers) Known (counted-length mostIdentifiers identifier)
-    (λ ids hn. bind-reads (counted mostFunctions innerFunction) _ (λ (l : List InnerFunction). Every FewDiagnostics l × (length l ≤ mostFunctions)) Known
-    (both-reads (counted mostFunctions innerFunction) (Every FewDiagnostics) (λ (l : List InnerFunction). length l ≤ mostFunctions) (counted-reads FewDiagnostics mostFunctions innerFunction function-known) (counted-length mostFunctions innerFunction))
+    (λ ids hn. bind-reads (counted mostFunctions (innerFunction (length ids))) _ (λ (l : List InnerFunction). Every FewDiagnostics l × (length l ≤ mostFunctions)) Known
+    (both-reads (counted mostFunctions (innerFunction (length ids))) (Every FewDiagnostics) (λ (l : List InnerFunction). length l ≤ mostFunctions)
+    (counted-reads FewDiagnostics mostFunctions (innerFunction (length ids)) (function-known (length ids))) (counted-length mostFunctions (innerFunction (length ids))))
     (λ inner hm. then-reads (counted mostParams (place (length ids))) _ Known
     (λ ps. then-reads (counted mostContext (place (length ids))) _ Known
     (λ cs. then-reads (fixed returnsCount) _ Known

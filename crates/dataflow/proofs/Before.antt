@@ -2,7 +2,7 @@
 use Prim.Native.Nat.{ℕ, zero, suc, _+_, _≤_, _<_}
 use native.Mathlib.Omega.{arith}
 use mathlib.Core.Path.{_≡_, refl, sym, ap, subst, _∙_}
-use mathlib.Core.Bool.{Bool, true, _&&_, not, true≢false}
+use mathlib.Core.Bool.{Bool, true, false, _&&_, not, true≢false}
 use mathlib.Core.List.{List, [], _∷_, _++_, map}
 use lib.ListN.{length, getD, take, length-append, length-map, List·getD-map}
 use lib.Seq.{sets, length-sets}
@@ -88,16 +88,17 @@ module _ {sheet : List ℕ} (a : Accepted sheet) where
         functions-ready size = (
           omega (arith, list-next functionFrom (functions-are sheet) functions-at, a .inside, behind),
           (
-            omega (arith, list-count functionFrom (functions-are sheet) functions-at, a .below .functions),
+            omega (arith, list-count functionFrom (functions-are sheet) functions-at, a .below .functionCount),
             (omega (arith, size, ap (λ (x : List ℕ). length x) (ends .words), length-sets ws END (map endOf (several (l .count) (wide identifierWidth identifierAt) sheet (l .first) .what))), a .short),
           ),
         )
 
         pub top-read : {f : HirFlags} → flagsAre f ≡ flagsAt sheet 0 → {e : Bool} → e ≡ f .validations && not (f .«function_expression»)
             → {ws₂ : List ℕ} {next : Position} → Stores (placed functionFrom) standsAt m FUNCTIONS sheet ws₁ ws₂ next
-            → TopRead sheet ws ws₂ (record { errors = e; identifiers = l; functions = m; next = next })
+            → TopRead sheet ws ws₂ (record { errors = e; «function_expression» = f .«function_expression»; identifiers = l; functions = m; next = next })
         top-read hf he stored = record {
           errors = he ∙ ap (λ (v : Flags). v .validations && not (v .functionExpression)) (hf ∙ flags-are sheet);
+          functionExpression = ap (λ (v : Flags). v .functionExpression) (hf ∙ flags-are sheet);
           identifiers = identifiers-at;
           functions = functions-at;
           next = stored .next ∙ placed-next functionFrom sheet (m .count) (m .first) ∙ list-next functionFrom (functions-are sheet) functions-at;
@@ -201,7 +202,9 @@ stored-at vs l i k h z = sym (slice-at i (i + length vs) k (sets l i vs) (omega 
 abbrev functionOf : Top → Tracked → HirFunction
 functionOf t u = record {
   errors = t .errors;
+  «function_expression» = t .«function_expression»;
   copies = true;
+  applies = false;
   identifiers = t .identifiers;
   m = t .functions .count;
   params = u .params;
@@ -215,6 +218,7 @@ module _ {sheet : List ℕ} (a : Accepted sheet) {ws ws₁ : List ℕ} {t : Top}
   describes : Describes (s a) sheet (functionOf t u)
   describes = record {
     errors = T .errors;
+    functionExpression = T .functionExpression;
     copies = λ e. absurd (true≢false e);
     n = list-count (wide identifierWidth identifierAt) (identifiers-are sheet) (T .identifiers);
     m = list-count functionFrom (functions-are sheet) (T .functions);
@@ -231,7 +235,7 @@ module _ {sheet : List ℕ} (a : Accepted sheet) {ws ws₁ : List ℕ} {t : Top}
   limited : Limited (functionOf t u)
   limited = record {
     n = omega (arith, describes .n, a .below .identifiers);
-    m = omega (arith, describes .m, a .below .functions);
+    m = omega (arith, describes .m, a .below .functionCount);
     params = omega (arith, U .params, a .below .paramCount);
     context = omega (arith, U .context, a .below .contextCount);
     count = omega (arith, list-count blockFrom (blocks-are sheet) (U .blocks), a .fewBlocks);
@@ -265,12 +269,12 @@ module _ {sheet : List ℕ} (a : Accepted sheet) {ws ws₁ : List ℕ} {t : Top}
   -- the word of inner function k says behind how many others it stands
   function-word : (k : ℕ) → k < length (s a .functions) → getD ws₃ (FUNCTIONS + k) 0 ≡ several k functionFrom sheet (t .functions .first) .next
   function-word k h =
-      let i : FUNCTIONS + k < TRACKED = omega (arith, h, a .below .functions) in
+      let i : FUNCTIONS + k < TRACKED = omega (arith, h, a .below .functionCount) in
       let at = several (t .functions .count) (placed functionFrom) sheet (t .functions .first) .what in
       sym (slice-at FUNCTIONS TRACKED k ws₃ i) ∙ ap (λ (l : List ℕ). getD l k 0) (U .places .between) ∙ slice-at FUNCTIONS TRACKED k ws₂ i
       ∙ drop-word FBOUND (FUNCTIONS + k) ws₁ ws₂ (omega arith) (start .high)
       ∙ ap (λ (x : List ℕ). getD x (FUNCTIONS + k) 0) (T .words)
-      ∙ stored-at positions (sets ws END ends) FUNCTIONS k (omega (arith, positions-length, a .below .functions, size, length-sets ws END ends)) (omega (arith, positions-length, h))
+      ∙ stored-at positions (sets ws END ends) FUNCTIONS k (omega (arith, positions-length, a .below .functionCount, size, length-sets ws END ends)) (omega (arith, positions-length, h))
       ∙ List·getD-map standsAt at k 0
       ∙ several-at (placed functionFrom) sheet (t .functions .count) k (t .functions .first) 0 (omega (arith, h, describes .m))
       ∙ placed-next functionFrom sheet k (t .functions .first)

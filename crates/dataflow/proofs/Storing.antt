@@ -8,11 +8,13 @@ use lib.ListN.{length, set, length-set}
 use lib.Seq.{sets}
 use Rattle.model.specs.Reading.{Position}
 use Rattle.hir.specs.declared.at.List.{List as Listed}
-use Rattle.hir.specs.Words.{Part, Standing, diagnosticAt, several, placed, functionFrom}
-use Rattle.model.specs.Limits.{diagnosticWidth}
+use Rattle.hir.specs.Words.{Part, Standing, diagnosticAt, several, placed, diagnosticsFrom, functionFrom}
+use Rattle.model.specs.Limits.{placeWidth, diagnosticWidth}
 use Rattle.hir.specs.Parts.{ListAt}
-use Rattle.hir.proofs.Widths.{Rises, function-follows}
+use Rattle.hir.proofs.Widths.{Rises, places-rise, function-follows}
 use Rattle.hir.proofs.Several.{several-next, first-inside, several-none, placed-next, list-end}
+use Rattle.hir.proofs.Values.{list-as}
+use Rattle.hir.proofs.Values.{list-end as places-end}
 use Rattle.dataflow.specs.Read.{standsAt, Stores}
 
 -- what is left to store from `to` on makes what was to be stored; k₀ parts from c₀ on, with k of them left from c on
@@ -56,10 +58,18 @@ storing-done {A} {f} {word} {sheet} {k = k} {c} {to} {ws} v h =
       next = ap (λ (p : Part (List A)). p .next) (sym none) ∙ v .next;
     }
 
--- an inner function ends behind its diagnostics
-pub function-end : (sheet : List ℕ) (c : Position) {l : Listed} → ListAt sheet c l → l .first + diagnosticWidth * l .count ≡ functionFrom sheet c .next
-unfolding functionFrom
-function-end sheet c h = omega (arith, list-end diagnosticWidth diagnosticAt sheet c h)
+-- an inner function: its context stands behind its diagnostics, and it ends behind both
+module _ (sheet : List ℕ) (c : Position) {l : Listed} (h : ListAt sheet c l) where
+  diagnostics-end : l .first + diagnosticWidth * l .count ≡ diagnosticsFrom sheet c .next
+  diagnostics-end = omega (arith, list-end diagnosticWidth diagnosticAt sheet c h)
+
+  pub context-begin : l .first + diagnosticWidth * l .count + 1 ≤ functionFrom sheet c .next
+  unfolding functionFrom
+  context-begin = omega (arith, diagnostics-end, places-rise sheet (diagnosticsFrom sheet c .next))
+
+  pub function-end : {d : Position} {m : Listed} → d ≡ l .first + diagnosticWidth * l .count → ListAt sheet d m → m .first + placeWidth * m .count ≡ functionFrom sheet c .next
+  unfolding functionFrom
+  function-end e k = places-end sheet (diagnosticsFrom sheet c .next) (list-as k (e ∙ diagnostics-end))
 
 -- the next inner function stands in the sheet, if all do
 pub function-inside : {sheet : List ℕ} {k₀ : ℕ} {c₀ : Position} {to₀ : ℕ} {ws₀ : List ℕ} {k : ℕ} {c : Position} {to : ℕ} {ws : List ℕ} → Storing (placed functionFrom) standsAt sheet k₀ c₀ to₀ ws₀ k c to ws

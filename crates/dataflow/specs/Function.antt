@@ -26,6 +26,7 @@ pub record Limited (f : HirFunction) : Type 0 where
 -- f is the function of the sheet s, which stands in the words
 pub record Describes (s : Sheet) (sheet : List ℕ) (f : HirFunction) : Type 0 where
   pub errors : f .errors ≡ errors s
+  pub functionExpression : f .«function_expression» ≡ s .flags .functionExpression
   pub copies : f .copies ≡ false → copied s ≡ []
   pub n : f .identifiers .count ≡ length (s .identifiers)
   pub m : f .m ≡ length (s .functions)
@@ -38,7 +39,7 @@ pub record Describes (s : Sheet) (sheet : List ℕ) (f : HirFunction) : Type 0 w
   pub blocksInside : several (f .blocks .count) blockFrom sheet (f .blocks .first) .next ≤ length sheet
   pub short : length sheet ≤ mostSheet
 
--- what stands in the workspace from here to the call's end: where each inner function's list stands in the sheet, and the tracked places
+-- what stands in the workspace from here to the call's end: where each inner function stands in the sheet, and the tracked places
 pub record Stands (s : Sheet) (sheet ws : List ℕ) : Type 0 where
   pub size : LEAST ≤ length ws
   pub functions : Functions sheet ws (s .functions)

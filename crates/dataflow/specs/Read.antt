@@ -28,6 +28,7 @@ pub record Stores {A : Type 0} (f : Standing A) (word : A → ℕ) (l : Listed) 
 -- the ends of the identifiers, and where each inner function stands
 pub record TopRead (sheet ws ws′ : List ℕ) (t : Top) : Type 0 where
   pub errors : t .errors ≡ errors (sheetOf sheet)
+  pub functionExpression : t .«function_expression» ≡ sheetOf sheet .flags .functionExpression
   pub identifiers : ListAt sheet (sectionsOf sheet .identifiers) (t .identifiers)
   pub functions : ListAt sheet (sectionsOf sheet .functions) (t .functions)
   pub next : t .next ≡ sectionsOf sheet .params

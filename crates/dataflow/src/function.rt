@@ -3,10 +3,12 @@ use building::Building;
 use hir::Place;
 use hir::at::List;
 
-// What the call needs of the sheet: whether errors are recorded, whether an instruction may have an effect to copy, the identifiers, how many inner functions, parameters and context places there are, returns, and the blocks.
+// What the call needs of the sheet: whether errors are recorded, whether it is a function expression, whether an instruction may have an effect to copy or an Apply, the identifiers, how many inner functions, parameters and context places there are, returns, and the blocks.
 pub struct HirFunction {
     pub errors: bool,
+    pub function_expression: bool,
     pub copies: bool,
+    pub applies: bool,
     pub identifiers: List,
     pub m: u32,
     pub params: u32,

@@ -7,6 +7,7 @@ use hir::at::List;
 use hir::at::flags_at;
 use hir::at::identifier_at;
 use hir::at::list_at;
+use hir::at::past_places;
 use workspace::END;
 use workspace::FUNCTIONS;
 ghost use mathlib.Core.Path.{_≡_};
@@ -38,13 +39,14 @@ fn read_ends(sheet: &[u32], list: List, ws: &mut [u32]) -> usize
     next
 }
 
-// The position after an inner function.
+// The position after an inner function: after its diagnostics and its context.
 fn skip_function(sheet: &[u32], at: usize) -> usize
     requires { ⌜ functionFrom (now sheet) at .next ≤ length (now sheet) ⌝ }
     ensures { λ r. ⌜ r ≡ functionFrom (now (sheet .entry)) at .next ⌝ }
 {
     let diagnostics = list_at(sheet, at);
-    diagnostics.first + DIAGNOSTIC_WIDTH * (diagnostics.count as usize)
+    let after = diagnostics.first + DIAGNOSTIC_WIDTH * (diagnostics.count as usize);
+    past_places(sheet, list_at(sheet, after))
 }
 
 // Stores where each inner function stands; the position after them.
@@ -65,9 +67,10 @@ fn read_functions(sheet: &[u32], list: List, ws: &mut [u32]) -> usize
     next
 }
 
-// The flags, the identifiers and the inner functions: errors recorded or not, the lists of both, and where the parameters begin.
+// The flags, the identifiers and the inner functions: errors recorded or not, a function expression or not, the lists of both, and where the parameters begin.
 pub struct Top {
     pub errors: bool,
+    pub function_expression: bool,
     pub identifiers: List,
     pub functions: List,
     pub next: usize,
@@ -86,13 +89,15 @@ pub fn read_top(sheet: &[u32], ws: &mut [u32]) -> Top
     requires { ⌜ LEAST ≤ length (now ws) ⌝ }
     ensures { λ r. ⌜ TopRead (now (sheet .entry)) (now (ws .entry)) (now (ws .exit)) r ⌝ }
 {
-    let errors = records_errors(flags_at(sheet, 0));
+    let flags = flags_at(sheet, 0);
+    let errors = records_errors(flags);
     let identifiers = list_at(sheet, FLAGS_WIDTH);
     let after = read_ends(sheet, identifiers, ws);
     let functions = list_at(sheet, after);
     let next = read_functions(sheet, functions, ws);
     Top {
         errors,
+        function_expression: flags.function_expression,
         identifiers,
         functions,
         next,

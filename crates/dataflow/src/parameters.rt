@@ -90,7 +90,9 @@ pub fn read_function(sheet: &[u32], ws: &mut [u32]) -> Read
     let building = t.building;
     let function = HirFunction {
         errors: top.errors,
+        function_expression: top.function_expression,
         copies: true,
+        applies: false,
         identifiers,
         m: top.functions.count,
         params: t.params,

@@ -6,4 +6,5 @@ pub mod EffectTable
 pub mod Standing
 pub mod AtLaws
 pub mod Widths
+pub mod Values
 pub mod Several

@@ -8,19 +8,30 @@ use lib.ListN.{length, getD}
 use lib.Dec.{ltb, leb, eqb}
 use borrow.Author.Tests.{ltb-true}
 use Rattle.model.proofs.ReadLaws.{atMost-reads}
-use Rattle.model.specs.Limits.{flagCount, mostFlag, mostIdentifiers, mostFunctions, mostParams, mostContext, returnsCount, mostBlocks, mostRange, mostType, mostInnerDiagnostics, mostBlockNumber, mostCount, mostDiagnostic, mostKind, mostOrder, mostTerminal, mostTraits, placeWidth, effectWidth, operandWidth, identifierWidth, diagnosticWidth, flagsWidth}
+use Rattle.model.specs.Limits.{flagCount, mostFlag, mostIdentifiers, mostFunctions, mostParams, mostContext, returnsCount, mostBlocks, mostRange, mostType, mostInnerDiagnostics, mostInnerContext, mostBlockNumber, mostCount, mostDiagnostic, mostKind, mostOrder, mostLvalues, mostOperands, noOperands, mostValue, mostTerminal, mostTraits, placeWidth, effectWidth, operandWidth, identifierWidth, diagnosticWidth, flagsWidth}
 use Rattle.model.specs.Lists.{pick, among}
-use Rattle.model.specs.Sheet.{Diagnostic, Flags, Identifier, BlockId, Place, EffectKind, Effect, Operand, Phi, EffectList, Instruction, Terminal, Return, MaybeThrow, Block}
+use Rattle.model.specs.Sheet.{Diagnostic, Flags, Identifier, BlockId, Place, EffectKind, Effect, Operand, Phi, EffectList, Plain, Function, StoreContext, Instruction, Terminal, Other, Return, MaybeThrow, Block}
 use Rattle.model.specs.Traits.{effectOf, reactiveOf}
 use Rattle.model.specs.Effects.{kindOf, rowOf, isCreateFunction}
 use Rattle.model.specs.Reading.{Position, Result, got, refused, Read, andThen, _>>=_, pure, refuse, word, count, fixed, atMost, below, newNumber, times, numbered, counted}
-use Rattle.model.specs.Sections.{flag, flags, typeOf, identifier, diagnostic, innerFunction, place, unused, extra, effect, effects, operand, phi, instruction, terminal, block, sheet}
+use Rattle.model.specs.Sections.{flag, flags, typeOf, identifier, diagnostic, innerFunction, place, unused, extra, effect, effects, operand, phi, valueBy, instructionValue, instruction, terminal, block, sheet}
 use Rattle.model.specs.Sections.{terminalOf as readTerminal}
 use Rattle.model.proofs.Got.{got-value, got-next, not-both}
-use Rattle.hir.specs.Words.{Part, Standing, wordAt, wide, placeOf, placeAt, effectAt, operandAt, identifierAt, diagnosticAt, several, listed, effectsFrom, functionFrom, phiFrom, instructionFrom, terminalOf, terminalFrom, phisFrom, instructionsFrom, blockFrom, flagsAt, identifiersFrom, functionsFrom, placesFrom, sectionsFrom, sheetFrom}
+use Rattle.hir.specs.Words.{Part, Standing, wordAt, wide, placeOf, placeAt, effectAt, operandAt, identifierAt, diagnosticAt, several, listed, effectsFrom, placesFrom, diagnosticsFrom, functionFrom, phiFrom, valueOf, valueFrom, instructionFrom, terminalOf, terminalFrom, phisFrom, instructionsFrom, blockFrom, flagsAt, identifiersFrom, functionsFrom, sectionsFrom, sheetFrom}
 
 abbrev pub part : {A : Type 0} → A → Position → Part A
 part a d = record { what = a; next = d }
+
+-- two equal parts
+pub part-same : {A : Type 0} {a b : A} {c d : Position} → a ≡ b → c ≡ d → part a c ≡ part b d
+part-same {A} {a} {b} {c} {d} e f = ap (λ (x : A). part x c) e ∙ ap (part b) f
+
+-- and their halves
+pub part-value : {A : Type 0} {p : Part A} {a : A} {d : Position} → p ≡ part a d → p .what ≡ a
+part-value {A} e = ap (λ (p : Part A). p .what) e
+
+pub part-next : {A : Type 0} {p : Part A} {a : A} {d : Position} → p ≡ part a d → p .next ≡ d
+part-next {A} e = ap (λ (p : Part A). p .next) e
 
 -- the part a stands from c up to d
 pub record Stands {A : Type 0} (f : Standing A) (ws : List ℕ) (c : Position) (a : A) (d : Position) : Type 0 where
@@ -34,14 +45,10 @@ StandsFor {A} r f = (ws : List ℕ) (c : Position) (a : A) (d : Position) → r 
 
 module _ {A : Type 0} {f : Standing A} {ws : List ℕ} {c : Position} {a : A} {d : Position} (s : Stands f ws c a d) where
   pub value-is : f ws c .what ≡ a
-  value-is = ap (λ (p : Part A). p .what) (s .is)
+  value-is = part-value (s .is)
 
   pub next-is : f ws c .next ≡ d
-  next-is = ap (λ (p : Part A). p .next) (s .is)
-
--- two equal parts
-pub part-same : {A : Type 0} {a b : A} {c d : Position} → a ≡ b → c ≡ d → part a c ≡ part b d
-part-same {A} {a} {b} {c} {d} e f = ap (λ (x : A). part x c) e ∙ ap (part b) f
+  next-is = part-next (s .is)
 
 -- what was got is no other
 got-part : {A : Type 0} {a b : A} {c d : Position} → got a c ≡ got b d → part a c ≡ part b d
@@ -59,6 +66,23 @@ module _ {A B : Type 0} where
   pub in-two : (r : Result A) (f : A → Position → Result B) {b : B} {d : Position} → andThen r f ≡ got b d → InTwo r f b d
   in-two (got a c) f e = record { value = a; next = c; first = refl; second = e }
   in-two (refused k) f e = absurd (not-both e refl)
+
+-- ---- one part after another
+pure-stands : {A : Type 0} (a : A) → StandsFor (pure a) (λ (ws : List ℕ) (c : Position). part a c)
+pure-stands a ws c b d e = let n : c ≡ d = got-next e in record { is = got-part e; after = omega (arith, n); inside = λ i. omega (arith, n, i) }
+
+-- one part after another
+then-stands : {A B : Type 0} (m : Read A) (f : Standing A) (k : A → Read B) (g : A → Standing B) → StandsFor m f → ((a : A) → StandsFor (k a) (g a))
+    → StandsFor (m >>= k) (λ (ws : List ℕ) (c : Position). g (f ws c .what) ws (f ws c .next))
+then-stands {A} m f k g h t ws c b d e =
+    let p = in-two (m ws c) _ e in
+    let s = h ws c (p .value) (p .next) (p .first) in
+    let u = t (p .value) ws (p .next) b d (p .second) in
+    record {
+      is = ap (λ (x : Part A). g (x .what) ws (x .next)) (s .is) ∙ u .is;
+      after = omega (arith, s .after, u .after);
+      inside = λ i. u .inside (s .inside i);
+    }
 
 -- ---- one word
 pub word-stands : StandsFor word (wide 1 wordAt)
@@ -308,21 +332,18 @@ diagnostic-stands ws c a d e =
     diagnostic-same : {i j k l : ℕ} → i ≡ j → k ≡ l → diagnosticBy i k ≡ diagnosticBy j l
     diagnostic-same {j = j} {k} a b = ap (λ (z : ℕ). diagnosticBy z k) a ∙ ap (diagnosticBy j) b
 
-pub function-stands : StandsFor innerFunction functionFrom
+pub places-stand : (most n : ℕ) → StandsFor (counted most (place n)) placesFrom
+places-stand most n = counted-stands most (place n) (wide placeWidth placeAt) (place-stands n)
+
+pub function-stands : (n : ℕ) → StandsFor (innerFunction n) functionFrom
 unfolding innerFunction functionFrom
-function-stands =
-    held-stands (counted mostInnerDiagnostics diagnostic) (listed (wide diagnosticWidth diagnosticAt)) _
-    (counted-stands mostInnerDiagnostics diagnostic (wide diagnosticWidth diagnosticAt) diagnostic-stands)
+function-stands n =
+    then-stands (counted mostInnerDiagnostics diagnostic) diagnosticsFrom _ _ (counted-stands mostInnerDiagnostics diagnostic (wide diagnosticWidth diagnosticAt) diagnostic-stands)
+    (λ l. held-stands (counted mostInnerContext (place n)) placesFrom (λ (cs : List Place). record { diagnostics = l; context = cs }) (places-stand mostInnerContext n))
 
 -- ---- the blocks
 abbrev phiBy : Place → Part (List Operand) → Part Phi
 phiBy p l = part (record { place = p; operands = l .what }) (l .next)
-
-abbrev instructionBy : ℕ → Part EffectList → Part Instruction
-instructionBy o l = part (record { order = o; effects = l .what }) (l .next)
-
-abbrev returnBy : ℕ → Place → Part EffectList → Part Terminal
-returnBy o p l = part (Return o p (l .what)) (l .next)
 
 abbrev blockBy : BlockId → Part (List Phi) → Part (List Instruction) → Part Terminal → Part Block
 blockBy b ps is t = part (record { number = b; phis = ps .what; instructions = is .what; terminal = t .what }) (t .next)
@@ -370,37 +391,37 @@ phi-stands n ws c a d e =
       inside = λ i. omega (arith, n, o .inside (t .inside (s .inside i)));
     }
 
+value-by : (n m w : ℕ) → StandsFor (valueBy n m w) (valueOf w)
+unfolding valueOf
+value-by n m zero = pure-stands Plain
+value-by n m (suc zero) = held-stands (below m) (wide 1 wordAt) Function (below-stands m)
+value-by n m (suc (suc w)) = held-stands (below n) (wide 1 wordAt) StoreContext (below-stands n)
+
+pub value-stands : (n m : ℕ) → StandsFor (instructionValue n m) valueFrom
+unfolding instructionValue
+value-stands n m = then-stands (atMost mostValue) (wide 1 wordAt) _ _ (atMost-stands mostValue) (value-by n m)
+
 pub instruction-stands : (n m : ℕ) → StandsFor (instruction n m) instructionFrom
 unfolding instruction instructionFrom
-instruction-stands n m ws c a d e =
-    let p = in-two (atMost mostOrder ws c) _ e in
-    let q = in-two (effects n m ws (p .next)) _ (p .second) in
-    let s = atMost-stands mostOrder ws c (p .value) (p .next) (p .first) in
-    let t = effects-stands n m ws (p .next) (q .value) (q .next) (q .first) in
-    let x : c + 1 ≡ p .next = next-is s in
-    let n : q .next ≡ d = got-next (q .second) in
-    record {
-      is = ap (λ (o : ℕ). instructionBy o (effectsFrom ws (c + 1))) (value-is s) ∙ ap (λ (j : Position). instructionBy (p .value) (effectsFrom ws j)) x ∙ ap (instructionBy (p .value)) (t .is) ∙ got-part (q .second);
-      after = omega (arith, n, x, t .after);
-      inside = λ i. omega (arith, n, t .inside (s .inside i));
-    }
+instruction-stands n m =
+    then-stands (atMost mostOrder) (wide 1 wordAt) _ _ (atMost-stands mostOrder)
+    (λ o. then-stands (place n) (wide placeWidth placeAt) _ _ (place-stands n)
+    (λ p. then-stands (counted mostLvalues (place n)) placesFrom _ _ (places-stand mostLvalues n)
+    (λ ls. then-stands (counted mostOperands (place n)) placesFrom _ _ (places-stand mostOperands n)
+    (λ ps. then-stands (instructionValue n m) valueFrom _ _ (value-stands n m)
+    (λ v. held-stands (effects n m) effectsFrom (λ (l : EffectList). record { order = o; lvalue = p; valueLvalues = ls; operands = ps; value = v; effects = l }) (effects-stands n m))))))
+
+-- effects, and a count behind them
+last-stands : {A : Type 0} (n m : ℕ) (f : EffectList → A) → StandsFor (effects n m >>= λ (l : EffectList). fixed noOperands >>= λ (k : ℕ). pure (f l)) (λ (ws : List ℕ) (c : Position). part (f (effectsFrom ws c .what)) (effectsFrom ws c .next + 1))
+last-stands n m f =
+    then-stands (effects n m) effectsFrom _ (λ (l : EffectList) (ws : List ℕ) (c : Position). part (f l) (c + 1)) (effects-stands n m)
+    (λ l. held-stands (fixed noOperands) (wide 1 wordAt) (λ (k : ℕ). f l) (fixed-stands noOperands))
 
 terminalOf-stands : (n m k o : ℕ) → StandsFor (readTerminal n m k o) (terminalOf k o)
 unfolding readTerminal terminalOf
-terminalOf-stands n m zero o ws c a d e = let n : c ≡ d = got-next e in record { is = got-part e; after = omega (arith, n); inside = λ i. omega (arith, n, i) }
-terminalOf-stands n m (suc zero) o ws c a d e =
-    let p = in-two (place n ws c) _ e in
-    let q = in-two (effects n m ws (p .next)) _ (p .second) in
-    let s = place-stands n ws c (p .value) (p .next) (p .first) in
-    let t = effects-stands n m ws (p .next) (q .value) (q .next) (q .first) in
-    let x : c + placeWidth ≡ p .next = next-is s in
-    let n : q .next ≡ d = got-next (q .second) in
-    record {
-      is = ap (λ (z : Place). returnBy o z (effectsFrom ws (c + placeWidth))) (value-is s) ∙ ap (λ (j : Position). returnBy o (p .value) (effectsFrom ws j)) x ∙ ap (returnBy o (p .value)) (t .is) ∙ got-part (q .second);
-      after = omega (arith, n, x, t .after);
-      inside = λ i. omega (arith, n, t .inside (s .inside i));
-    }
-terminalOf-stands n m (suc (suc k)) o ws c a d e = held-stands (effects n m) effectsFrom (λ (l : EffectList). MaybeThrow o l) (effects-stands n m) ws c a d e
+terminalOf-stands n m zero o = held-stands (counted mostOperands (place n)) placesFrom (Other o) (places-stand mostOperands n)
+terminalOf-stands n m (suc zero) o = then-stands (place n) (wide placeWidth placeAt) _ _ (place-stands n) (λ p. last-stands n m (Return o p))
+terminalOf-stands n m (suc (suc k)) o = last-stands n m (MaybeThrow o)
 
 pub terminal-stands : (n m : ℕ) → StandsFor (terminal n m) terminalFrom
 unfolding terminal terminalFrom
@@ -473,31 +494,15 @@ flags-stands ws c a d e =
       inside = λ i. omega (arith, got-next (q .second), u .inside (t .inside (s .inside i)));
     }
 
--- ---- the sections, one after another
-pure-stands : {A : Type 0} (a : A) → StandsFor (pure a) (λ (ws : List ℕ) (c : Position). part a c)
-pure-stands a ws c b d e = let n : c ≡ d = got-next e in record { is = got-part e; after = omega (arith, n); inside = λ i. omega (arith, n, i) }
-
--- one part after another
-then-stands : {A B : Type 0} (m : Read A) (f : Standing A) (k : A → Read B) (g : A → Standing B) → StandsFor m f → ((a : A) → StandsFor (k a) (g a))
-    → StandsFor (m >>= k) (λ (ws : List ℕ) (c : Position). g (f ws c .what) ws (f ws c .next))
-then-stands {A} m f k g h t ws c b d e =
-    let p = in-two (m ws c) _ e in
-    let s = h ws c (p .value) (p .next) (p .first) in
-    let u = t (p .value) ws (p .next) b d (p .second) in
-    record {
-      is = ap (λ (x : Part A). g (x .what) ws (x .next)) (s .is) ∙ u .is;
-      after = omega (arith, s .after, u .after);
-      inside = λ i. u .inside (s .inside i);
-    }
-
+-- ---- the whole sheet
 pub sheet-stands : StandsFor sheet sheetFrom
 unfolding sheet sheetFrom sectionsFrom listed
 sheet-stands =
     then-stands flags (wide flagsWidth flagsAt) _ _ flags-stands
     (λ fs. then-stands (counted mostIdentifiers identifier) identifiersFrom _ _ (counted-stands mostIdentifiers identifier (wide identifierWidth identifierAt) identifier-stands)
-    (λ ids. then-stands (counted mostFunctions innerFunction) functionsFrom _ _ (counted-stands mostFunctions innerFunction functionFrom function-stands)
-    (λ inner. then-stands (counted mostParams (place (length ids))) placesFrom _ _ (counted-stands mostParams (place (length ids)) (wide placeWidth placeAt) (place-stands (length ids)))
-    (λ ps. then-stands (counted mostContext (place (length ids))) placesFrom _ _ (counted-stands mostContext (place (length ids)) (wide placeWidth placeAt) (place-stands (length ids)))
+    (λ ids. then-stands (counted mostFunctions (innerFunction (length ids))) functionsFrom _ _ (counted-stands mostFunctions (innerFunction (length ids)) functionFrom (function-stands (length ids)))
+    (λ inner. then-stands (counted mostParams (place (length ids))) placesFrom _ _ (places-stand mostParams (length ids))
+    (λ ps. then-stands (counted mostContext (place (length ids))) placesFrom _ _ (places-stand mostContext (length ids))
     (λ cs. then-stands (fixed returnsCount) (wide 1 wordAt) _ _ (fixed-stands returnsCount)
     (λ k. then-stands (place (length ids)) (wide placeWidth placeAt) _ _ (place-stands (length ids))
     (λ r. then-stands (count mostBlocks) (wide 1 wordAt) _ _ (count-stands mostBlocks)

@@ -4,7 +4,7 @@ use native.Mathlib.Omega.{arith}
 use mathlib.Core.Path.{_≡_, refl}
 use mathlib.Core.List.{List}
 use Rattle.model.specs.Reading.{Position}
-use Rattle.hir.specs.Words.{Standing, wordAt, wide, placeAt, effectAt, operandAt, identifierAt, diagnosticAt, several, listed, effectsFrom, functionFrom, phiFrom, instructionFrom, terminalOf, terminalFrom, phisFrom, instructionsFrom, blockFrom, Sections, sectionsFrom}
+use Rattle.hir.specs.Words.{Standing, wordAt, wide, placeAt, effectAt, operandAt, identifierAt, diagnosticAt, several, listed, effectsFrom, placesFrom, diagnosticsFrom, functionFrom, phiFrom, valueOf, valueFrom, lvaluesAt, operandsAt, valueAt, effectsAt, instructionFrom, terminalOf, terminalFrom, phisFrom, instructionsFrom, blockFrom, Sections, sectionsFrom}
 use Rattle.model.specs.Limits.{placeWidth, effectWidth, operandWidth, identifierWidth, diagnosticWidth, flagsWidth}
 
 -- no part ends before it begins
@@ -38,34 +38,58 @@ pub phi-rises : (ws : List ℕ) (c : Position) → c + placeWidth + 1 ≤ phiFro
 unfolding phiFrom
 phi-rises ws c = listed-rises (wide operandWidth operandAt) (wide-rises operandWidth operandAt) ws (c + placeWidth)
 
-pub instruction-rises : (ws : List ℕ) (c : Position) → c + 2 ≤ instructionFrom ws c .next
-unfolding instructionFrom
-instruction-rises ws c = omega (arith, effects-rise ws (c + 1))
+pub places-rise : (ws : List ℕ) (c : Position) → c + 1 ≤ placesFrom ws c .next
+places-rise = listed-rises (wide placeWidth placeAt) (wide-rises placeWidth placeAt)
 
-terminalOf-rises : (k o : ℕ) → Rises (terminalOf k o)
+-- where the places of a list end
+pub places-end : (ws : List ℕ) (c : Position) → placesFrom ws c .next ≡ c + 1 + wordAt ws c * placeWidth
+unfolding listed
+places-end ws c = several-wide placeWidth (wordAt ws c) placeAt ws (c + 1)
+
+valueOf-rises : (k : ℕ) → Rises (valueOf k)
+unfolding valueOf
+valueOf-rises zero ws c = omega arith
+valueOf-rises (suc zero) ws c = omega arith
+valueOf-rises (suc (suc k)) ws c = omega arith
+
+pub value-rises : (ws : List ℕ) (c : Position) → c + 1 ≤ valueFrom ws c .next
+value-rises ws c = valueOf-rises (wordAt ws c) ws (c + 1)
+
+-- the parts of an instruction, one behind the other
+pub record InstructionParts (ws : List ℕ) (c : Position) : Type 0 where
+  pub operands : lvaluesAt c + 1 ≤ operandsAt ws c
+  pub value : operandsAt ws c + 1 ≤ valueAt ws c
+  pub effects : valueAt ws c + 1 ≤ effectsAt ws c
+  pub next : effectsAt ws c + 1 ≤ instructionFrom ws c .next
+
+pub instruction-parts : (ws : List ℕ) (c : Position) → InstructionParts ws c
+unfolding instructionFrom
+instruction-parts ws c = record {
+  operands = places-rise ws (lvaluesAt c);
+  value = places-rise ws (operandsAt ws c);
+  effects = value-rises ws (valueAt ws c);
+  next = effects-rise ws (effectsAt ws c);
+}
+
+pub instruction-rises : (ws : List ℕ) (c : Position) → c + 2 ≤ instructionFrom ws c .next
+instruction-rises ws c =
+    let p : InstructionParts ws c = instruction-parts ws c in
+    omega (arith, p .operands, p .value, p .effects, p .next)
+
+terminalOf-rises : (k o : ℕ) (ws : List ℕ) (c : Position) → c + 1 ≤ terminalOf k o ws c .next
 unfolding terminalOf
-terminalOf-rises zero o ws c = omega arith
+terminalOf-rises zero o ws c = places-rise ws c
 terminalOf-rises (suc zero) o ws c = omega (arith, effects-rise ws (c + placeWidth))
 terminalOf-rises (suc (suc k)) o ws c = omega (arith, effects-rise ws c)
 
-pub terminal-rises : (ws : List ℕ) (c : Position) → c + 2 ≤ terminalFrom ws c .next
+pub terminal-rises : (ws : List ℕ) (c : Position) → c + 3 ≤ terminalFrom ws c .next
 unfolding terminalFrom
-terminal-rises ws c = terminalOf-rises (wordAt ws c) (wordAt ws (c + 1)) ws (c + 2)
+terminal-rises ws c = omega (arith, terminalOf-rises (wordAt ws c) (wordAt ws (c + 1)) ws (c + 2))
 
--- what a Return and a MaybeThrow have behind their order
+-- what a Return has behind its order
 pub return-rises : (ws : List ℕ) (c : Position) → wordAt ws c ≡ 1 → c + 2 + placeWidth + 1 ≤ terminalFrom ws c .next
 unfolding terminalFrom terminalOf
-return-rises ws c e = rw e (effects-rise ws (c + 2 + placeWidth))
-
-throwOf-rises : (k o : ℕ) (ws : List ℕ) (c : Position) → 2 ≤ k → c + 1 ≤ terminalOf k o ws c .next
-unfolding terminalOf
-throwOf-rises zero o ws c h = absurd (omega (arith, h))
-throwOf-rises (suc zero) o ws c h = absurd (omega (arith, h))
-throwOf-rises (suc (suc k)) o ws c h = effects-rise ws c
-
-pub throw-rises : (ws : List ℕ) (c : Position) → 2 ≤ wordAt ws c → c + 2 + 1 ≤ terminalFrom ws c .next
-unfolding terminalFrom
-throw-rises ws c h = throwOf-rises (wordAt ws c) (wordAt ws (c + 1)) ws (c + 2) h
+return-rises ws c e = rw e (omega (arith, effects-rise ws (c + 2 + placeWidth)))
 
 phi-follows : Rises phiFrom
 phi-follows ws c = omega (arith, phi-rises ws c)
@@ -82,7 +106,7 @@ block-rises ws c =
 
 pub function-rises : (ws : List ℕ) (c : Position) → c + 1 ≤ functionFrom ws c .next
 unfolding functionFrom
-function-rises = listed-rises (wide diagnosticWidth diagnosticAt) (wide-rises diagnosticWidth diagnosticAt)
+function-rises ws c = omega (arith, listed-rises (wide diagnosticWidth diagnosticAt) (wide-rises diagnosticWidth diagnosticAt) ws c, places-rise ws (diagnosticsFrom ws c .next))
 
 pub function-follows : Rises functionFrom
 function-follows ws c = omega (arith, function-rises ws c)
@@ -103,7 +127,7 @@ pub record Follow (c : Position) (at : Sections) : Type 0 where
 pub sections-follow : (ws : List ℕ) (c : Position) → Follow c (sectionsFrom ws c)
 unfolding sectionsFrom
 sections-follow ws c =
-    let places = listed-rises (wide placeWidth placeAt) (wide-rises placeWidth placeAt) ws in
+    let places = places-rise ws in
     record {
       identifiers = refl;
       functions = listed-rises (wide identifierWidth identifierAt) (wide-rises identifierWidth identifierAt) ws _;

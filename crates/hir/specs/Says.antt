@@ -2,7 +2,7 @@
 use Prim.Native.Nat.{ℕ}
 use mathlib.Core.Bool.{Bool}
 use Rattle.model.specs.Lists.{pick}
-use Rattle.model.specs.Sheet.{Place as ModelPlace, Effect as ModelEffect, Flags as ModelFlags, Identifier as ModelIdentifier, Diagnostic as ModelDiagnostic, EvaluationOrder as ModelOrder, BlockId as ModelBlock}
+use Rattle.model.specs.Sheet.{Place as ModelPlace, Effect as ModelEffect, Flags as ModelFlags, Identifier as ModelIdentifier, Diagnostic as ModelDiagnostic, InstructionValue as ModelValue, Plain as IsPlain, Function as IsFunction, StoreContext as IsStoreContext, EvaluationOrder as ModelOrder, BlockId as ModelBlock}
 use Rattle.model.specs.Reading.{Result, got, refused, Read}
 use Rattle.model.specs.Sections.{place, unused}
 use Rattle.hir.specs.Numbers.{effectNumber, kindSays, terminalNumber, typeSays}
@@ -21,6 +21,10 @@ use Rattle.hir.specs.declared.OrderStep.{OrderStep}
 use Rattle.hir.specs.declared.OrderStep.the-variants.{Got as GotOrder, Refused as NoOrder}
 use Rattle.hir.specs.declared.BlockStep.{BlockStep}
 use Rattle.hir.specs.declared.BlockStep.the-variants.{Got as GotBlock, Refused as NoBlock}
+use Rattle.hir.specs.declared.InstructionValue.{InstructionValue}
+use Rattle.hir.specs.declared.InstructionValue.the-variants.{Plain, Function, StoreContext}
+use Rattle.hir.specs.declared.ValueStep.{ValueStep}
+use Rattle.hir.specs.declared.ValueStep.the-variants.{Got as GotValue, Refused as NoValue}
 use Rattle.hir.specs.declared.KindStep.{KindStep}
 use Rattle.hir.specs.declared.KindStep.the-variants.{Got as GotKind, Refused as NoKind}
 use Rattle.hir.specs.declared.FlagsStep.{FlagsStep}
@@ -50,6 +54,12 @@ identifierIs i = record { start = i .«mutable_range» .start .0; end = i .«mut
 abbrev pub diagnosticIs : Diagnostic → ModelDiagnostic
 diagnosticIs d = record { identity = d .identity; instance = d .instance }
 
+-- an instruction's value
+abbrev pub valueIs : InstructionValue → ModelValue
+valueIs Plain = IsPlain
+valueIs (Function f) = IsFunction (f .0)
+valueIs (StoreContext x) = IsStoreContext (x .0)
+
 -- a word
 abbrev pub wordSays : WordStep → Result ℕ
 wordSays (GotWord w c) = got w (c .at)
@@ -74,6 +84,11 @@ orderSays (NoOrder k) = refused k
 abbrev pub blockSays : BlockStep → Result ModelBlock
 blockSays (GotBlock w c) = got (w .0) (c .at)
 blockSays (NoBlock k) = refused k
+
+-- an instruction's value
+abbrev pub valueSays : ValueStep → Result ModelValue
+valueSays (GotValue w c) = got (valueIs w) (c .at)
+valueSays (NoValue k) = refused k
 
 -- a terminal's kind, by its number
 abbrev pub kindStepSays : KindStep → Result ℕ

@@ -5,7 +5,7 @@ use mathlib.Core.List.{List, [], _∷_}
 use lib.ListN.{getD}
 use lib.Dec.{eqb}
 use Rattle.model.specs.Limits.{flagsWidth, identifierWidth, diagnosticWidth, placeWidth, effectWidth, operandWidth}
-use Rattle.model.specs.Sheet.{Flags, Identifier, Diagnostic, InnerFunction, Place, Effect, Operand, Phi, EffectList, Instruction, Terminal, Other, Return, MaybeThrow, Block, Sheet}
+use Rattle.model.specs.Sheet.{Flags, Identifier, Diagnostic, InnerFunction, Place, Effect, Operand, Phi, EffectList, InstructionValue, Plain, Function, StoreContext, Instruction, Terminal, Other, Return, MaybeThrow, Block, Sheet}
 use Rattle.model.specs.Traits.{effectOf, reactiveOf}
 use Rattle.model.specs.Effects.{kindOf}
 use Rattle.model.specs.Reading.{Position}
@@ -78,12 +78,20 @@ module _ {A : Type 0} where
 abbrev pub effectsFrom : Standing EffectList
 effectsFrom = listed (wide effectWidth effectAt)
 
+-- a count and places
+abbrev pub placesFrom : Standing (List Place)
+placesFrom = listed (wide placeWidth placeAt)
+
 -- "a count, then that many pairs"
+abbrev pub diagnosticsFrom : Standing (List Diagnostic)
+diagnosticsFrom = listed (wide diagnosticWidth diagnosticAt)
+
+-- the pairs; "after its diagnostics, a count of context places and those places"
 unfoldable pub functionFrom : Standing InnerFunction
-functionFrom ws c = record {
-  what = record { diagnostics = listed (wide diagnosticWidth diagnosticAt) ws c .what };
-  next = listed (wide diagnosticWidth diagnosticAt) ws c .next;
-}
+functionFrom ws c =
+    let diagnostics : Part (List Diagnostic) = diagnosticsFrom ws c in
+    let context : Part (List Place) = placesFrom ws (diagnostics .next) in
+    record { what = record { diagnostics = diagnostics .what; context = context .what }; next = context .next }
 
 -- "each phi a place, an operand count, and the operands"
 unfoldable pub phiFrom : Standing Phi
@@ -92,18 +100,48 @@ phiFrom ws c = record {
   next = listed (wide operandWidth operandAt) ws (c + placeWidth) .next;
 }
 
--- "each an order, an effect count and the effects"
+-- by the value word, what follows it: "0 plain, 1 then an inner function number, 2 then the identifier that StoreContext stores"
+unfoldable pub valueOf : ℕ → Standing InstructionValue
+valueOf zero ws c = record { what = Plain; next = c }
+valueOf (suc zero) ws c = record { what = Function (wordAt ws c); next = c + 1 }
+valueOf (suc (suc k)) ws c = record { what = StoreContext (wordAt ws c); next = c + 1 }
+
+-- "a value word", then the rest
+abbrev pub valueFrom : Standing InstructionValue
+valueFrom ws c = valueOf (wordAt ws c) ws (c + 1)
+
+-- where the parts of the instruction at c stand: its value lvalues, its operands, its value and its effects
+abbrev pub lvaluesAt : Position → Position
+lvaluesAt c = c + 1 + placeWidth
+
+abbrev pub operandsAt : List ℕ → Position → Position
+operandsAt ws c = placesFrom ws (lvaluesAt c) .next
+
+abbrev pub valueAt : List ℕ → Position → Position
+valueAt ws c = placesFrom ws (operandsAt ws c) .next
+
+abbrev pub effectsAt : List ℕ → Position → Position
+effectsAt ws c = valueFrom ws (valueAt ws c) .next
+
+-- "each an order, an effect count and the effects"; after the order "its lvalue place; its value lvalues, then its operands; and a value word"
 unfoldable pub instructionFrom : Standing Instruction
 instructionFrom ws c = record {
-  what = record { order = wordAt ws c; effects = effectsFrom ws (c + 1) .what };
-  next = effectsFrom ws (c + 1) .next;
+  what = record {
+    order = wordAt ws c;
+    lvalue = placeAt ws (c + 1);
+    valueLvalues = placesFrom ws (lvaluesAt c) .what;
+    operands = placesFrom ws (operandsAt ws c) .what;
+    value = valueFrom ws (valueAt ws c) .what;
+    effects = effectsFrom ws (effectsAt ws c) .what;
+  };
+  next = effectsFrom ws (effectsAt ws c) .next;
 }
 
--- by the kind (0 other, 1 Return, 2 MaybeThrow) and the order, what follows them: "for 1 a place; for 1 and 2 an effect count and effects"
+-- by the kind (0 other, 1 Return, 2 MaybeThrow) and the order, what follows them: "for 1 a place; for 1 and 2 an effect count and effects"; at its end its operands
 unfoldable pub terminalOf : ℕ → ℕ → Standing Terminal
-terminalOf zero o ws c = record { what = Other o; next = c }
-terminalOf (suc zero) o ws c = record { what = Return o (placeAt ws c) (effectsFrom ws (c + placeWidth) .what); next = effectsFrom ws (c + placeWidth) .next }
-terminalOf (suc (suc k)) o ws c = record { what = MaybeThrow o (effectsFrom ws c .what); next = effectsFrom ws c .next }
+terminalOf zero o ws c = record { what = Other o (placesFrom ws c .what); next = placesFrom ws c .next }
+terminalOf (suc zero) o ws c = record { what = Return o (placeAt ws c) (effectsFrom ws (c + placeWidth) .what); next = effectsFrom ws (c + placeWidth) .next + 1 }
+terminalOf (suc (suc k)) o ws c = record { what = MaybeThrow o (effectsFrom ws c .what); next = effectsFrom ws c .next + 1 }
 
 -- "terminal kind and order", then the rest
 unfoldable pub terminalFrom : Standing Terminal
@@ -144,9 +182,6 @@ identifiersFrom = listed (wide identifierWidth identifierAt)
 
 abbrev pub functionsFrom : Standing (List InnerFunction)
 functionsFrom = listed functionFrom
-
-abbrev pub placesFrom : Standing (List Place)
-placesFrom = listed (wide placeWidth placeAt)
 
 abbrev pub blocksFrom : Standing (List Block)
 blocksFrom = listed blockFrom

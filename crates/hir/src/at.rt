@@ -1,18 +1,20 @@
 // The parts of an accepted sheet, read a second time: each by the position at which it stands.
 ghost use mathlib.Core.Path.{_≡_};
-ghost use Prim.Native.Nat.{_+_, _≤_};
+ghost use Prim.Native.Nat.{_+_, _*_, _≤_};
 ghost use lib.ListN.{length};
 ghost use Rattle.hir.specs.Says.{placeIs, effectIs, flagsAre, identifierIs, diagnosticIs};
-ghost use Rattle.hir.specs.Words.{wordAt, placeAt, effectAt, operandAt, identifierAt, diagnosticAt, flagsAt, terminalFrom};
+ghost use Rattle.hir.specs.Words.{wordAt, placeAt, effectAt, operandAt, identifierAt, diagnosticAt, flagsAt, valueFrom, instructionFrom, terminalFrom};
 ghost use Rattle.model.specs.Limits.{placeWidth, effectWidth, operandWidth, identifierWidth, diagnosticWidth, flagsWidth};
-ghost use Rattle.hir.specs.Parts.{operandIs, ListAt, PhiAt, InstructionAt, TerminalAt};
+ghost use Rattle.hir.specs.Parts.{operandIs, ListAt, PhiAt, ValueAt, InstructionAt, TerminalAt};
 use crate::AliasingEffect;
 use crate::BlockId;
 use crate::Diagnostic;
 use crate::EvaluationOrder;
 use crate::Flags;
+use crate::FunctionId;
 use crate::Identifier;
 use crate::IdentifierId;
+use crate::InstructionValue;
 use crate::MutableRange;
 use crate::Place;
 use crate::effects::row_of;
@@ -50,15 +52,25 @@ pub struct Phi {
     pub operands: List,
 }
 
+// An instruction's value, and the position after it.
+pub struct Value {
+    pub value: InstructionValue,
+    pub next: usize,
+}
+
 // An instruction.
 pub struct Instruction {
     pub order: EvaluationOrder,
+    pub lvalue: Place,
+    pub value_lvalues: List,
+    pub operands: List,
+    pub value: InstructionValue,
     pub effects: List,
 }
 
-// A terminal: what it has, and the position after one that has nothing.
+// A terminal: its operands, or its value and its effects.
 pub enum Terminal {
-    Other(usize),
+    Other(List),
     Return(Place, List),
     MaybeThrow(List),
 }
@@ -159,13 +171,60 @@ pub fn phi_at(s: &[u32], at: usize) -> Phi
     Phi { place, operands }
 }
 
+// The order of an instruction.
+pub fn order_at(s: &[u32], at: usize) -> EvaluationOrder
+    requires { ⌜ at + 1 ≤ length (now s) ⌝ }
+    ensures { λ r. ⌜ r .0 ≡ wordAt (now (s .entry)) at ⌝ }
+{
+    EvaluationOrder(s[at])
+}
+
+// The position after the places of a list.
+pub fn past_places(s: &[u32], list: List) -> usize
+    requires { ⌜ list .first + placeWidth * list .count ≤ length (now s) ⌝ }
+    ensures { λ r. ⌜ r ≡ list .first + placeWidth * list .count ⌝ }
+{
+    list.first + PLACE_WIDTH * (list.count as usize)
+}
+
+pub fn value_at(s: &[u32], at: usize) -> Value
+    requires { ⌜ valueFrom (now s) at .next ≤ length (now s) ⌝ }
+    ensures { λ r. ⌜ ValueAt (now (s .entry)) at r ⌝ }
+{
+    let inside = at + 1;
+    match s[at] {
+        0 => Value {
+            value: InstructionValue::Plain,
+            next: inside,
+        },
+        1 => Value {
+            value: InstructionValue::Function(FunctionId(s[inside])),
+            next: inside + 1,
+        },
+        _ => Value {
+            value: InstructionValue::StoreContext(IdentifierId(s[inside])),
+            next: inside + 1,
+        },
+    }
+}
+
 pub fn instruction_at(s: &[u32], at: usize) -> Instruction
-    requires { ⌜ at + 2 ≤ length (now s) ⌝ }
+    requires { ⌜ instructionFrom (now s) at .next ≤ length (now s) ⌝ }
     ensures { λ r. ⌜ InstructionAt (now (s .entry)) at r ⌝ }
 {
-    let effects = list_at(s, at + 1);
+    let order = order_at(s, at);
+    let lvalue = place_at(s, at + 1);
+    let value_lvalues = list_at(s, at + 1 + PLACE_WIDTH);
+    let operands = list_at(s, past_places(s, value_lvalues));
+    let v = value_at(s, past_places(s, operands));
+    let value = v.value;
+    let effects = list_at(s, v.next);
     Instruction {
-        order: EvaluationOrder(s[at]),
+        order,
+        lvalue,
+        value_lvalues,
+        operands,
+        value,
         effects,
     }
 }
@@ -187,7 +246,10 @@ pub fn terminal_at(s: &[u32], at: usize) -> Terminal
 {
     let inside = at + 2;
     match s[at] {
-        0 => Terminal::Other(inside),
+        0 => {
+            let operands = list_at(s, inside);
+            Terminal::Other(operands)
+        }
         1 => {
             let value = place_at(s, inside);
             let effects = list_at(s, inside + PLACE_WIDTH);

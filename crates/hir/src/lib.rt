@@ -143,6 +143,13 @@ pub struct Diagnostic {
     pub instance: u32,
 }
 
+// What an instruction computes, as far as the pass over operands asks: FunctionExpression and ObjectMethod are `Function`.
+pub enum InstructionValue {
+    Plain,
+    Function(FunctionId),
+    StoreContext(IdentifierId),
+}
+
 // The terminals that matter here; every other one is `Other`.
 pub enum TerminalKind {
     Other,
@@ -281,6 +288,12 @@ pub enum OrderStep {
 // A block's number and the position after it, or a refusal.
 pub enum BlockStep {
     Got(BlockId, Cursor),
+    Refused(u32),
+}
+
+// An instruction's value and the position after it, or a refusal.
+pub enum ValueStep {
+    Got(InstructionValue, Cursor),
     Refused(u32),
 }
 

@@ -18,6 +18,8 @@ pub const MOST_FUNCTIONS: u32 = 64;
 
 pub const MOST_INNER_DIAGNOSTICS: u32 = 64;
 
+pub const MOST_INNER_CONTEXT: u32 = 64;
+
 pub const MOST_DIAGNOSTIC: u32 = 65535;
 
 pub const MOST_PARAMS: u32 = 64;
@@ -33,6 +35,14 @@ pub const MOST_BLOCK_NUMBER: u32 = 65535;
 pub const MOST_COUNT: u32 = 1024;
 
 pub const MOST_ORDER: u32 = 999999;
+
+pub const MOST_LVALUES: u32 = 64;
+
+pub const MOST_OPERANDS: u32 = 64;
+
+pub const NO_OPERANDS: u32 = 0;
+
+pub const MOST_VALUE: u32 = 2;
 
 pub const MOST_TERMINAL: u32 = 2;
 
@@ -54,4 +64,4 @@ pub const LEAST_LOAD_EFFECTS: u32 = 1;
 
 pub const MOST_LOAD_EFFECTS: u32 = 512;
 
-pub const LAST_REFUSAL: u32 = 9;
+pub const LAST_REFUSAL: u32 = 10;

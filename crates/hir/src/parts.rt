@@ -1,11 +1,11 @@
-// The parts that are not effects: orders, block numbers, kinds of terminals, flags, identifiers, diagnostics.
+// The parts that are not effects: orders, block numbers, values, kinds of terminals, flags, identifiers, diagnostics.
 ghost use mathlib.Core.Path.{_≡_};
 ghost use Rattle.model.specs.Limits.{mostOrder, mostBlockNumber, mostTerminal};
 ghost use Rattle.model.specs.Reading.{atMost};
-ghost use Rattle.model.specs.Sections.{flags, identifier, diagnostic};
+ghost use Rattle.model.specs.Sections.{flags, identifier, diagnostic, instructionValue};
 ghost use Rattle.hir.specs.Numbers.{typeSays};
 ghost use Rattle.model.specs.Sections.{typeOf};
-ghost use Rattle.hir.specs.Says.{orderSays, blockSays, kindStepSays, flagsSays, identifierSays, diagnosticSays};
+ghost use Rattle.hir.specs.Says.{orderSays, blockSays, valueSays, kindStepSays, flagsSays, identifierSays, diagnosticSays};
 use crate::BlockId;
 use crate::BlockStep;
 use crate::Cursor;
@@ -14,13 +14,17 @@ use crate::DiagnosticStep;
 use crate::EvaluationOrder;
 use crate::Flags;
 use crate::FlagsStep;
+use crate::FunctionId;
 use crate::Identifier;
+use crate::IdentifierId;
 use crate::IdentifierStep;
 use crate::IdentifierType;
+use crate::InstructionValue;
 use crate::KindStep;
 use crate::MutableRange;
 use crate::OrderStep;
 use crate::TerminalKind;
+use crate::ValueStep;
 use crate::WordStep;
 use crate::limits::FLAG_COUNT;
 use crate::limits::MOST_BLOCK_NUMBER;
@@ -30,6 +34,7 @@ use crate::limits::MOST_ORDER;
 use crate::limits::MOST_RANGE;
 use crate::limits::MOST_TERMINAL;
 use crate::limits::MOST_TYPE;
+use crate::limits::MOST_VALUE;
 
 // The type of a number; one above 2 is refused before.
 pub fn type_of(number: u32) -> IdentifierType
@@ -61,6 +66,36 @@ impl Cursor {
         match self.at_most(s, MOST_BLOCK_NUMBER) {
             WordStep::Got(w, c) => BlockStep::Got(BlockId(w), c),
             WordStep::Refused(k) => BlockStep::Refused(k),
+        }
+    }
+
+    // The value word, then an inner function below `m` or an identifier below `n`.
+    pub fn value(self, s: &[u32], n: u32, m: u32) -> ValueStep
+        ensures { λ r. ⌜ valueSays r ≡ instructionValue n m (now (s .entry)) (self .at) ⌝ }
+    {
+        match self.at_most(s, MOST_VALUE) {
+            WordStep::Got(w, c) => {
+                if w == 0 {
+                    return ValueStep::Got(InstructionValue::Plain, c);
+                }
+                if w == 1 {
+                    return match c.below(s, m) {
+                        WordStep::Got(f, c1) => ValueStep::Got(
+                            InstructionValue::Function(FunctionId(f)),
+                            c1,
+                        ),
+                        WordStep::Refused(k1) => ValueStep::Refused(k1),
+                    };
+                }
+                match c.below(s, n) {
+                    WordStep::Got(x, c2) => ValueStep::Got(
+                        InstructionValue::StoreContext(IdentifierId(x)),
+                        c2,
+                    ),
+                    WordStep::Refused(k2) => ValueStep::Refused(k2),
+                }
+            }
+            WordStep::Refused(k) => ValueStep::Refused(k),
         }
     }
 

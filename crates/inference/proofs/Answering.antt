@@ -1,5 +1,5 @@
--- The sections of an answer, one after another.
-use Prim.Native.Nat.{ℕ, _+_, _*_, _≤_, _<_}
+-- The sections from params to walks, one after another.
+use Prim.Native.Nat.{ℕ, _+_, _-_, _*_, _<_}
 use native.Mathlib.Omega.{arith}
 use mathlib.Core.Path.{_≡_, refl, sym, ap, _∙_}
 use mathlib.Core.List.{List, [], _∷_, _++_, map, append-assoc, map-append}
@@ -7,7 +7,7 @@ use lib.ListN.{length, getD}
 use lib.Seq.{slice, slice-empty}
 use Rattle.model.specs.Limits.{mostMutations}
 use Rattle.model.specs.Lists.{listIf}
-use Rattle.model.specs.Sheet.{Identifier, Place, Sheet}
+use Rattle.model.specs.Sheet.{Place, Sheet}
 use Rattle.model.specs.Mutation.{Mutation, RenderOf}
 use Rattle.model.specs.State.{State, real}
 use Rattle.model.specs.Walks.{Walk}
@@ -16,8 +16,8 @@ use Rattle.model.specs.Runs.{walksOf, after, rendered}
 use Rattle.model.specs.Building.{build}
 use Rattle.model.specs.Summary.{errors, built, realWalks, afterReal, afterRenders, marked}
 use Rattle.model.specs.Simulated.{simulate}
-use Rattle.model.specs.Answer.{rangesOf, rangeWords, placeWords, diagnosticWords, effectWords, countWords, section, diagnosed, summary, answer, answerWords}
-use Rattle.model.proofs.Quiet.{final-ends, quiet}
+use Rattle.model.specs.Answer.{placeWords, diagnosticWords, effectWords, countWords, section, diagnosed, summary, answer, middleWords}
+use Rattle.model.proofs.Quiet.{quiet}
 use Rattle.model.proofs.Handed.{withHanded}
 use Rattle.model.proofs.Rendering.{render-leaves}
 use Rattle.workspace.specs.Layout.{HANDED, MUTATIONS, RENDERS, FUNCTIONS, SIMULATED}
@@ -28,37 +28,34 @@ use Rattle.workspace.proofs.Parts.{drop-more, drop-word, slice-at}
 use Rattle.workspace.proofs.Pending.{renders-kept}
 use Rattle.workspace.proofs.Tables.{tab-same}
 use Rattle.building.specs.declared.Building.{Building}
-use Rattle.aliasing.specs.State.{nodesOf, recordsOf, endsOf, stateOf}
+use Rattle.aliasing.specs.State.{recordsOf, endsOf, stateOf}
 use Rattle.aliasing.specs.Pending.{takenOf, Processed}
 use Rattle.aliasing.proofs.Walks.{indexed-after}
 use Rattle.renders.specs.Renders.{Unmoved}
 use Rattle.writing.specs.Wrote.{Wrote}
 use Rattle.writing.proofs.Writing.{wrote-then, wrote-as}
 use Rattle.summary.specs.Records.{Holds}
-use Rattle.summary.specs.Ranges.{mostRanges, Ranges}
 use Rattle.workspace.specs.Tracked.{trackedFrom}
 use Rattle.summary.specs.Sections.{Marked, simulatedOf}
 use Rattle.summary.proofs.Whole.{params-tracked, context-tracked}
-use Rattle.summary.proofs.Rooms.{ranges-next, marked-next}
+use Rattle.summary.proofs.Rooms.{marked-next}
+use Rattle.copies.specs.Functions.{Functions}
+use Rattle.copies.proofs.Errors.{functions-kept}
 use Rattle.dataflow.specs.declared.function.HirFunction.{HirFunction}
 use Rattle.dataflow.specs.Function.{Limited, Stands}
 use Rattle.dataflow.proofs.Standing.{stands-kept}
-use Rattle.inference.specs.Whole.{Prepared, PlacesPut}
+use Rattle.inference.specs.Whole.{Prepared, TrackedPut}
 
--- ---- ranges, params, context
-pub ranges-room : (sheet ws : List ℕ) (f : HirFunction) {a a₁ : List ℕ} {at at₁ : ℕ} → Limited f → Ranges sheet (f .identifiers) ws a at a₁ at₁ → at₁ ≤ at + mostRanges
-ranges-room sheet ws f l r = omega (arith, ranges-next sheet (f .identifiers) ws (l .n) r, l .n)
-
-module _ {sheet ws : List ℕ} {f : HirFunction} {a a₁ a₂ a₃ : List ℕ} {at at₁ at₂ at₃ : ℕ} where
-  pub places-put : Limited f → Ranges sheet (f .identifiers) ws a at a₁ at₁ → Marked ws 0 (f .params) a₁ at₁ a₂ at₂ → Marked ws (f .params) (f .context) a₂ at₂ a₃ at₃ → PlacesPut sheet ws f a at a₃ at₃
-  places-put l r p c = record {
-    wrote = λ s t d st h.
+-- ---- params, context
+module _ {ws : List ℕ} {f : HirFunction} {a a₁ a₂ : List ℕ} {at at₁ at₂ : ℕ} where
+  pub tracked-put : Limited f → Marked ws 0 (f .params) a at a₁ at₁ → Marked ws (f .params) (f .context) a₁ at₁ a₂ at₂ → TrackedPut ws f a at a₂ at₂
+  tracked-put l p c = record {
+    wrote = λ s sheet t d st h.
         let e : trackedFrom ws 0 (f .params) ≡ s .params = ap (λ (k : ℕ). trackedFrom ws 0 k) (d .params) ∙ params-tracked s ws (st .tracked) in
         let g : trackedFrom ws (f .params) (f .context) ≡ s .context =
         ap (λ (k : ℕ). trackedFrom ws k (f .context)) (d .params) ∙ ap (λ (k : ℕ). trackedFrom ws (length (s .params)) k) (d .context) ∙ context-tracked s ws (st .tracked) in
-        wrote-then (wrote-as r (ap (λ (ids : List Identifier). section rangeWords (rangesOf ids (endsOf (nodesOf ws)))) (d .identifiers)))
-        (wrote-then (wrote-as (p t h) (ap (λ (q : List Place). section placeWords (map (marked t) q)) e)) (wrote-as (c t h) (ap (λ (q : List Place). section placeWords (map (marked t) q)) g)));
-    few = omega (arith, ranges-room sheet ws f l r, marked-next ws 0 (f .params) p, marked-next ws (f .params) (f .context) c, l .params, l .context);
+        wrote-then (wrote-as (p t h) (ap (λ (q : List Place). section placeWords (map (marked t) q)) e)) (wrote-as (c t h) (ap (λ (q : List Place). section placeWords (map (marked t) q)) g));
+    few = omega (arith, marked-next ws 0 (f .params) p, marked-next ws (f .params) (f .context) c, l .params, l .context);
   }
 
 -- ---- after the real mutations
@@ -96,10 +93,6 @@ module _ {s : Sheet} {sheet ws : List ℕ} {f : HirFunction} {b : Building} (p :
   unfolding stateOf
   real-holds = quiet s .renderRecords ∙ sym (ap (λ (t : State). t .records) real-state)
 
-  real-ends : endsOf (nodesOf ws₁) ≡ simulate s .state .ends
-  unfolding stateOf
-  real-ends = ap (λ (t : State). t .ends) real-state ∙ sym (final-ends s)
-
   -- ---- after the diagnostics
   module _ {ws₂ : List ℕ} (u : Unmoved ws₁ ws₂) where
     pub next-indexed : Indexed ws₂
@@ -123,16 +116,23 @@ module _ {s : Sheet} {sheet ws : List ℕ} {f : HirFunction} {b : Building} (p :
 
     -- ---- after the effects
     module _ (ws₃ : List ℕ) (kept : slice MUTATIONS SIMULATED ws₃ ≡ slice MUTATIONS SIMULATED ws₂) where
+      part-kept : (k i : ℕ) → i ≡ MUTATIONS + k → i < SIMULATED → getD ws₃ i 0 ≡ getD ws₂ i 0
+      part-kept k i e h =
+          ap (λ (x : ℕ). getD ws₃ x 0) e
+          ∙ sym (slice-at MUTATIONS SIMULATED k ws₃ (omega (arith, e, h)))
+          ∙ ap (λ (l : List ℕ). getD l k 0) kept
+          ∙ slice-at MUTATIONS SIMULATED k ws₂ (omega (arith, e, h))
+          ∙ ap (λ (x : ℕ). getD ws₂ x 0) (sym e)
+
       word-kept : (i : ℕ) → i < b .mutations → getD ws₃ (MUTATIONS + 3 * i + 2) 0 ≡ getD ws₁ (MUTATIONS + 3 * i + 2) 0
       word-kept i h =
           let few : i < mostMutations = omega (arith, h, p .pending .few) in
-          let e : MUTATIONS + 3 * i + 2 ≡ MUTATIONS + (3 * i + 2) = omega arith in
-          ap (λ (k : ℕ). getD ws₃ k 0) e
-          ∙ sym (slice-at MUTATIONS SIMULATED (3 * i + 2) ws₃ (omega (arith, few)))
-          ∙ ap (λ (l : List ℕ). getD l (3 * i + 2) 0) kept
-          ∙ slice-at MUTATIONS SIMULATED (3 * i + 2) ws₂ (omega (arith, few))
-          ∙ drop-word MUTATIONS (MUTATIONS + (3 * i + 2)) ws₁ ws₂ (omega arith) (u .aside .behind)
-          ∙ ap (λ (k : ℕ). getD ws₁ k 0) (sym e)
+          part-kept (3 * i + 2) (MUTATIONS + 3 * i + 2) (omega arith) (omega (arith, few))
+          ∙ drop-word MUTATIONS (MUTATIONS + 3 * i + 2) ws₁ ws₂ (omega arith) (u .aside .behind)
+
+      -- the inner functions are where they were
+      pub last-functions : Functions sheet ws₃ (s .functions)
+      last-functions = functions-kept (λ k h. part-kept (FUNCTIONS - MUTATIONS + k) (FUNCTIONS + k) (omega arith) (omega (arith, h, p .below .functionCount))) (next-stands .functions)
 
       last-counts : takenOf ws₃ (b .mutations) ≡ map (λ (w : Walk). w .taken) (realWalks s)
       unfolding takenOf
@@ -141,16 +141,15 @@ module _ {s : Sheet} {sheet ws : List ℕ} {f : HirFunction} {b : Building} (p :
           ∙ real-counts
 
       module _ {a a₁ a₂ a₃ a₄ : List ℕ} {at at₁ at₂ at₃ at₄ : ℕ} where
-        -- the whole answer
-        pub answer-put : PlacesPut sheet ws₁ f a at a₁ at₁ → Wrote (section diagnosticWords (diagnosed s)) a₁ at₁ a₂ at₂ → Wrote (section effectWords (summary s)) a₂ at₂ a₃ at₃
+        -- the sections from params to walks
+        pub middle-wrote : TrackedPut ws₁ f a at a₁ at₁ → Wrote (section diagnosticWords (diagnosed s)) a₁ at₁ a₂ at₂ → Wrote (section effectWords (summary s)) a₂ at₂ a₃ at₃
             → simulatedOf ws₃ (f .params + f .context + 1) ≡ map (λ (w : Walk). w .taken) (simulate s .walks)
             → Wrote (section countWords (takenOf ws₃ (b .mutations) ++ simulatedOf ws₃ (f .params + f .context + 1))) a₃ at₃ a₄ at₄
-            → Wrote (answerWords (answer s)) a at a₄ at₄
-        unfolding answerWords answer
-        answer-put places diagnostics effects counts walks =
+            → Wrote (middleWords (answer s)) a at a₄ at₄
+        unfolding middleWords answer
+        middle-wrote places diagnostics effects counts walks =
             let t : State = afterRenders s in
             let taken : Walk → ℕ = λ (w : Walk). w .taken in
-            let x : List ℕ = section rangeWords (rangesOf (s .identifiers) (endsOf (nodesOf ws₁))) in
             let y : List ℕ = section placeWords (map (marked t) (s .params)) in
             let z : List ℕ = section placeWords (map (marked t) (s .context)) in
             let all : List ℕ = map taken (realWalks s ++ simulate s .walks) in
@@ -158,6 +157,5 @@ module _ {s : Sheet} {sheet ws : List ℕ} {f : HirFunction} {b : Building} (p :
             ap (λ (l : List ℕ). l ++ simulatedOf ws₃ (f .params + f .context + 1)) last-counts ∙ ap (λ (l : List ℕ). map taken (realWalks s) ++ l) counts
             ∙ sym (map-append taken (realWalks s) (simulate s .walks)) in
             let rest : List ℕ = section diagnosticWords (diagnosed s) ++ (section effectWords (summary s) ++ section countWords all) in
-            wrote-as (wrote-then (places .wrote s t (p .describes) real-stands real-holds) (wrote-then diagnostics (wrote-then effects (wrote-as walks (ap (section countWords) c)))))
-            (append-assoc x (y ++ z) rest ∙ ap (λ (l : List ℕ). x ++ l) (append-assoc y z rest)
-            ∙ ap (λ (l : List ℕ). section rangeWords (rangesOf (s .identifiers) l) ++ (y ++ (z ++ rest))) real-ends)
+            wrote-as (wrote-then (places .wrote s sheet t (p .describes) real-stands real-holds) (wrote-then diagnostics (wrote-then effects (wrote-as walks (ap (section countWords) c)))))
+            (append-assoc y z rest)

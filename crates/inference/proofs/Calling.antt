@@ -2,22 +2,24 @@
 use Prim.Native.Nat.{ℕ, _≤_, _<_}
 use mathlib.Core.Path.{_≡_, refl, sym, ap, subst, _∙_}
 use native.Mathlib.Omega.{arith}
-use mathlib.Core.Bool.{_||_}
+use mathlib.Core.Bool.{true, false, _||_}
 use mathlib.Core.List.{List}
 use lib.ListN.{length}
 use lib.Dec.{ltb}
 use borrow.Author.Tests.{lt-ltb, le-ltb, ltb-false}
 use Rattle.model.specs.Limits.{leastWorkspace}
+use Rattle.model.specs.Lists.{pick}
 use Rattle.model.specs.Sheet.{Sheet}
 use Rattle.model.specs.Reading.{Position, Result, got, refused}
 use Rattle.model.specs.Answer.{answer, answerWords}
-use Rattle.model.specs.Call.{refusal, read, IsSheet, fits, answered, admit, outcome}
+use Rattle.model.specs.Call.{refusal, read, IsSheet, applies, fits, answered, admit, outcome}
 use Rattle.model.proofs.Either.{or-left, or-right}
 use Rattle.reading.specs.Judging.{Told}
 use Rattle.reading.specs.Whole.{acceptance, judgementOf}
 use Rattle.reading.specs.Whole.{refusal as noSheet}
 use Rattle.reading.proofs.Accepted.{accepted-sheet, refused-sheet}
 use Rattle.reading.proofs.CopiedLaws.{accepted-copies}
+use Rattle.reading.proofs.ApplyLaws.{accepted-applies}
 use Rattle.building.specs.declared.Building.{Building}
 use Rattle.dataflow.specs.declared.function.HirFunction.{HirFunction}
 use Rattle.workspace.specs.Sort.{clearedFrom}
@@ -27,7 +29,7 @@ use Rattle.writing.specs.declared.Outcome.the-variants.{Accepted}
 use Rattle.inference.specs.Outcome.{Came, Inferred}
 use Rattle.inference.specs.declared.Preparation.{Preparation}
 use Rattle.inference.specs.declared.Preparation.the-variants.{Refused, Ready}
-use Rattle.inference.specs.Whole.{NoneUnless, Prepared, preparedIs, Prepares, AnswerPut}
+use Rattle.inference.specs.Whole.{NoneUnless, AppliesIs, Prepared, preparedIs, Prepares, AnswerPut}
 use Rattle.inference.proofs.Ending.{came-as, came-long, answered-all}
 
 -- the sheet behind an acceptance
@@ -40,6 +42,10 @@ accepted-none sheet {t} e h =
     let d : t .diagnoses ≤ 0 = ltb-false 0 (t .diagnoses) (or-left (ltb 0 (t .diagnoses)) (ltb 0 (t .renders)) h) in
     let r : t .renders ≤ 0 = ltb-false 0 (t .renders) (or-right (ltb 0 (t .diagnoses)) (ltb 0 (t .renders)) h) in
     accepted-copies sheet t e (omega (arith, d)) (omega (arith, r))
+
+-- what was told of Apply
+pub accepted-tells : (sheet : List ℕ) {t : Told} → judgementOf (read sheet) ≡ acceptance t → AppliesIs (ltb 0 (t .applies)) sheet
+accepted-tells sheet {t} e s is = sym (accepted-applies sheet t e s is)
 
 -- ---- what is prepared
 module _ {x : Result Sheet} {sheet ws ws′ : List ℕ} {r : Preparation} (p : Prepares x sheet ws ws′ r) where
@@ -86,19 +92,31 @@ module _ (sheet ws ans ws₁ : List ℕ) {p : Preparation} (h : Prepares (admit 
   unfolding outcome answered
   call-refused e c = let q = refused-by h e in came-as (sym (ap (answered (length ans)) (q .0))) (came-long (ap (λ (l : List ℕ). length l) (q .1)) refl c)
 
-  module _ {f : HirFunction} {b : Building} (e : p ≡ Ready f b) {ws₂ ans₁ : List ℕ} {n : ℕ} (put : AnswerPut sheet ws₁ f b ans 0 ws₂ ans₁ n) where
-    -- the outcome is the answer, if it fits
-    call-fits : {s : Sheet} {c : Position} → admit sheet (length ws) ≡ got s c → Came (fits (length ans) (answerWords (answer s))) ws ans r ws′ ans′ → Inferred sheet ws ans r ws′ ans′
+  module _ {f : HirFunction} {b : Building} (e : p ≡ Ready f b) where
+    -- 10 before the answer is measured
+    pub call-ten : f .applies ≡ true → Came (refusal 10) ws₁ ans r ws′ ans′ → Inferred sheet ws ans r ws′ ans′
     unfolding outcome answered
-    call-fits q c = came-as (sym (ap (answered (length ans)) q)) c
-
-    pub call-nine : length ans₁ < n → Came (refusal 9) ws₂ ans₁ r ws′ ans′ → Inferred sheet ws ans r ws′ ans′
-    call-nine k c =
+    call-ten told c =
         let (s, (_, (q, (ready, same)))) = ready-by h e in
-        let w = put .wrote s ready in
-        call-fits q (came-as (too-long w k) (came-long (put .walkable .same ∙ same) (room w) c))
+        let ten : refusal 10 ≡ pick (applies s) (refusal 10) (fits (length ans) (answerWords (answer s))) = sym (rw (sym (ready .applies) ∙ told)) in
+        came-as (ten ∙ sym (ap (answered (length ans)) q)) (came-long same refl c)
 
-    pub call-answered : n ≤ length ans₁ → r ≡ Accepted n → ws′ ≡ clearedFrom 0 ws₂ → ans′ ≡ clearedFrom n ans₁ → Inferred sheet ws ans r ws′ ans′
-    call-answered k is p q =
-        let (s, (_, (a, (ready, same)))) = ready-by h e in
-        call-fits a (subst (λ (o : Outcome). Came (fits (length ans) (answerWords (answer s))) ws ans o ws′ ans′) (sym is) (answered-all (put .wrote s ready) ws₂ k (put .walkable .same ∙ same) p q))
+    module _ (unapplied : f .applies ≡ false) {ws₂ ans₁ : List ℕ} {n : ℕ} (put : AnswerPut sheet ws₁ f b ans 0 ws₂ ans₁ n) where
+      -- the outcome is the answer, if it fits
+      call-fits : {s : Sheet} {c : Position} → f .applies ≡ applies s → admit sheet (length ws) ≡ got s c → Came (fits (length ans) (answerWords (answer s))) ws ans r ws′ ans′ → Inferred sheet ws ans r ws′ ans′
+      unfolding outcome answered
+      call-fits {s} told q c =
+          let none : fits (length ans) (answerWords (answer s)) ≡ pick (applies s) (refusal 10) (fits (length ans) (answerWords (answer s))) = sym (rw (sym told ∙ unapplied)) in
+          came-as (none ∙ sym (ap (answered (length ans)) q)) c
+
+      pub call-nine : length ans₁ < n → Came (refusal 9) ws₂ ans₁ r ws′ ans′ → Inferred sheet ws ans r ws′ ans′
+      call-nine k c =
+          let (s, (_, (q, (ready, same)))) = ready-by h e in
+          let w = put .wrote s ready in
+          call-fits (ready .applies) q (came-as (too-long w k) (came-long (put .walkable .same ∙ same) (room w) c))
+
+      pub call-answered : n ≤ length ans₁ → r ≡ Accepted n → ws′ ≡ clearedFrom 0 ws₂ → ans′ ≡ clearedFrom n ans₁ → Inferred sheet ws ans r ws′ ans′
+      call-answered k is p q =
+          let (s, (_, (a, (ready, same)))) = ready-by h e in
+          call-fits (ready .applies) a
+          (subst (λ (o : Outcome). Came (fits (length ans) (answerWords (answer s))) ws ans o ws′ ans′) (sym is) (answered-all (put .wrote s ready) ws₂ k (put .walkable .same ∙ same) p q))

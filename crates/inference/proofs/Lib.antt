@@ -6,3 +6,4 @@ pub mod Calling
 pub mod Making
 pub mod Answering
 pub mod Stages
+pub mod Passing

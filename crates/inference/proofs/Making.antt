@@ -13,6 +13,7 @@ use Rattle.model.specs.Building.{block as blockStep}
 use Rattle.model.specs.Summary.{copied}
 use Rattle.model.specs.Reading.{got}
 use Rattle.model.specs.Call.{read, IsSheet}
+use Rattle.model.proofs.WhenRead.{in-range}
 use Rattle.hir.specs.Says.{placeIs}
 use Rattle.hir.specs.Words.{several, blockFrom}
 use Rattle.workspace.specs.Layout.{LEAST}
@@ -28,18 +29,20 @@ use Rattle.dataflow.specs.declared.function.HirFunction.{HirFunction}
 use Rattle.dataflow.specs.declared.function.Read.{Read}
 use Rattle.dataflow.specs.Function.{Limited, Describes}
 use Rattle.dataflow.specs.ReadFunction.{FunctionRead}
-use Rattle.dataflow.proofs.Accepted.{is-read, sheet-is, accepted}
+use Rattle.dataflow.proofs.Accepted.{sheet-is, accepted}
 use Rattle.dataflow.proofs.Sheet.{blocks-ready, blocks-whole}
 use Rattle.inference.specs.declared.Preparation.the-variants.{Ready as ready}
-use Rattle.inference.specs.Whole.{NoneUnless, Keeps, Prepares}
+use Rattle.inference.specs.Whole.{NoneUnless, AppliesIs, Keeps, Prepares}
 use Rattle.inference.proofs.Preparing.{prepared}
 use Rattle.inference.proofs.Calling.{prepares-as}
 
--- f with another flag
-abbrev copying : HirFunction → Bool → HirFunction
-copying f copies = record {
+-- f with these two flags
+abbrev flagged : HirFunction → Bool → Bool → HirFunction
+flagged f copies applies = record {
   errors = f .errors;
+  «function_expression» = f .«function_expression»;
   copies = copies;
+  applies = applies;
   identifiers = f .identifiers;
   m = f .m;
   params = f .params;
@@ -48,12 +51,12 @@ copying f copies = record {
   blocks = f .blocks;
 }
 
-module _ {f : HirFunction} {copies : Bool} where
-  describes-copying : {s : Sheet} {sheet : List ℕ} → Describes s sheet f → (copies ≡ false → copied s ≡ []) → Describes s sheet (copying f copies)
-  describes-copying d h = search (d, h)
+module _ {f : HirFunction} {copies applies : Bool} where
+  describes-flagged : {s : Sheet} {sheet : List ℕ} → Describes s sheet f → (copies ≡ false → copied s ≡ []) → Describes s sheet (flagged f copies applies)
+  describes-flagged d h = search (d, h)
 
-  limited-copying : Limited f → Limited (copying f copies)
-  limited-copying l = omega (arith, l)
+  limited-flagged : Limited f → Limited (flagged f copies applies)
+  limited-flagged l = omega (arith, l)
 
 module _ {sheet : List ℕ} (p : (s : Sheet) × IsSheet sheet s) {ws ws₁ : List ℕ} {x : Read} (g : FunctionRead sheet ws ws₁ x) where
   abbrev f : HirFunction
@@ -66,10 +69,10 @@ module _ {sheet : List ℕ} (p : (s : Sheet) × IsSheet sheet s) {ws ws₁ : Lis
     whole : Whole (sheetOf sheet) sheet ws₁ ws₂ (r .building)
     whole = blocks-whole (g .describes) (g .first) w
 
-    pub prepares : {copies : Bool} → NoneUnless copies sheet → {ws₃ ws₄ : List ℕ} → LEAST ≤ length ws → LaysOut ws₂ (r .building) ws₃ → Keeps (f .identifiers .count) ws₃ ws₄
-        → Prepares (read sheet) sheet ws ws₄ (ready (copying f copies) (r .building))
-    prepares {copies} none {ws₃} {ws₄} size l k =
+    pub prepares : {copies applies : Bool} → NoneUnless copies sheet → AppliesIs applies sheet → {ws₃ ws₄ : List ℕ} → LEAST ≤ length ws → LaysOut ws₂ (r .building) ws₃ → Keeps (f .identifiers .count) ws₃ ws₄
+        → Prepares (read sheet) sheet ws ws₄ (ready (flagged f copies applies) (r .building))
+    prepares {copies} {applies} none told {ws₃} {ws₄} size l k =
         let is : IsSheet sheet (sheetOf sheet) = subst (IsSheet sheet) (sym (sheet-is sheet (p .1))) (p .1) in
-        let built = prepared (sheetOf sheet) sheet (is .0) (is-read sheet is) (copying f copies) (r .building) ws ws₁ ws₂ ws₃ ws₄ (describes-copying (g .describes) (λ e. none e (sheetOf sheet) is)) (limited-copying (g .limited)) (g .stands) size (g .ends) whole l k in
-        let all : Prepares (got (sheetOf sheet) (is .0)) sheet ws ws₄ (ready (copying f copies) (r .building)) = record { is = (built, k .same ∙ l .same ∙ whole .same ∙ g .same) } in
+        let built = prepared (sheetOf sheet) sheet (flagged f copies applies) (r .building) ws ws₁ ws₂ ws₃ ws₄ (describes-flagged (g .describes) (λ e. none e (sheetOf sheet) is)) (told (sheetOf sheet) is) (in-range sheet (sheetOf sheet) is) (limited-flagged (g .limited)) (g .stands) size (g .ends) whole l k in
+        let all : Prepares (got (sheetOf sheet) (is .0)) sheet ws ws₄ (ready (flagged f copies applies) (r .building)) = record { is = (built, k .same ∙ l .same ∙ whole .same ∙ g .same) } in
         prepares-as all (sym (is .1))

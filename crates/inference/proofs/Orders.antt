@@ -1,63 +1,21 @@
--- Every mutation of a sheet that was read has an instruction's order, at most 999,999.
+-- Every mutation of an accepted sheet has an instruction's order, at most 999,999.
 use Prim.Native.Nat.{ℕ, _≤_}
-use mathlib.Core.Path.{_≡_}
 use mathlib.Core.Bool.{Bool, true, false}
 use mathlib.Core.List.{List, [], _∷_, _++_}
 use lib.ListN.{length}
-use Rattle.model.specs.Limits.{mostIdentifiers, mostFunctions, mostBlocks, mostParams, mostContext, returnsCount, mostCount, mostOrder}
+use Rattle.model.specs.Limits.{mostOrder}
 use Rattle.model.specs.Lists.{pick, each, among, keep, Every}
 use Rattle.model.specs.Sheet.{BlockId, EvaluationOrder, Place, EffectKind, Freeze, Mutate, MutateConditionally, MutateTransitive, MutateTransitiveConditionally, Capture, Alias, MaybeAlias, Assign, Create, CreateFrom, ImmutableCapture, Apply, CreateFunction, MutateFrozen, MutateGlobal, Impure, Render, Effect, Operand, Phi, Instruction, Terminal, Other, Return, MaybeThrow, Block, Sheet}
 use Rattle.model.specs.Effects.{isAlias}
-use Rattle.model.specs.Reading.{Position, got, count, fixed, atMost, numbered, counted}
-use Rattle.model.specs.Sections.{flags, identifier, innerFunction, place, effects, phi, instruction, terminal, block, sheet}
+use Rattle.model.specs.Ranges.{InstructionBelow, BlockBelow, SheetBelow}
 use Rattle.model.specs.Mutation.{Mutation}
 use Rattle.model.specs.Graph.{intoAliases, relate}
 use Rattle.model.specs.Built.{Waiting, Built, changed, between}
 use Rattle.model.specs.Building.{instructionEffect, operand, phiNode, wake, waitingFor, stillWaiting, terminalEffect, build}
 use Rattle.model.specs.Building.{instruction as instructionStep, terminal as terminalStep, block as blockStep}
-use Rattle.model.proofs.ReadLaws.{Reads, pure-reads, bind-reads, then-reads, atMost-reads, numbered-reads, counted-reads}
 use Rattle.model.proofs.Everywhere.{every-append}
 use Rattle.model.proofs.Steady.{each-keeps}
 
--- ---- what was read
-abbrev Ordered : Instruction → Type 0
-Ordered i = i .order ≤ mostOrder
-
-abbrev BlockOrdered : Block → Type 0
-BlockOrdered k = Every Ordered (k .instructions)
-
-instruction-reads : (n m : ℕ) → Reads (instruction n m) Ordered
-unfolding instruction
-instruction-reads n m =
-    bind-reads (atMost mostOrder) _ (λ (w : ℕ). w ≤ mostOrder) Ordered (atMost-reads mostOrder)
-    (λ o h. then-reads (effects n m) _ Ordered (λ l. pure-reads _ Ordered h))
-
-block-reads : (n m : ℕ) (b : BlockId) → Reads (block n m b) BlockOrdered
-unfolding block
-block-reads n m b =
-    then-reads (counted mostCount (phi n)) _ BlockOrdered
-    (λ ps. bind-reads (counted mostCount (instruction n m)) _ (Every Ordered) BlockOrdered (counted-reads Ordered mostCount (instruction n m) (instruction-reads n m))
-    (λ is h. then-reads (terminal n m) _ BlockOrdered (λ t. pure-reads _ BlockOrdered h)))
-
-abbrev SheetOrdered : Sheet → Type 0
-SheetOrdered s = Every BlockOrdered (s .blocks)
-
-sheet-reads : Reads sheet SheetOrdered
-unfolding sheet
-sheet-reads =
-    then-reads flags _ SheetOrdered
-    (λ fs. then-reads (counted mostIdentifiers identifier) _ SheetOrdered
-    (λ ids. then-reads (counted mostFunctions innerFunction) _ SheetOrdered
-    (λ inner. then-reads (counted mostParams (place (length ids))) _ SheetOrdered
-    (λ ps. then-reads (counted mostContext (place (length ids))) _ SheetOrdered
-    (λ cs. then-reads (fixed returnsCount) _ SheetOrdered
-    (λ k. then-reads (place (length ids)) _ SheetOrdered
-    (λ r. then-reads (count mostBlocks) _ SheetOrdered
-    (λ b. bind-reads (numbered b [] (block (length ids) (length inner))) _ (Every BlockOrdered) SheetOrdered
-    (numbered-reads BlockOrdered b [] (block (length ids) (length inner)) (block-reads (length ids) (length inner)))
-    (λ bs h. pure-reads _ SheetOrdered h)))))))))
-
--- ---- what is built of it
 abbrev Small : Mutation → Type 0
 Small m = m .order ≤ mostOrder
 
@@ -88,14 +46,14 @@ effect-good MutateGlobal o e b h g = g
 effect-good Impure o e b h g = g
 effect-good Render o e b h g = g
 
-instruction-good : (i : Instruction) (b : Built) → Ordered i → Good b → Good (instructionStep i b)
+instruction-good : (i : Instruction) (b : Built) → i .order ≤ mostOrder → Good b → Good (instructionStep i b)
 unfolding instructionStep
 instruction-good i b h g =
     each-keeps (λ (e : Effect). instructionEffect (e .kind) (i .order) e) Good (i .effects) b (λ e m c q. effect-good (e .kind) (i .order) e c h q) g
 
-instructions-good : (l : List Instruction) (b : Built) → Every Ordered l → Good b → Good (each instructionStep l b)
-instructions-good [] b h g = g
-instructions-good (i ∷ l) b h g = instructions-good l (instructionStep i b) (h .1) (instruction-good i b (h .0) g)
+instructions-good : (n m : ℕ) (l : List Instruction) (b : Built) → Every (InstructionBelow n m) l → Good b → Good (each instructionStep l b)
+instructions-good n m [] b h g = g
+instructions-good n m (i ∷ l) b h g = instructions-good n m l (instructionStep i b) (h .1) (instruction-good i b (h .0 .order) g)
 
 pick-good : (t : Bool) (b c : Built) → Good b → Good c → Good (pick t b c)
 pick-good true b c g h = g
@@ -123,22 +81,22 @@ effects-last l b g = each-keeps terminalEffect Good l b (λ e m c q. effect-last
 
 terminal-good : (r : Place) (t : Terminal) (b : Built) → Good b → Good (terminalStep r t b)
 unfolding terminalStep
-terminal-good r (Other o) b g = g
+terminal-good r (Other o ps) b g = g
 terminal-good r (Return o p l) b g = effects-last l (between (relate intoAliases) p r b) g
 terminal-good r (MaybeThrow o l) b g = effects-last l b g
 
-block-good : (r : Place) (k : Block) (b : Built) → BlockOrdered k → Good b → Good (blockStep r k b)
+block-good : (n m : ℕ) (r : Place) (k : Block) (b : Built) → BlockBelow n m k → Good b → Good (blockStep r k b)
 unfolding blockStep
-block-good r k b h g =
+block-good n m r k b h g =
     terminal-good r (k .terminal) _
     (wake-good (k .number) _
-    (instructions-good (k .instructions) _ h
-    (each-keeps phiNode Good (k .phis) b (λ p m c q. phi-good p c q) g)))
+    (instructions-good n m (k .instructions) _ (h .1)
+    (each-keeps phiNode Good (k .phis) b (λ p i c q. phi-good p c q) g)))
 
-blocks-good : (r : Place) (l : List Block) (b : Built) → Every BlockOrdered l → Good b → Good (each (blockStep r) l b)
-blocks-good r [] b h g = g
-blocks-good r (k ∷ l) b h g = blocks-good r l (blockStep r k b) (h .1) (block-good r k b (h .0) g)
+blocks-good : (n m : ℕ) (r : Place) (l : List Block) (b : Built) → Every (BlockBelow n m) l → Good b → Good (each (blockStep r) l b)
+blocks-good n m r [] b h g = g
+blocks-good n m r (k ∷ l) b h g = blocks-good n m r l (blockStep r k b) (h .1) (block-good n m r k b (h .0) g)
 
-pub orders : (ws : List ℕ) (s : Sheet) (d : Position) → sheet ws 0 ≡ got s d → Every Small (build s .mutations)
+pub orders : (s : Sheet) → SheetBelow s → Every Small (build s .mutations)
 unfolding build
-orders ws s d e = blocks-good (s .returns) (s .blocks) _ (sheet-reads ws 0 s d e) tt
+orders s h = blocks-good (length (s .identifiers)) (length (s .functions)) (s .returns) (s .blocks) _ (h .blocks) tt

@@ -11,12 +11,12 @@ use borrow.Author.Tests.{lt-ltb, le-ltb}
 use Rattle.model.specs.Limits.{mostIdentifiers, mostOrder}
 use Rattle.model.specs.Lists.{pick, Every}
 use Rattle.model.specs.Sheet.{Identifier, Sheet}
-use Rattle.model.specs.Reading.{Position, got}
-use Rattle.model.specs.Sections.{sheet as sheetReader}
 use Rattle.model.specs.Mutation.{Mutation}
 use Rattle.model.specs.Built.{Built}
 use Rattle.model.specs.Building.{build}
 use Rattle.model.specs.Summary.{sheetEnds, built}
+use Rattle.model.specs.Ranges.{SheetBelow}
+use Rattle.model.specs.Call.{applies}
 use Rattle.workspace.specs.Layout.{LEAST, END, SEEN, FBOUND, QUEUE, MUTATIONS, RENDERS, FUNCTIONS}
 use Rattle.workspace.specs.Rows.{rowsOf, Kept}
 use Rattle.workspace.specs.Graph.{tab, graphOfRows}
@@ -76,8 +76,8 @@ module _ (ids : List Identifier) (few : length ids ≤ mostIdentifiers) (ws₀ :
       ext-getD 0 (tab mostIdentifiers (endAt (nodesOf ws′))) (sheetEnds ids) (tab-length mostIdentifiers (endAt (nodesOf ws′)) ∙ sym ends-length)
       (λ i q. let k : i < mostIdentifiers = omega (arith, q, tab-length mostIdentifiers (endAt (nodesOf ws′))) in tab-at mostIdentifiers (endAt (nodesOf ws′)) i 0 k ∙ h i k ∙ sym (sheet-end i k))
 
-module _ (s : Sheet) (sheet : List ℕ) (d : Position) (is : sheetReader sheet 0 ≡ got s d) (f : HirFunction) (b : Building) (ws₀ ws₁ ws₂ ws₃ ws₄ : List ℕ) where
-  module _ (describes : Describes s sheet f) (limited : Limited f) (stands : Stands s sheet ws₁) (size : LEAST ≤ length ws₀)
+module _ (s : Sheet) (sheet : List ℕ) (f : HirFunction) (b : Building) (ws₀ ws₁ ws₂ ws₃ ws₄ : List ℕ) where
+  module _ (describes : Describes s sheet f) (told : f .applies ≡ applies s) (below : SheetBelow s) (limited : Limited f) (stands : Stands s sheet ws₁) (size : LEAST ≤ length ws₀)
       (ends : take SEEN ws₁ ≡ take SEEN (sets ws₀ END (map (λ (i : Identifier). i .end) (s .identifiers)))) where
     module _ (w : Whole s sheet ws₁ ws₂ b) (l : LaysOut ws₂ b ws₃) (k : Keeps (f .identifiers .count) ws₃ ws₄) where
       low-kept : take SEEN ws₃ ≡ take SEEN (sets ws₀ END (map (λ (i : Identifier). i .end) (s .identifiers)))
@@ -104,6 +104,8 @@ module _ (s : Sheet) (sheet : List ℕ) (d : Position) (is : sheetReader sheet 0
       unfolding built builtOf
       prepared = record {
         describes = describes;
+        applies = told;
+        below = below;
         limited = limited;
         stands = stands-kept s sheet (drop-more SEEN FUNCTIONS ws₄ ws₃ (omega arith) (k .high) ∙ drop-more QUEUE FUNCTIONS ws₃ ws₂ (omega arith) (l .high) ∙ w .high) (k .same ∙ l .same ∙ w .same) stands;
         indexed = indexed-after (l .indexed) rows-kept (k .same);
@@ -114,7 +116,7 @@ module _ (s : Sheet) (sheet : List ℕ) (d : Position) (is : sheetReader sheet 0
         index = index-is;
         pending = record {
           few = w .sound .mutations;
-          orders = subst (Every (λ (m : Mutation). m .order ≤ mostOrder)) (sym mutations-are) (orders sheet s d is);
+          orders = subst (Every (λ (m : Mutation). m .order ≤ mostOrder)) (sym mutations-are) (orders s below);
         };
         fewRelations = w .sound .relations;
         fewRenders = w .sound .renders;

@@ -1,4 +1,4 @@
--- Each stage of the answer finds what it asks for, and together they leave the whole answer.
+-- Each stage from params to walks finds what it asks for, and together they leave those sections.
 use Prim.Native.Nat.{ℕ, _+_, _≤_}
 use native.Mathlib.Omega.{arith}
 use mathlib.Core.Path.{_≡_, subst, _∙_}
@@ -20,8 +20,8 @@ use Rattle.diagnostics.specs.Diagnosed.{DiagnosticsPut}
 use Rattle.summary.specs.Simulates.{Left, Before, EffectsPut}
 use Rattle.summary.proofs.Rooms.{walks-next}
 use Rattle.summary.proofs.Turns.{walkable-from}
-use Rattle.inference.specs.Whole.{Prepared, PlacesPut, AnswerPut}
-use Rattle.inference.proofs.Answering.{real-state, real-renders, real-stands, next-stands, next-state, answer-put}
+use Rattle.inference.specs.Whole.{Prepared, TrackedPut, MiddlePut}
+use Rattle.inference.proofs.Answering.{real-state, real-renders, real-stands, next-stands, next-state, last-functions, middle-wrote}
 
 -- the functions handed over stay in their part
 pub hand-low : {errors : Bool} {ws : List ℕ} {count : ℕ} {ws₁ : List ℕ} {hand : ℕ} → Processed errors ws count ws₁ hand → hand ≤ MUTATIONS
@@ -33,16 +33,17 @@ before-effects {ws₁ = ws₁} {ws₂ = ws₂} p m u is = record { describes = p
 
 -- all stages
 pub stages : {sheet ws : List ℕ} {f : HirFunction} {b : Building} {ws₁ ws₂ ws₃ : List ℕ} {hand i : ℕ} {a a₁ a₂ a₃ a₄ : List ℕ} {at at₁ at₂ at₃ at₄ : ℕ}
-    → Limited f → b .mutations ≤ mostMutations → Processed (f .errors) ws (b .mutations) ws₁ hand → PlacesPut sheet ws₁ f a at a₁ at₁ → DiagnosticsPut sheet ws₁ f (b .renders) hand a₁ at₁ ws₂ a₂ at₂
+    → Limited f → b .mutations ≤ mostMutations → Processed (f .errors) ws (b .mutations) ws₁ hand → TrackedPut ws₁ f a at a₁ at₁ → DiagnosticsPut sheet ws₁ f (b .renders) hand a₁ at₁ ws₂ a₂ at₂
     → i ≡ indexOf b → EffectsPut sheet ws₂ f i a₂ at₂ ws₃ a₃ at₃
     → Wrote (section countWords (takenOf ws₃ (b .mutations) ++ simulatedOf ws₃ (f .params + f .context + 1))) a₃ at₃ a₄ at₄
-    → AnswerPut sheet ws f b a at ws₃ a₄ at₄
+    → MiddlePut sheet ws f b a at ws₃ a₄ at₄
 stages {f = f} {b = b} {ws₃ = ws₃} l n m places diagnostics is effects walks = record {
   wrote = λ s p.
       let before = before-effects p m (diagnostics .unmoved) is in
-      answer-put p m (diagnostics .unmoved) ws₃ (effects .kept) places (diagnostics .wrote s (p .describes) (real-stands p m) (real-state p m) (real-renders p m)) (effects .wrote s before)
+      middle-wrote p m (diagnostics .unmoved) ws₃ (effects .kept) places (diagnostics .wrote s (p .describes) (real-stands p m) (real-state p m) (real-renders p m)) (effects .wrote s before)
       (effects .left s before .counts) walks;
   left = λ s p. subst (λ (k : ℕ). Left s ws₃ (f .params + f .context + 1) (k + (f .params + f .context + 1))) is (effects .left s (before-effects p m (diagnostics .unmoved) is));
+  functions = λ s p. last-functions p m (diagnostics .unmoved) ws₃ (effects .kept);
   walkable = walkable-from (diagnostics .unmoved .aside .graph ∙ m .graph) (diagnostics .unmoved .aside .same ∙ m .same) (effects .walkable);
   few = omega (arith, places .few, diagnostics .few, effects .few, walks-next ws₃ (b .mutations) (f .params + f .context + 1) walks, l .params, l .context, n);
 }

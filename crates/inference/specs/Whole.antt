@@ -12,21 +12,24 @@ use Rattle.model.specs.Reading.{Result, got, refused}
 use Rattle.model.specs.State.{State}
 use Rattle.model.specs.Building.{build}
 use Rattle.model.specs.Summary.{built, marked, copied}
-use Rattle.model.specs.Answer.{answer, answerWords, rangesOf, rangeWords, placeWords, section}
-use Rattle.model.specs.Call.{IsSheet}
-use Rattle.workspace.specs.Layout.{RECORD, END, SEEN, HANDED}
-use Rattle.workspace.specs.Rows.{Indexed}
+use Rattle.model.specs.Ranges.{SheetBelow}
+use Rattle.model.specs.Answer.{answer, answerWords, middleWords, operandWords, rangeWords, placeWords, section}
+use Rattle.model.specs.Call.{IsSheet, applies}
+use Rattle.workspace.specs.Layout.{RECORD, END, SEEN, HANDED, STARTS, PASSED}
+use Rattle.workspace.specs.Rows.{Indexed, Kept}
 use Rattle.workspace.specs.Pending.{mutationsOf, rendersOf}
 use Rattle.building.specs.declared.Building.{Building}
 use Rattle.building.specs.Built.{indexOf}
-use Rattle.aliasing.specs.State.{nodesOf, endAt, endsOf, stateOf}
+use Rattle.aliasing.specs.State.{nodesOf, endAt, stateOf}
 use Rattle.aliasing.specs.Pending.{Pending}
 use Rattle.writing.specs.Wrote.{Wrote}
-use Rattle.summary.specs.Ranges.{mostRanges}
+use Rattle.operands.specs.Ranges.{mostRanges}
+use Rattle.operands.specs.Whole.{Passing, mostOperandWords}
 use Rattle.summary.specs.Records.{Holds}
 use Rattle.summary.specs.Sections.{mostWalks}
 use Rattle.summary.specs.Simulates.{mostEffects, Left, Walkable}
 use Rattle.diagnostics.specs.Diagnosed.{mostDiagnosed}
+use Rattle.copies.specs.Functions.{Functions}
 use Rattle.dataflow.specs.declared.function.HirFunction.{HirFunction}
 use Rattle.dataflow.specs.Function.{Limited, Describes, Stands}
 use Rattle.inference.specs.declared.Preparation.{Preparation}
@@ -35,6 +38,10 @@ use Rattle.inference.specs.declared.Preparation.the-variants.{Refused, R
 -- unless `copies`, no effect of the sheet is copied
 abbrev pub NoneUnless : Bool → List ℕ → Type 0
 NoneUnless copies sheet = copies ≡ false → (s : Sheet) → IsSheet sheet s → copied s ≡ []
+
+-- `applies` says whether an instruction of the sheet has Apply
+abbrev pub AppliesIs : Bool → List ℕ → Type 0
+AppliesIs b sheet = (s : Sheet) → IsSheet sheet s → b ≡ applies s
 
 -- there is no record, and the ends are those of the first n words
 pub record Keeps (n : ℕ) (ws ws′ : List ℕ) : Type 0 where
@@ -46,6 +53,8 @@ pub record Keeps (n : ℕ) (ws ws′ : List ℕ) : Type 0 where
 -- the sheet s is built: the state is that before the first mutation, and mutations and renders are pending
 pub record Prepared (s : Sheet) (sheet ws : List ℕ) (f : HirFunction) (b : Building) : Type 0 where
   pub describes : Describes s sheet f
+  pub applies : f .applies ≡ applies s
+  pub below : SheetBelow s
   pub limited : Limited f
   pub stands : Stands s sheet ws
   pub indexed : Indexed ws
@@ -68,19 +77,40 @@ preparedIs (got s c) sheet ws ws′ (Ready f b) = Prepared s sheet ws′ f b × 
 pub record Prepares (x : Result Sheet) (sheet ws ws′ : List ℕ) (r : Preparation) : Type 0 where
   pub is : preparedIs x sheet ws ws′ r
 
--- the words of the first three sections
-abbrev pub mostPlaces : ℕ
-mostPlaces = mostRanges + (1 + placeWidth * mostParams) + (1 + placeWidth * mostContext)
+-- the words of params and context
+abbrev pub mostTrackedWords : ℕ
+mostTrackedWords = (1 + placeWidth * mostParams) + (1 + placeWidth * mostContext)
 
--- the ranges, the params and the context of s were written, t having the records of the words
-pub record PlacesPut (sheet ws : List ℕ) (f : HirFunction) (ans : List ℕ) (at : ℕ) (ans′ : List ℕ) (r : ℕ) : Type 0 where
-  pub wrote : (s : Sheet) (t : State) → Describes s sheet f → Stands s sheet ws → Holds ws t
-      → Wrote (section rangeWords (rangesOf (s .identifiers) (endsOf (nodesOf ws))) ++ (section placeWords (map (marked t) (s .params)) ++ section placeWords (map (marked t) (s .context)))) ans at ans′ r
-  pub few : r ≤ at + mostPlaces
+-- the params and the context of s were written, t having the records of the words
+pub record TrackedPut (ws : List ℕ) (f : HirFunction) (ans : List ℕ) (at : ℕ) (ans′ : List ℕ) (r : ℕ) : Type 0 where
+  pub wrote : (s : Sheet) (sheet : List ℕ) (t : State) → Describes s sheet f → Stands s sheet ws → Holds ws t
+      → Wrote (section placeWords (map (marked t) (s .params)) ++ section placeWords (map (marked t) (s .context))) ans at ans′ r
+  pub few : r ≤ at + mostTrackedWords
+
+-- the words of the sections from params to walks
+abbrev pub mostMiddle : ℕ
+mostMiddle = mostTrackedWords + mostDiagnosed + mostEffects + mostWalks
+
+-- they were written; what all walks left stands in the words, and further ones can run on it. The tracked places have their marks now; the inner functions are where they were
+pub record MiddlePut (sheet ws : List ℕ) (f : HirFunction) (b : Building) (ans : List ℕ) (at : ℕ) (ws′ ans′ : List ℕ) (r : ℕ) : Type 0 where
+  pub wrote : (s : Sheet) → Prepared s sheet ws f b → Wrote (middleWords (answer s)) ans at ans′ r
+  pub left : (s : Sheet) → Prepared s sheet ws f b → Left s ws′ (f .params + f .context + 1) (indexOf b + (f .params + f .context + 1))
+  pub functions : (s : Sheet) → Prepared s sheet ws f b → Functions sheet ws′ (s .functions)
+  pub walkable : Walkable ws ws′
+  pub few : r ≤ at + mostMiddle
+
+-- the four sections of the pass were written from `at` on, then the ranges from `first` on
+pub record PassedPut (sheet : List ℕ) (f : HirFunction) (ws ans : List ℕ) (first at : ℕ) (ws′ ans′ : List ℕ) (r : ℕ) : Type 0 where
+  pub between : List ℕ
+  pub operands : (s : Sheet) → Passing s sheet ws f → Wrote (operandWords (answer s)) ans at between r
+  pub next : ℕ
+  pub ranges : (s : Sheet) → Passing s sheet ws f → Wrote (section rangeWords (answer s .ranges)) between first ans′ next
+  pub kept : Kept STARTS PASSED ws ws′
+  pub few : r ≤ at + mostOperandWords
 
 -- the words of an answer
 abbrev pub mostAnswer : ℕ
-mostAnswer = mostPlaces + mostDiagnosed + mostEffects + mostWalks
+mostAnswer = mostRanges + mostMiddle + mostOperandWords
 
 -- the answer of s was written from `at` on, as far as there is room; what all walks left stands in the words, and further ones can run on it
 pub record AnswerPut (sheet ws : List ℕ) (f : HirFunction) (b : Building) (ans : List ℕ) (at : ℕ) (ws′ ans′ : List ℕ) (r : ℕ) : Type 0 where

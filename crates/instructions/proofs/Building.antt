@@ -16,7 +16,7 @@ use Rattle.hir.proofs.Several.{several-next, several-none, list-is}
 use Rattle.building.specs.declared.Building.{Building}
 use Rattle.instructions.specs.declared.Built.{Built as BuiltPart}
 use Rattle.instructions.specs.Cost.{Cost, costs, Fits}
-use Rattle.instructions.specs.Builds.{Spends, Buildable, Ready, Builds}
+use Rattle.instructions.specs.Builds.{Spends, Buildable, andCount, Ready, Builds}
 use Rattle.instructions.proofs.Spending.{spends-none, spends-then, fits-first, fits-second}
 
 -- ---- a part that is another
@@ -46,6 +46,21 @@ module _ {A : Type 0} (f : Standing A) where
 
     pub list-builds : {step : List A → Built → Built} {cost : List A → Cost} {ws ws′ : List ℕ} {b : Building} {r : BuiltPart} → Builds (several (l .count) f s (l .first)) step cost s ws b ws′ r → Builds (listed f s c) step cost s ws b ws′ r
     list-builds = builds-as (list-is f s c h)
+
+    -- with a count behind it
+    pub counted-ready : {inRange : List A → Type 0} {cost : List A → Cost} {ws : List ℕ} {b : Building} → Ready (andCount (listed f s c)) inRange cost s ws b → Ready (andCount (several (l .count) f s (l .first))) inRange cost s ws b
+    counted-ready = ready-as (ap (λ (p : Part (List A)). andCount p) (list-is f s c h))
+
+    pub counted-builds : {step : List A → Built → Built} {cost : List A → Cost} {ws ws′ : List ℕ} {b : Building} {r : BuiltPart} → Builds (andCount (several (l .count) f s (l .first))) step cost s ws b ws′ r → Builds (andCount (listed f s c)) step cost s ws b ws′ r
+    counted-builds = builds-as (ap (λ (p : Part (List A)). andCount p) (list-is f s c h))
+
+-- ---- a part with a count behind it: the part alone, and then the count
+module _ {A : Type 0} {p : Part A} where
+  pub without-count : {inRange : A → Type 0} {cost : A → Cost} {s ws : List ℕ} {b : Building} → Ready (andCount p) inRange cost s ws b → Ready p inRange cost s ws b
+  without-count w = record { sound = w .sound; holding = w .holding; inside = omega (arith, w .inside); range = w .range; fits = w .fits }
+
+  pub with-count : {step : A → Built → Built} {cost : A → Cost} {s ws ws′ : List ℕ} {b r : Building} {c : Position} → Builds p step cost s ws b ws′ (record { building = r; next = c }) → Builds (andCount p) step cost s ws b ws′ (record { building = r; next = c + 1 })
+  with-count h = record { spends = h .spends; next = ap (λ (c : Position). c + 1) (h .next) }
 
 -- ---- several parts, one after another
 -- what a loop over parts has still to build, `left` of them at c: whatever builds them has built the whole

@@ -1,15 +1,14 @@
--- An instruction: its order, then its effects.
-use Prim.Native.Nat.{ℕ, _+_, _≤_}
+-- An instruction: its order, and behind its places and its value its effects.
+use Prim.Native.Nat.{ℕ}
 use native.Mathlib.Omega.{arith}
 use mathlib.Core.Path.{subst}
 use mathlib.Core.List.{List}
-use lib.ListN.{length}
 use Rattle.model.specs.Lists.{each, Every}
 use Rattle.model.specs.Sheet.{EvaluationOrder, Effect}
 use Rattle.model.specs.Reading.{Position}
 use Rattle.model.specs.Building.{instruction as instructionStep}
 use Rattle.hir.specs.declared.at.Instruction.{Instruction}
-use Rattle.hir.specs.Words.{Standing, wide, effectAt, several, effectsFrom, instructionFrom}
+use Rattle.hir.specs.Words.{Standing, wide, effectAt, several, effectsFrom, effectsAt, instructionFrom}
 use Rattle.model.specs.Limits.{effectWidth}
 use Rattle.hir.specs.Parts.{InstructionAt}
 use Rattle.hir.proofs.Widths.{Rises, instruction-rises}
@@ -27,17 +26,14 @@ oneEffect = wide effectWidth effectAt
 pub rises : Rises instructionFrom
 rises s c = omega (arith, instruction-rises s c)
 
-pub instruction-inside : (s : List ℕ) (c : Position) {ws : List ℕ} {b : Building} → Ready (instructionFrom s c) InstructionInRange instructionCost s ws b → c + 2 ≤ length s
-instruction-inside s c w = omega (arith, w .inside, instruction-rises s c)
-
 module _ {s : List ℕ} {c : Position} {i : Instruction} (h : InstructionAt s c i) {ws : List ℕ} {b : Building} where
   pub effects-ready : Ready (instructionFrom s c) InstructionInRange instructionCost s ws b → Ready (several (i .effects .count) oneEffect s (i .effects .first)) (Every InRange) (costs effectCost) s ws b
   unfolding instructionFrom instructionCost
-  effects-ready w = list-ready oneEffect s (c + 1) (h .effects) (record { sound = w .sound; holding = w .holding; inside = w .inside; range = w .range; fits = w .fits })
+  effects-ready w = list-ready oneEffect s (effectsAt s c) (h .effects) (record { sound = w .sound; holding = w .holding; inside = w .inside; range = w .range; fits = w .fits })
 
   pub instruction-builds : {ws′ : List ℕ} {r : BuiltPart} → Builds (several (i .effects .count) oneEffect s (i .effects .first)) (each (effectStep (i .order .0))) (costs effectCost) s ws b ws′ r
       → Builds (instructionFrom s c) instructionStep instructionCost s ws b ws′ r
   unfolding instructionFrom instructionCost instructionStep
   instruction-builds {ws′} {r} g =
-      let o = subst (λ (o : EvaluationOrder). Builds (effectsFrom s (c + 1)) (each (effectStep o)) (costs effectCost) s ws b ws′ r) (h .order) (list-builds oneEffect s (c + 1) (h .effects) g) in
+      let o = subst (λ (o : EvaluationOrder). Builds (effectsFrom s (effectsAt s c)) (each (effectStep o)) (costs effectCost) s ws b ws′ r) (h .order) (list-builds oneEffect s (effectsAt s c) (h .effects) g) in
       record { spends = o .spends; next = o .next }

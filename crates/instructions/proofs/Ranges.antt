@@ -4,13 +4,13 @@ use native.Mathlib.Omega.{arith}
 use mathlib.Core.Path.{_≡_, sym, _∙_}
 use mathlib.Core.Bool.{Bool, true, false, true≢false}
 use lib.Dec.{leb}
-use Rattle.model.specs.Limits.{mostIdentifiers, mostFunctions, mostCount, mostOrder, mostTerminal, mostTraits, mostKind}
+use Rattle.model.specs.Limits.{mostIdentifiers, mostFunctions, mostCount, mostOrder, mostLvalues, mostOperands, noOperands, mostTerminal, mostTraits, mostKind}
 use Rattle.model.specs.Lists.{pick, Every}
 use Rattle.model.specs.Sheet.{Place, unusedPlace, EffectKind, Other, Return, MaybeThrow}
 use Rattle.model.specs.Effects.{kindOf, rowOf, isCreateFunction}
 use Rattle.model.specs.Ranges.{PlaceBelow}
-use Rattle.model.specs.Reading.{word, atMost, below}
-use Rattle.model.specs.Sections.{place, unused, extra, effect, effects, instruction, terminalOf, terminal}
+use Rattle.model.specs.Reading.{word, fixed, atMost, below, counted}
+use Rattle.model.specs.Sections.{place, unused, extra, effect, effects, instructionValue, instruction, terminalOf, terminal}
 use Rattle.model.proofs.ReadLaws.{Reads, pure-reads, pick-reads, bind-reads, then-reads, below-reads, counted-reads, atMost-reads}
 use Rattle.instructions.specs.Ranges.{InRange, InstructionInRange, TerminalInRange}
 
@@ -63,16 +63,22 @@ module _ (n m : ℕ) (hn : n ≤ mostIdentifiers) (hm : m ≤ mostFunctions) whe
   unfolding instruction
   instruction-known =
       then-reads (atMost mostOrder) _ InstructionInRange
-      (λ o. bind-reads (effects n m) _ (Every InRange) InstructionInRange effects-known (λ l q. pure-reads _ InstructionInRange q))
+      (λ o. then-reads (place n) _ InstructionInRange
+      (λ p. then-reads (counted mostLvalues (place n)) _ InstructionInRange
+      (λ ls. then-reads (counted mostOperands (place n)) _ InstructionInRange
+      (λ ps. then-reads (instructionValue n m) _ InstructionInRange
+      (λ v. bind-reads (effects n m) _ (Every InRange) InstructionInRange effects-known (λ l q. pure-reads _ InstructionInRange q))))))
 
   terminalOf-known : (k o : ℕ) → Reads (terminalOf n m k o) TerminalInRange
   unfolding terminalOf
-  terminalOf-known zero o = pure-reads (Other o) TerminalInRange tt
+  terminalOf-known zero o = then-reads (counted mostOperands (place n)) _ TerminalInRange (λ ps. pure-reads (Other o ps) TerminalInRange tt)
   terminalOf-known (suc zero) o =
       bind-reads (place n) _ (PlaceBelow mostIdentifiers) TerminalInRange (place-known n hn)
-      (λ p hp. bind-reads (effects n m) _ (Every InRange) TerminalInRange effects-known (λ l q. pure-reads (Return o p l) TerminalInRange (hp, q)))
+      (λ p hp. bind-reads (effects n m) _ (Every InRange) TerminalInRange effects-known
+      (λ l q. then-reads (fixed noOperands) _ TerminalInRange (λ z. pure-reads (Return o p l) TerminalInRange (hp, q))))
   terminalOf-known (suc (suc k)) o =
-      bind-reads (effects n m) _ (Every InRange) TerminalInRange effects-known (λ l q. pure-reads (MaybeThrow o l) TerminalInRange q)
+      bind-reads (effects n m) _ (Every InRange) TerminalInRange effects-known
+      (λ l q. then-reads (fixed noOperands) _ TerminalInRange (λ z. pure-reads (MaybeThrow o l) TerminalInRange q))
 
   pub terminal-known : Reads (terminal n m) TerminalInRange
   unfolding terminal

@@ -1,5 +1,5 @@
 -- What a function promises that builds a part of an accepted sheet: the definition's step of the part that stands there.
-use Prim.Native.Nat.{ℕ, _≤_}
+use Prim.Native.Nat.{ℕ, _+_, _≤_}
 use mathlib.Core.List.{List}
 use mathlib.Core.Path.{_≡_}
 use lib.ListN.{length}
@@ -23,6 +23,10 @@ SpendsOn s f k ws b ws′ r = StepsOn s f (k .relations) (k .mutations) (k .rend
 -- the same on every sheet
 abbrev pub Spends : (Built → Built) → Cost → List ℕ → Building → List ℕ → Building → Type 0
 Spends f k ws b ws′ r = Steps f (k .relations) (k .mutations) (k .renders) (k .blocks) ws b ws′ r
+
+-- a part, and a count behind it
+abbrev pub andCount : {A : Type 0} → Part A → Part A
+andCount p = record { what = p .what; next = p .next + 1 }
 
 -- x can be built: its words are in their ranges, and there is room for it
 pub record Buildable {A : Type 0} (x : A) (inRange : A → Type 0) (cost : A → Cost) (ws : List ℕ) (b : Building) : Type 0 where

@@ -22,6 +22,6 @@ InstructionInRange i = Every InRange (i .effects)
 
 -- a terminal: its value and its effects
 abbrev pub TerminalInRange : Terminal → Type 0
-TerminalInRange (Other o) = Unit {0}
+TerminalInRange (Other o ps) = Unit {0}
 TerminalInRange (Return o p l) = PlaceBelow mostIdentifiers p × Every InRange l
 TerminalInRange (MaybeThrow o l) = Every InRange l

@@ -8,12 +8,11 @@ use Rattle.model.specs.Lists.{gather}
 use Rattle.model.specs.Sheet.{EvaluationOrder}
 use Rattle.model.specs.Answer.{section}
 use Rattle.model.specs.Encoder.{identifierWords, instructionWords}
-use Rattle.model.specs.Load.{loadIdentifier, DrawnEffect as ModelDrawn, drawEffect, loadInstructions}
+use Rattle.model.specs.Load.{loadIdentifier, DrawnEffect as ModelDrawn, drawEffect, loadInstruction, loadInstructions}
 use Rattle.model.proofs.Drawn.{instructions-length}
 use Rattle.writing.specs.Wrote.{Wrote}
 use Rattle.writing.proofs.Writing.{wrote-then, wrote-as}
 use Rattle.copies.proofs.Loops.{Leaves, leaves-all, leaves-then, leaves-none}
-use Rattle.load.specs.Parts.{oneEffect}
 
 -- what is written next has room, if the whole has
 leaves-room : {whole rest a₀ a : List ℕ} {at₀ at : ℕ} (us rest′ : List ℕ) (most : ℕ) → Leaves whole rest a₀ at₀ a at → rest ≡ us ++ rest′ → at₀ + length whole ≤ most → at + length us ≤ most
@@ -45,15 +44,15 @@ module _ {n : ℕ} {a₀ a₁ : List ℕ} {at₀ at₁ : ℕ} (counted : Wrote (
 abbrev instructionsLeft : ℕ → EvaluationOrder → ℕ → ℕ → List ℕ
 instructionsLeft n o left state = gather instructionWords (loadInstructions n o left state)
 
-instructions-next : (n o left state : ℕ) → 0 < left → {d : ModelDrawn} → d ≡ drawEffect n state → instructionsLeft n o left state ≡ instructionWords (oneEffect o (d .effect)) ++ instructionsLeft n (o + 1) (left - 1) (d .state)
+instructions-next : (n o left state : ℕ) → 0 < left → {d : ModelDrawn} → d ≡ drawEffect n state → instructionsLeft n o left state ≡ instructionWords (loadInstruction o (d .effect)) ++ instructionsLeft n (o + 1) (left - 1) (d .state)
 unfolding loadInstructions
 instructions-next n o zero state h e = absurd (omega (arith, h))
 instructions-next n o (suc left) state h {d} e =
     let p : left ≡ suc left - 1 = omega arith in
     let q : suc o ≡ o + 1 = omega arith in
-    ap (λ (x : ModelDrawn). instructionWords (oneEffect o (x .effect)) ++ instructionsLeft n (suc o) left (x .state)) (sym e)
-    ∙ ap (λ (k : ℕ). instructionWords (oneEffect o (d .effect)) ++ instructionsLeft n (suc o) k (d .state)) p
-    ∙ ap (λ (k : ℕ). instructionWords (oneEffect o (d .effect)) ++ instructionsLeft n k (suc left - 1) (d .state)) q
+    ap (λ (x : ModelDrawn). instructionWords (loadInstruction o (x .effect)) ++ instructionsLeft n (suc o) left (x .state)) (sym e)
+    ∙ ap (λ (k : ℕ). instructionWords (loadInstruction o (d .effect)) ++ instructionsLeft n (suc o) k (d .state)) p
+    ∙ ap (λ (k : ℕ). instructionWords (loadInstruction o (d .effect)) ++ instructionsLeft n k (suc left - 1) (d .state)) q
 
 instructions-none : (n o left state : ℕ) → left ≤ 0 → instructionsLeft n o left state ≡ []
 unfolding loadInstructions
@@ -69,10 +68,10 @@ module _ (n seed m : ℕ) (a₁ : List ℕ) (at₁ : ℕ) where
   drawing-start = record { leaves = leaves-all (instructionsLeft n 1 m seed) a₁ at₁; orders = omega arith }
 
 module _ {n seed m : ℕ} {a₀ a₁ : List ℕ} {at₀ at₁ : ℕ} (counted : Wrote (m ∷ []) a₀ at₀ a₁ at₁) {state order left : ℕ} {a : List ℕ} {at : ℕ} (v : Drawing n seed m a₁ at₁ state order left a at) where
-  pub drawing-room : (most : ℕ) → 0 < left → {d : ModelDrawn} → d ≡ drawEffect n state → at₀ + length (section instructionWords (loadInstructions n 1 m seed)) ≤ most → at + length (instructionWords (oneEffect order (d .effect))) ≤ most
-  drawing-room most h {d} e r = leaves-room (instructionWords (oneEffect order (d .effect))) (instructionsLeft n (order + 1) (left - 1) (d .state)) most (v .leaves) (instructions-next n order left state h e) (omega (arith, r, counted .next))
+  pub drawing-room : (most : ℕ) → 0 < left → {d : ModelDrawn} → d ≡ drawEffect n state → at₀ + length (section instructionWords (loadInstructions n 1 m seed)) ≤ most → at + length (instructionWords (loadInstruction order (d .effect))) ≤ most
+  drawing-room most h {d} e r = leaves-room (instructionWords (loadInstruction order (d .effect))) (instructionsLeft n (order + 1) (left - 1) (d .state)) most (v .leaves) (instructions-next n order left state h e) (omega (arith, r, counted .next))
 
-  pub drawing-turn : 0 < left → {d : ModelDrawn} → d ≡ drawEffect n state → {a′ : List ℕ} {at′ : ℕ} → Wrote (instructionWords (oneEffect order (d .effect))) a at a′ at′ → Drawing n seed m a₁ at₁ (d .state) (order + 1) (left - 1) a′ at′
+  pub drawing-turn : 0 < left → {d : ModelDrawn} → d ≡ drawEffect n state → {a′ : List ℕ} {at′ : ℕ} → Wrote (instructionWords (loadInstruction order (d .effect))) a at a′ at′ → Drawing n seed m a₁ at₁ (d .state) (order + 1) (left - 1) a′ at′
   drawing-turn h e w = record { leaves = leaves-then (v .leaves) w (instructions-next n order left state h e); orders = omega (arith, v .orders, h) }
 
   pub drawing-end : left ≤ 0 → Wrote (section instructionWords (loadInstructions n 1 m seed)) a₀ at₀ a at

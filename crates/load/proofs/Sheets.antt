@@ -19,7 +19,7 @@ module _ (seed n m : ℕ) where
   instructions = section instructionWords (loadInstructions n 1 m seed)
 
   abbrev terminal : List ℕ
-  terminal = terminalWords (Other (m + 1))
+  terminal = terminalWords (Other (m + 1) [])
 
   -- one block, number 0, no phis
   pub blocks-parts : 1 ∷ 0 ∷ 0 ∷ (instructions ++ terminal) ≡ section blockWords (loadBlock seed n m ∷ [])

@@ -1,8 +1,8 @@
--- Parts of a class load's sheet: the words between its identifiers and its block, and an instruction.
+-- Parts of a class load's sheet: the words between its identifiers and its block.
 use Prim.Native.Nat.{ℕ, _-_}
 use mathlib.Core.List.{List, [], _∷_, _++_}
 use Rattle.model.specs.Limits.{returnsCount}
-use Rattle.model.specs.Sheet.{EvaluationOrder, plainPlace, Effect, Instruction}
+use Rattle.model.specs.Sheet.{plainPlace}
 use Rattle.model.specs.Answer.{placeWords, section}
 use Rattle.model.specs.Encoder.{functionWords}
 
@@ -13,7 +13,3 @@ paramsWords = section functionWords [] ++ (section placeWords (plainPlace 0 ∷ 
 -- "returns n − 1"
 abbrev pub returnsWords : ℕ → List ℕ
 returnsWords n = returnsCount ∷ placeWords (plainPlace (n - 1))
-
--- "instructions .. of one effect each"
-abbrev pub oneEffect : EvaluationOrder → Effect → Instruction
-oneEffect o e = record { order = o; effects = e ∷ [] }

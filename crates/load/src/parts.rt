@@ -6,10 +6,10 @@ ghost use Rattle.model.specs.Limits.{mostLoadEffects};
 ghost use Rattle.model.specs.Sheet.{Other};
 ghost use Rattle.model.specs.Answer.{section};
 ghost use Rattle.model.specs.Encoder.{flagsWords, identifierWords, instructionWords, terminalWords, blockWords};
-ghost use Rattle.model.specs.Load.{loadFlags, loadIdentifier, loadInstructions, loadBlock};
+ghost use Rattle.model.specs.Load.{loadFlags, loadIdentifier, loadInstruction, loadInstructions, loadBlock};
 ghost use Rattle.hir.specs.Says.{effectIs};
 ghost use Rattle.writing.specs.Wrote.{Wrote, farthest};
-ghost use Rattle.load.specs.Parts.{paramsWords, returnsWords, oneEffect};
+ghost use Rattle.load.specs.Parts.{paramsWords, returnsWords};
 use crate::draws::draw_effect;
 use crate::draws::plain_place;
 use copies::put_effect;
@@ -29,13 +29,18 @@ const VALIDATIONS: u32 = 1;
 // The word of a type that the sheet does not know.
 const OTHER_TYPE: u32 = 0;
 
-// The parameter, and the number of the block.
+// The parameter, the lvalue of every instruction, and the number of the block.
 const PARAMETER: u32 = 0;
+
+const LVALUE: u32 = 0;
 
 const BLOCK: u32 = 0;
 
 // The first instruction's order.
 const FIRST_ORDER: u32 = 1;
+
+// The value of an instruction: neither a function nor a StoreContext.
+const PLAIN: u32 = 0;
 
 // The count of a list with nothing in it, and of a list with one.
 const NONE: u32 = 0;
@@ -98,14 +103,18 @@ pub fn put_returns(sheet: &mut [u32], at: usize, n: u32) -> usize
     put_place(sheet, a, plain_place(n - 1))
 }
 
-// An instruction of one effect.
+// An instruction of one effect, with neither value lvalues nor operands.
 fn put_instruction(sheet: &mut [u32], at: usize, order: u32, effect: AliasingEffect) -> usize
-    requires { ⌜ at + length (instructionWords (oneEffect order (effectIs effect))) ≤ farthest ⌝ }
-    ensures { λ r. ⌜ Wrote (instructionWords (oneEffect order (effectIs effect))) (now (sheet .entry)) at (now (sheet .exit)) r ⌝ }
+    requires { ⌜ at + length (instructionWords (loadInstruction order (effectIs effect))) ≤ farthest ⌝ }
+    ensures { λ r. ⌜ Wrote (instructionWords (loadInstruction order (effectIs effect))) (now (sheet .entry)) at (now (sheet .exit)) r ⌝ }
 {
     let a = put(sheet, at, order);
-    let b = put(sheet, a, ONE);
-    put_effect(sheet, b, effect)
+    let b = put_place(sheet, a, plain_place(LVALUE));
+    let c = put(sheet, b, NONE);
+    let d = put(sheet, c, NONE);
+    let e = put(sheet, d, PLAIN);
+    let f = put(sheet, e, ONE);
+    put_effect(sheet, f, effect)
 }
 
 // The instructions after their count: m of them, whose effects are drawn from the seed on.
@@ -128,14 +137,15 @@ fn put_instructions(sheet: &mut [u32], at: usize, seed: u32, n: u32, m: u32) -> 
     to
 }
 
-// A terminal that is none of those that matter.
+// A terminal that is none of those that matter, with no operands.
 fn put_terminal(sheet: &mut [u32], at: usize, order: u32) -> usize
-    requires { ⌜ at + length (terminalWords (Other order)) ≤ farthest ⌝ }
-    ensures { λ r. ⌜ Wrote (terminalWords (Other order)) (now (sheet .entry)) at (now (sheet .exit)) r ⌝ }
+    requires { ⌜ at + length (terminalWords (Other order [])) ≤ farthest ⌝ }
+    ensures { λ r. ⌜ Wrote (terminalWords (Other order [])) (now (sheet .entry)) at (now (sheet .exit)) r ⌝ }
 {
     let kind = TerminalKind::Other;
     let a = put(sheet, at, kind.number());
-    put(sheet, a, order)
+    let b = put(sheet, a, order);
+    put(sheet, b, NONE)
 }
 
 // The blocks after their count: one, without phis.

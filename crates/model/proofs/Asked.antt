@@ -4,12 +4,12 @@ use mathlib.Core.Path.{_≡_, refl}
 use mathlib.Core.Bool.{Bool, true, false}
 use mathlib.Core.List.{List, [], _∷_}
 use lib.ListN.{length}
-use Rattle.model.specs.Limits.{mostIdentifiers, mostFunctions, mostParams, mostContext, returnsCount, mostBlocks, mostCount, mostOrder, mostTerminal, mostKind}
+use Rattle.model.specs.Limits.{mostIdentifiers, mostFunctions, mostParams, mostContext, returnsCount, mostBlocks, mostCount, mostOrder, mostLvalues, mostOperands, noOperands, mostTerminal, mostKind}
 use Rattle.model.specs.Lists.{each}
 use Rattle.model.specs.Sheet.{BlockId}
 use Rattle.model.specs.Effects.{kindOf}
 use Rattle.model.specs.Reading.{Position, Result, got, refused, Read, _>>=_, pure, count, fixed, atMost, below, newNumber, times, numbered, counted, timesFrom, numberedFrom, countedFrom}
-use Rattle.model.specs.Sections.{noQuestion, flags, identifier, placeAsking, place, effect, effects, operand, phi, instruction, terminalOf, terminal, block, sheetOf}
+use Rattle.model.specs.Sections.{noQuestion, flags, identifier, placeAsking, place, effect, effects, operand, phi, instructionValue, instruction, terminalOf, terminal, block, sheetOf}
 use Rattle.model.specs.Asking as asking
 use Rattle.model.specs.Asking.{Asks, tellEffect, tellOperand, tellPhi, tellInstruction, tellBlock}
 
@@ -91,15 +91,22 @@ module _ (P : ℕ → Type 0) where
     unfolding asking.instruction instruction
     instruction-follows n m t =
         bind-follows (atMost mostOrder) (atMost mostOrder) _ _ (itself (atMost mostOrder))
-        (λ o. bind-follows (asking.effects a false n m t) (effects n m) _ _ (effects-follows false n m t) (λ l. itself (pure _)))
+        (λ o. bind-follows (place n) (place n) _ _ (itself (place n))
+        (λ p. bind-follows (counted mostLvalues (place n)) (counted mostLvalues (place n)) _ _ (itself (counted mostLvalues (place n)))
+        (λ ls. bind-follows (counted mostOperands (place n)) (counted mostOperands (place n)) _ _ (itself (counted mostOperands (place n)))
+        (λ ps. bind-follows (instructionValue n m) (instructionValue n m) _ _ (itself (instructionValue n m))
+        (λ v. bind-follows (asking.effects a false n m t) (effects n m) _ _ (effects-follows false n m t) (λ l. itself (pure _)))))))
 
     terminalOf-follows : (n m : ℕ) (t : a .Tally) (k o : ℕ) → Follows P (asking.terminalOf a n m t k o) (terminalOf n m k o)
     unfolding asking.terminalOf terminalOf
-    terminalOf-follows n m t zero o = itself (pure _)
+    terminalOf-follows n m t zero o = bind-follows (counted mostOperands (place n)) (counted mostOperands (place n)) _ _ (itself (counted mostOperands (place n))) (λ ps. itself (pure _))
     terminalOf-follows n m t (suc zero) o =
         bind-follows (placeAsking (a .ask (a .relation t)) n) (place n) _ _ (place-follows n (a .relation t))
-        (λ p. bind-follows (asking.effects a true n m (a .relation t)) (effects n m) _ _ (effects-follows true n m (a .relation t)) (λ l. itself (pure _)))
-    terminalOf-follows n m t (suc (suc k)) o = bind-follows (asking.effects a true n m t) (effects n m) _ _ (effects-follows true n m t) (λ l. itself (pure _))
+        (λ p. bind-follows (asking.effects a true n m (a .relation t)) (effects n m) _ _ (effects-follows true n m (a .relation t))
+        (λ l. bind-follows (fixed noOperands) (fixed noOperands) _ _ (itself (fixed noOperands)) (λ k. itself (pure _))))
+    terminalOf-follows n m t (suc (suc k)) o =
+        bind-follows (asking.effects a true n m t) (effects n m) _ _ (effects-follows true n m t)
+        (λ l. bind-follows (fixed noOperands) (fixed noOperands) _ _ (itself (fixed noOperands)) (λ j. itself (pure _)))
 
     terminal-follows : (n m : ℕ) (t : a .Tally) → Follows P (asking.terminal a n m t) (terminal n m)
     unfolding asking.terminal terminal

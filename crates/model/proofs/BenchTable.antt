@@ -6,15 +6,17 @@ use Rattle.model.specs.Table.{table}
 use Rattle.model.specs.Ours.{ours}
 use Rattle.model.specs.Refusals.{calls, refusedSo}
 use Rattle.model.specs.Boundaries.{limits, effectTable, effectRows, sameRows, totalsRight}
-use Rattle.model.specs.Answer.{summary, diagnosed, answer, answerWords}
+use Rattle.model.specs.Answer.{rangesBefore, rangesAfter, summary, diagnosed, answer, middleWords, operandWords, answerWords}
 use Rattle.model.specs.Building.{instructionEffect, instruction, operand, phiNode, wake, terminalEffect, terminal, block, firstNodes, build}
-use Rattle.model.specs.Call.{ended, read, fits, answered, admit, outcome, answerAfter, workspaceAfter}
+use Rattle.model.specs.Call.{ended, read, applies, fits, answered, admit, outcome, answerAfter, workspaceAfter}
 use Rattle.model.specs.Effects.{kindOf, rowOf}
 use Rattle.model.specs.Graph.{create, enter, withEdge, withEntry, change, store, relate, assign, createFrom}
-use Rattle.model.specs.Reading.{word, count, fixed, atMost, below, newNumber, times, numbered, counted}
+use Rattle.model.specs.Marks.{withEffect, captureOrRead, flowMarks, marksOf, operandEffects, markOf, withMark}
+use Rattle.model.specs.Operands.{setUnset, startIf, nameLvalue, storeValue, phisMarked, phiStarts, phis, nameLvalues, instructionMarks, instructionRanges, instruction as instruction-Operands, terminalPlaces, terminal as terminal-Operands, block as block-Operands, sheetStarts, endsBefore, beforePass, afterPass}
+use Rattle.model.specs.Reading.{word, count, fixed, atMost, below, newNumber, times, numbered, counted, timesFrom, numberedFrom, countedFrom}
 use Rattle.model.specs.Renders.{renderPushes, renderVisit, renderStep, renderRun, renderWalk}
 use Rattle.model.specs.Runs.{walksOf, after, rendersOf, rendered, reached, largestEnd}
-use Rattle.model.specs.Sections.{flag, flags, identifier, diagnostic, innerFunction, place, unused, extra, effect, effects, operand as operand-Sections, phi, instruction as instruction-Sections, terminalOf, terminal as terminal-Sections, block as block-Sections, sheet}
+use Rattle.model.specs.Sections.{flag, flags, identifier, diagnostic, place, innerFunction, unused, extra, effect, effects, operand as operand-Sections, phi, instructionValue, instruction as instruction-Sections, terminalOf, terminal as terminal-Sections, block as block-Sections, sheet}
 use Rattle.model.specs.Service.{taken, serves, call}
 use Rattle.model.specs.Simulated.{tracked, simulation, flowEffects, simulate}
 use Rattle.model.specs.Size.{enough}
@@ -25,23 +27,23 @@ use Rattle.model.specs.Traits.{effectOf, reactiveOf, traitsWord}
 use Rattle.model.specs.Walks.{pushes, visit, step, run, walkOf, mutate}
 
 pub table-right : T (right table)
-unfolding summary diagnosed answer answerWords instructionEffect instruction operand phiNode wake terminalEffect terminal block firstNodes build ended read fits answered admit outcome answerAfter workspaceAfter kindOf rowOf create enter withEdge withEntry change store relate assign createFrom word count fixed atMost below newNumber times numbered counted renderPushes renderVisit renderStep renderRun renderWalk walksOf after rendersOf rendered reached largestEnd flag flags identifier diagnostic innerFunction place unused extra effect effects operand-Sections phi instruction-Sections terminalOf terminal-Sections block-Sections sheet taken serves call tracked simulation flowEffects simulate enough accepts copied recorded sheetEnds built realWalks afterReal afterRenders collectParamEffects captureMark marked createReturns instructionEffects blockRelations totals over judged effectOf reactiveOf traitsWord pushes visit step run walkOf mutate right table
+unfolding rangesBefore rangesAfter summary diagnosed answer middleWords operandWords answerWords instructionEffect instruction operand phiNode wake terminalEffect terminal block firstNodes build ended read applies fits answered admit outcome answerAfter workspaceAfter kindOf rowOf create enter withEdge withEntry change store relate assign createFrom withEffect captureOrRead flowMarks marksOf operandEffects markOf withMark setUnset startIf nameLvalue storeValue phisMarked phiStarts phis nameLvalues instructionMarks instructionRanges instruction-Operands terminalPlaces terminal-Operands block-Operands sheetStarts endsBefore beforePass afterPass word count fixed atMost below newNumber times numbered counted timesFrom numberedFrom countedFrom renderPushes renderVisit renderStep renderRun renderWalk walksOf after rendersOf rendered reached largestEnd flag flags identifier diagnostic place innerFunction unused extra effect effects operand-Sections phi instructionValue instruction-Sections terminalOf terminal-Sections block-Sections sheet taken serves call tracked simulation flowEffects simulate enough accepts copied recorded sheetEnds built realWalks afterReal afterRenders collectParamEffects captureMark marked createReturns instructionEffects blockRelations totals over judged effectOf reactiveOf traitsWord pushes visit step run walkOf mutate right table
 table-right = tt
 
 pub ours-right : T (right ours)
-unfolding summary diagnosed answer answerWords instructionEffect instruction operand phiNode wake terminalEffect terminal block firstNodes build ended read fits answered admit outcome answerAfter workspaceAfter kindOf rowOf create enter withEdge withEntry change store relate assign createFrom word count fixed atMost below newNumber times numbered counted renderPushes renderVisit renderStep renderRun renderWalk walksOf after rendersOf rendered reached largestEnd flag flags identifier diagnostic innerFunction place unused extra effect effects operand-Sections phi instruction-Sections terminalOf terminal-Sections block-Sections sheet taken serves call tracked simulation flowEffects simulate enough accepts copied recorded sheetEnds built realWalks afterReal afterRenders collectParamEffects captureMark marked createReturns instructionEffects blockRelations totals over judged effectOf reactiveOf traitsWord pushes visit step run walkOf mutate right ours
+unfolding rangesBefore rangesAfter summary diagnosed answer middleWords operandWords answerWords instructionEffect instruction operand phiNode wake terminalEffect terminal block firstNodes build ended read applies fits answered admit outcome answerAfter workspaceAfter kindOf rowOf create enter withEdge withEntry change store relate assign createFrom withEffect captureOrRead flowMarks marksOf operandEffects markOf withMark setUnset startIf nameLvalue storeValue phisMarked phiStarts phis nameLvalues instructionMarks instructionRanges instruction-Operands terminalPlaces terminal-Operands block-Operands sheetStarts endsBefore beforePass afterPass word count fixed atMost below newNumber times numbered counted timesFrom numberedFrom countedFrom renderPushes renderVisit renderStep renderRun renderWalk walksOf after rendersOf rendered reached largestEnd flag flags identifier diagnostic place innerFunction unused extra effect effects operand-Sections phi instructionValue instruction-Sections terminalOf terminal-Sections block-Sections sheet taken serves call tracked simulation flowEffects simulate enough accepts copied recorded sheetEnds built realWalks afterReal afterRenders collectParamEffects captureMark marked createReturns instructionEffects blockRelations totals over judged effectOf reactiveOf traitsWord pushes visit step run walkOf mutate right ours
 ours-right = tt
 
 pub calls-refused : T (refusedSo calls)
-unfolding summary diagnosed answer answerWords instructionEffect instruction operand phiNode wake terminalEffect terminal block firstNodes build ended read fits answered admit outcome answerAfter workspaceAfter kindOf rowOf create enter withEdge withEntry change store relate assign createFrom word count fixed atMost below newNumber times numbered counted renderPushes renderVisit renderStep renderRun renderWalk walksOf after rendersOf rendered reached largestEnd flag flags identifier diagnostic innerFunction place unused extra effect effects operand-Sections phi instruction-Sections terminalOf terminal-Sections block-Sections sheet taken serves call tracked simulation flowEffects simulate enough accepts copied recorded sheetEnds built realWalks afterReal afterRenders collectParamEffects captureMark marked createReturns instructionEffects blockRelations totals over judged effectOf reactiveOf traitsWord pushes visit step run walkOf mutate refusedSo calls
+unfolding rangesBefore rangesAfter summary diagnosed answer middleWords operandWords answerWords instructionEffect instruction operand phiNode wake terminalEffect terminal block firstNodes build ended read applies fits answered admit outcome answerAfter workspaceAfter kindOf rowOf create enter withEdge withEntry change store relate assign createFrom withEffect captureOrRead flowMarks marksOf operandEffects markOf withMark setUnset startIf nameLvalue storeValue phisMarked phiStarts phis nameLvalues instructionMarks instructionRanges instruction-Operands terminalPlaces terminal-Operands block-Operands sheetStarts endsBefore beforePass afterPass word count fixed atMost below newNumber times numbered counted timesFrom numberedFrom countedFrom renderPushes renderVisit renderStep renderRun renderWalk walksOf after rendersOf rendered reached largestEnd flag flags identifier diagnostic place innerFunction unused extra effect effects operand-Sections phi instructionValue instruction-Sections terminalOf terminal-Sections block-Sections sheet taken serves call tracked simulation flowEffects simulate enough accepts copied recorded sheetEnds built realWalks afterReal afterRenders collectParamEffects captureMark marked createReturns instructionEffects blockRelations totals over judged effectOf reactiveOf traitsWord pushes visit step run walkOf mutate refusedSo calls
 calls-refused = tt
 
 pub limits-right : T (refusedSo limits)
-unfolding ended read answered admit outcome judged kindOf rowOf word count fixed atMost below newNumber times numbered counted flag flags identifier diagnostic innerFunction place unused extra effect effects operand-Sections phi instruction-Sections terminalOf terminal-Sections block-Sections sheet taken serves call effectOf reactiveOf refusedSo limits
+unfolding ended read answered admit outcome judged kindOf rowOf word count fixed atMost below newNumber times numbered counted timesFrom numberedFrom countedFrom flag flags identifier diagnostic place innerFunction unused extra effect effects operand-Sections phi instructionValue instruction-Sections terminalOf terminal-Sections block-Sections sheet taken serves call effectOf reactiveOf refusedSo limits
 limits-right = tt
 
 pub effect-table-right : T (refusedSo effectTable)
-unfolding ended read answered admit outcome judged kindOf rowOf word count fixed atMost below newNumber times numbered counted flag flags identifier diagnostic innerFunction place unused extra effect effects operand-Sections phi instruction-Sections terminalOf terminal-Sections block-Sections sheet taken serves call effectOf reactiveOf refusedSo effectTable
+unfolding ended read answered admit outcome judged kindOf rowOf word count fixed atMost below newNumber times numbered counted timesFrom numberedFrom countedFrom flag flags identifier diagnostic place innerFunction unused extra effect effects operand-Sections phi instructionValue instruction-Sections terminalOf terminal-Sections block-Sections sheet taken serves call effectOf reactiveOf refusedSo effectTable
 effect-table-right = tt
 
 pub effect-rows : T (sameRows effectRows)

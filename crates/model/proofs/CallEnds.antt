@@ -1,26 +1,28 @@
--- The ends that an accepted call leaves in the answer buffer are those of demand 3's run of all mutations, in sheet order.
+-- The ends that an accepted call leaves in the answer buffer are those of demand 3's run of all mutations, in sheet order, taken through the pass over operands.
 use Prim.Native.Nat.{ℕ, zero, suc, _+_, _*_, _-_, _<_}
 use native.Mathlib.Omega.{arith}
 use mathlib.Core.Path.{_≡_, refl, sym, ap, _∙_}
 use mathlib.Core.Bool.{Bool, true, false, true≢false}
-use mathlib.Core.List.{List, [], _∷_, _++_, map, append-assoc}
+use mathlib.Core.List.{List, [], _∷_, _++_, append-assoc}
 use lib.ListN.{length, getD, replicate}
-use lib.Seq.{getD-take}
 use lib.Dec.{ltb}
 use Rattle.model.specs.Limits.{leastWorkspace}
-use Rattle.model.specs.Lists.{pick, gather}
+use Rattle.model.specs.Lists.{pick, gather, each}
 use Rattle.model.specs.Sheet.{Sheet}
 use Rattle.model.specs.Reading.{Position, Result, got, refused}
 use Rattle.model.specs.Building.{build}
 use Rattle.model.specs.Runs.{after}
 use Rattle.model.specs.Summary.{built}
 use Rattle.model.specs.Answer.{Range, rangeWords, answer, answerWords}
-use Rattle.model.specs.Call.{Outcome, refusal, accepted, read, IsSheet, fits, answered, admit, outcome, answerAfter}
+use Rattle.model.specs.Call.{Outcome, refusal, accepted, read, IsSheet, applies, fits, answered, admit, outcome, answerAfter}
 use Rattle.model.specs.Demand3.{how}
 use Rattle.model.specs.CallEnds.{endAt, CallEnds}
 use Rattle.model.proofs.ReadLaws.{isGot}
-use Rattle.model.proofs.Demand3.{demand3, answer-ends}
-use Rattle.model.proofs.Lengths.{answer-ranges}
+use Rattle.model.specs.Operands.{beforePass}
+use Rattle.model.specs.EndsSet.{instructionsOf, endAfter}
+use Rattle.model.specs.SecondProperty.{noRange, SecondProperty}
+use Rattle.model.proofs.Demand3.{demand3}
+use Rattle.model.proofs.SecondProperty.{answer-ranges, second-property}
 
 abbrev isAccepted : Outcome → Bool
 isAccepted (refusal k) = false
@@ -49,7 +51,11 @@ module _ (ws : List ℕ) (workspace room : ℕ) (a : List ℕ) where
 
   answered-sheet : (r : Result Sheet) → admit ws workspace ≡ r → answered room r ≡ accepted a → (s : Sheet) × IsSheet ws s × (answerWords (answer s) ≡ a)
   unfolding answered
-  answered-sheet (got s c) h e = (s, admitted s c h, fits-words (answerWords (answer s)) e)
+  answered-sheet (got s c) h e = (s, admitted s c h, go (applies s) e)
+    where
+      go : (t : Bool) → pick t (refusal 10) (fits room (answerWords (answer s))) ≡ accepted a → answerWords (answer s) ≡ a
+      go true y = absurd (true≢false (sym (ap isAccepted y)))
+      go false y = fits-words (answerWords (answer s)) y
   answered-sheet (refused k) h e = absurd (true≢false (sym (ap isAccepted e)))
 
   -- the sheet of an accepted call, whose answer it is
@@ -58,7 +64,7 @@ module _ (ws : List ℕ) (workspace room : ℕ) (a : List ℕ) where
   accepted-sheet e = answered-sheet (admit ws workspace) refl e
 
 -- the ends stand at every second word
-range-end : (l : List Range) (rest : List ℕ) (x : ℕ) → x < length l → getD (gather rangeWords l ++ rest) (2 * x + 1) 0 ≡ getD (map (λ (r : Range). r .end) l) x 0
+range-end : (l : List Range) (rest : List ℕ) (x : ℕ) → x < length l → getD (gather rangeWords l ++ rest) (2 * x + 1) 0 ≡ getD l x noRange .end
 range-end [] rest x h = absurd (omega (arith, h))
 range-end (r ∷ l) rest zero h = refl
 range-end (r ∷ l) rest (suc x) h =
@@ -66,19 +72,22 @@ range-end (r ∷ l) rest (suc x) h =
     ap (λ (k : ℕ). getD (r .start ∷ r .end ∷ (gather rangeWords l ++ rest)) k 0) p ∙ range-end l rest x (omega (arith, h))
 
 module _ (s : Sheet) where
-  abbrev lastEnds : List ℕ
-  lastEnds = after (how s) (build s .mutations) (built s) .ends
+  -- the run's end, taken through the instructions
+  abbrev lastEnd : ℕ → ℕ
+  lastEnd x = each (endAfter x) (instructionsOf (s .blocks)) (getD (after (how s) (build s .mutations) (built s) .ends) x 0)
 
-  answer-end : (rest : List ℕ) (x : ℕ) → x < length (s .identifiers) → getD (answerWords (answer s) ++ rest) (endAt x) 0 ≡ getD lastEnds x 0
-  unfolding answerWords
+  answer-end : (rest : List ℕ) (x : ℕ) → x < length (s .identifiers) → getD (answerWords (answer s) ++ rest) (endAt x) 0 ≡ lastEnd x
+  unfolding answerWords beforePass
   answer-end rest x h =
       let p : endAt x ≡ suc (2 * x + 1) = omega arith in
       let more : List ℕ = answerWords (answer s) ++ rest in
+      let v : SecondProperty s = second-property s in
       ap (λ (k : ℕ). getD more k 0) p
       ∙ ap (λ (l : List ℕ). getD l (2 * x + 1) 0) (append-assoc (gather rangeWords (answer s .ranges)) _ rest)
       ∙ range-end (answer s .ranges) _ x (omega (arith, h, answer-ranges s))
-      ∙ ap (λ (l : List ℕ). getD l x 0) (answer-ends s)
-      ∙ getD-take (length (s .identifiers)) lastEnds x 0 h
+      ∙ ap (λ (r : Range). r .end) (v .ranges x h)
+      ∙ v .set .which x (v .known x h)
+      ∙ ap (λ (l : List ℕ). each (endAfter x) (instructionsOf (s .blocks)) (getD l x 0)) (v .before)
 
 -- whatever is lent: the ends in the buffer of an accepted call
 pub call-ends : (ws : List ℕ) (workspace room : ℕ) (a : List ℕ) → outcome ws workspace room ≡ accepted a → CallEnds ws (answerAfter room (outcome ws workspace room))

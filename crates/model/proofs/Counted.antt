@@ -67,13 +67,13 @@ module _ (M : Built → ℕ) (unit : ℕ) (costs : EffectKind → ℕ) (c : Coun
       go false = omega arith
 
   terminalCost : Terminal → ℕ
-  terminalCost (Other o) = 0
+  terminalCost (Other o ps) = 0
   terminalCost (Return o p l) = unit + tally terminalEffectCost l
   terminalCost (MaybeThrow o l) = tally terminalEffectCost l
 
   terminal-counts : (r : Place) (t : Terminal) (b : Built) → M (terminal r t b) ≡ terminalCost t + M b
   unfolding terminal terminalCost
-  terminal-counts r (Other o) b = omega arith
+  terminal-counts r (Other o ps) b = omega arith
   terminal-counts r (Return o p l) b =
       omega (arith, each-counts terminalEffect terminalEffectCost terminalEffect-counts l (between (relate intoAliases) p r b), c .related (λ (i : ℕ). relate intoAliases i (p .identifier) (r .identifier)) b)
   terminal-counts r (MaybeThrow o l) b = each-counts terminalEffect terminalEffectCost terminalEffect-counts l b
@@ -235,7 +235,7 @@ render-counter = record {
 -- the costs of a block: of the running index, and of one role alone
 terminal-relations : (t : Terminal) → terminalCost (λ (b : Built). b .index) 1 spends index-counter t ≡ terminalRelations t
 unfolding terminalCost
-terminal-relations (Other o) = refl
+terminal-relations (Other o ps) = refl
 terminal-relations (Return o p l) = omega (arith, tally-same (λ (e : Effect). pick (isAlias (e .kind)) 1 0) (λ (e : Effect). oneIf (isAlias (e .kind))) (λ e. pick-one (isAlias (e .kind))) l)
 terminal-relations (MaybeThrow o l) = tally-same (λ (e : Effect). pick (isAlias (e .kind)) 1 0) (λ (e : Effect). oneIf (isAlias (e .kind))) (λ e. pick-one (isAlias (e .kind))) l
 
@@ -277,7 +277,7 @@ build-index s =
 module _ (M : Built → ℕ) (f : Role → Bool) (c : Counter M 0 (byRole f)) where
   no-terminal : (t : Terminal) → terminalCost M 0 (byRole f) c t ≡ 0
   unfolding terminalCost
-  no-terminal (Other o) = refl
+  no-terminal (Other o ps) = refl
   no-terminal (Return o p l) = omega (arith, tally-same (λ (e : Effect). pick (isAlias (e .kind)) 0 0) (λ (e : Effect). 0) (λ e. pick-none (isAlias (e .kind))) l, tally-none l)
   no-terminal (MaybeThrow o l) = tally-same (λ (e : Effect). pick (isAlias (e .kind)) 0 0) (λ (e : Effect). 0) (λ e. pick-none (isAlias (e .kind))) l ∙ tally-none l
 

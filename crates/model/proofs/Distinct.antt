@@ -90,7 +90,7 @@ unfolding sheet
 sheet-distinct =
     then-reads flags _ SheetDistinct
     (λ fs. then-reads (counted mostIdentifiers identifier) _ SheetDistinct
-    (λ ids. then-reads (counted mostFunctions innerFunction) _ SheetDistinct
+    (λ ids. then-reads (counted mostFunctions (innerFunction (length ids))) _ SheetDistinct
     (λ inner. then-reads (counted mostParams (place (length ids))) _ SheetDistinct
     (λ ps. then-reads (counted mostContext (place (length ids))) _ SheetDistinct
     (λ cs. then-reads (fixed returnsCount) _ SheetDistinct

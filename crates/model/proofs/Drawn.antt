@@ -4,28 +4,28 @@ use native.Mathlib.Nat.{mod-lt}
 use native.Mathlib.Omega.{arith}
 use mathlib.Core.Path.{_≡_, refl, sym, subst}
 use mathlib.Core.Bool.{Bool, true, false}
-use mathlib.Core.List.{[], _∷_}
 use lib.ListN.{length}
 use lib.Dec.{leb}
 use Rattle.model.specs.Lists.{Every}
 use Rattle.model.specs.Sheet.{Place, plainPlace, EffectKind, Mutate, Effect, Instruction}
-use Rattle.model.specs.Effects.{rowOf, isCreateFunction, isRender, isDiagnosis}
+use Rattle.model.specs.Effects.{rowOf, isCreateFunction, isApply, isRender, isDiagnosis}
 use Rattle.model.specs.Encoder.{UsedFits, ExtraFits, EffectFits}
-use Rattle.model.specs.Load.{drawBelow, loadKinds, loadKind, loadEffect, drawSecond, drawPlaces, drawEffect, loadInstructions}
+use Rattle.model.specs.Load.{drawBelow, loadKinds, loadKind, loadEffect, drawSecond, drawPlaces, drawEffect, loadInstruction, loadInstructions}
 use Rattle.model.proofs.Everywhere.{every-at}
 
 pub draw-below : (k state : ℕ) → 0 < k → drawBelow k state .number < k
 unfolding drawBelow
 draw-below k state h = mod-lt _ h
 
--- a kind of at least one place, without an inner function, and neither a diagnosis nor a render
+-- a kind of at least one place, without an inner function, and neither a diagnosis nor a render nor Apply
 abbrev Drawable : EffectKind → Type 0
-Drawable k = (leb 1 (rowOf k .places) ≡ true) × (isCreateFunction k ≡ false) × (isDiagnosis (rowOf k .role) ≡ false) × (isRender (rowOf k .role) ≡ false)
+Drawable k = (leb 1 (rowOf k .places) ≡ true) × (isCreateFunction k ≡ false) × (isDiagnosis (rowOf k .role) ≡ false) × (isRender (rowOf k .role) ≡ false) × (isApply k ≡ false)
 
 -- all nine are
 all-drawable : Every Drawable loadKinds
 unfolding rowOf
-all-drawable = ((refl, refl, refl, refl), ((refl, refl, refl, refl), ((refl, refl, refl, refl), ((refl, refl, refl, refl), ((refl, refl, refl, refl), ((refl, refl, refl, refl), ((refl, refl, refl, refl), ((refl, refl, refl, refl), ((refl, refl, refl, refl), tt)))))))))
+all-drawable =
+    ((refl, refl, refl, refl, refl), ((refl, refl, refl, refl, refl), ((refl, refl, refl, refl, refl), ((refl, refl, refl, refl, refl), ((refl, refl, refl, refl, refl), ((refl, refl, refl, refl, refl), ((refl, refl, refl, refl, refl), ((refl, refl, refl, refl, refl), ((refl, refl, refl, refl, refl), tt)))))))))
 
 kind-drawable : (k : ℕ) → Drawable (loadKind k)
 unfolding loadKind
@@ -79,6 +79,9 @@ NotCopied e = (isDiagnosis (rowOf (e .kind) .role) ≡ false) × (isRender (rowO
 pub drawn-not-copied : (n : ℕ) (e : Effect) → Drawn n e → NotCopied e
 drawn-not-copied n e d = subst NotCopied (sym (d .effect)) (d .drawable .2, d .drawable .3)
 
+pub drawn-not-apply : (n : ℕ) (e : Effect) → Drawn n e → isApply (e .kind) ≡ false
+drawn-not-apply n e d = subst (λ (x : Effect). isApply (x .kind) ≡ false) (sym (d .effect)) (d .drawable .4)
+
 -- ---- instructions
 pub instructions-length : (n o left state : ℕ) → length (loadInstructions n o left state) ≡ left
 unfolding loadInstructions
@@ -86,7 +89,7 @@ instructions-length n o zero state = refl
 instructions-length n o (suc left) state = omega (arith, instructions-length n (suc o) left (drawEffect n state .state))
 
 -- what holds of every instruction with one drawn effect and an order up to `last` holds of all
-pub each-instruction : (n last : ℕ) (P : Instruction → Type 0) → ((o state : ℕ) → o ≤ last → P (record { order = o; effects = drawEffect n state .effect ∷ [] }))
+pub each-instruction : (n last : ℕ) (P : Instruction → Type 0) → ((o state : ℕ) → o ≤ last → P (loadInstruction o (drawEffect n state .effect)))
     → (left o state : ℕ) → o + left ≤ suc last → Every P (loadInstructions n o left state)
 unfolding loadInstructions
 each-instruction n last P h zero o state l = tt

@@ -7,17 +7,17 @@ use mathlib.Core.List.{List, [], _∷_, _++_, append-nil}
 use lib.ListN.{length}
 use lib.Dec.{leb}
 use borrow.Author.Tests.{le-ltb}
-use Rattle.model.specs.Limits.{flagCount, mostFlag, mostIdentifiers, mostRange, mostType, mostFunctions, mostInnerDiagnostics, mostDiagnostic, mostParams, mostContext, returnsCount, mostBlocks, mostCount, mostOrder, mostTerminal, mostTraits, mostKind, mostSheet}
+use Rattle.model.specs.Limits.{flagCount, mostFlag, mostIdentifiers, mostRange, mostType, mostFunctions, mostInnerDiagnostics, mostInnerContext, mostDiagnostic, mostParams, mostContext, returnsCount, mostBlocks, mostCount, mostOrder, mostLvalues, mostOperands, noOperands, mostValue, mostTerminal, mostTraits, mostKind, mostSheet}
 use Rattle.model.specs.Lists.{pick, gather, among, Every, oneIf}
-use Rattle.model.specs.Sheet.{Flags, Identifier, IdentifierType, other, primitive, jsx, Diagnostic, InnerFunction, Place, unusedPlace, EffectKind, Freeze, Mutate, MutateConditionally, MutateTransitive, MutateTransitiveConditionally, Capture, Alias, MaybeAlias, Assign, Create, CreateFrom, ImmutableCapture, Apply, CreateFunction, MutateFrozen, MutateGlobal, Impure, Render, Effect, EffectList, Operand, Phi, Instruction, Terminal, Other, Return, MaybeThrow, BlockId, Block, Sheet}
+use Rattle.model.specs.Sheet.{Flags, Identifier, IdentifierType, other, primitive, jsx, Diagnostic, InnerFunction, Place, unusedPlace, EffectKind, Freeze, Mutate, MutateConditionally, MutateTransitive, MutateTransitiveConditionally, Capture, Alias, MaybeAlias, Assign, Create, CreateFrom, ImmutableCapture, Apply, CreateFunction, MutateFrozen, MutateGlobal, Impure, Render, Effect, EffectList, Operand, Phi, InstructionValue, Plain, Function, StoreContext, Instruction, Terminal, Other, Return, MaybeThrow, BlockId, Block, Sheet}
 use Rattle.model.specs.Traits.{reactiveOf, traitsWord}
 use Rattle.model.specs.Effects.{kindOf, rowOf, isCreateFunction}
 use Rattle.model.specs.Reading.{got, Read, _>>=_, pure, word, count, fixed, atMost, below, numbered, counted}
-use Rattle.model.specs.Sections.{flag, flags, typeOf, identifier, diagnostic, innerFunction, place, unused, extra, effect, effects, operand, phi, instruction, terminalOf, terminal, block, sheet}
+use Rattle.model.specs.Sections.{flag, flags, typeOf, identifier, diagnostic, innerFunction, place, unused, extra, effect, effects, operand, phi, valueBy, instructionValue, instruction, terminalOf, terminal, block, sheet}
 use Rattle.model.specs.Answer.{placeWords, diagnosticWords, effectWords, section}
 use Rattle.model.specs.Totals.{totals, over, judged}
 use Rattle.model.specs.Call.{ended, read, IsSheet}
-use Rattle.model.specs.Encoder.{flagsWords, typeWord, identifierWords, functionWords, effectsWords, operandWords, phiWords, instructionWords, terminalWords, blockRest, blockWords, sheetWords, IdentifierFits, DiagnosticFits, FunctionFits, PlaceFits, UsedFits, ExtraFits, EffectFits, EffectsFit, OperandFits, PhiFits, InstructionFits, TerminalFits, BlockFits, SheetFits}
+use Rattle.model.specs.Encoder.{flagsWords, typeWord, identifierWords, functionWords, effectsWords, operandWords, phiWords, valueWords, instructionWords, terminalWords, blockRest, blockWords, sheetWords, IdentifierFits, DiagnosticFits, PlaceFits, PlacesFit, FunctionFits, UsedFits, ExtraFits, EffectFits, EffectsFit, OperandFits, PhiFits, ValueFits, InstructionFits, TerminalFits, BlockFits, SheetFits}
 use Rattle.model.proofs.Everywhere.{every-mem}
 use Rattle.model.proofs.Traits.{traits-few, effect-of-traits, reactive-of-traits}
 use Rattle.model.proofs.BackLaws.{Back, pure-back, bind-back, word-back, atMost-back, below-back, count-back, fixed-back, counted-back, numbered-back}
@@ -66,14 +66,6 @@ diagnostic-back d h =
     bind-back (atMost mostDiagnostic) _ (d .identity ∷ []) (d .instance ∷ []) (d .identity) d (atMost-back mostDiagnostic (d .identity) (h .0))
     (bind-back (atMost mostDiagnostic) _ (d .instance ∷ []) [] (d .instance) d (atMost-back mostDiagnostic (d .instance) (h .1)) (pure-back d))
 
-function-back : (f : InnerFunction) → FunctionFits f → Back innerFunction (functionWords f) f
-unfolding innerFunction
-function-back f h =
-    subst (λ (vs : List ℕ). Back innerFunction vs f) (append-nil (functionWords f))
-    (bind-back (counted mostInnerDiagnostics diagnostic) _ (functionWords f) [] (f .diagnostics) f
-    (counted-back mostInnerDiagnostics diagnostic diagnosticWords (f .diagnostics) (h .0) (every-mem DiagnosticFits _ (f .diagnostics) (λ d m k. diagnostic-back d k) (h .1)))
-    (pure-back f))
-
 -- ---- places
 abbrev placeBy : ℕ → ℕ → Bool → ℕ → Place
 placeBy i e r s = record { identifier = i; effect = e; reactive = r; span = s }
@@ -98,8 +90,21 @@ used-back : (b : Bool) (n instance : ℕ) (p : Place) → UsedFits b n instance 
 used-back true n instance p h = place-back n p h
 used-back false n instance p h = subst (λ (q : Place). Back (unused instance) (placeWords q) q) (sym (h .1)) (unused-back instance (p .identifier) (h .0))
 
-places-back : (n most : ℕ) (l : List Place) → length l ≤ most → Every (PlaceFits n) l → Back (counted most (place n)) (section placeWords l) l
-places-back n most l k h = counted-back most (place n) placeWords l k (every-mem (PlaceFits n) _ l (λ p m f. place-back n p f) h)
+places-back : (n most : ℕ) (l : List Place) → PlacesFit n most l → Back (counted most (place n)) (section placeWords l) l
+places-back n most l h = counted-back most (place n) placeWords l (h .0) (every-mem (PlaceFits n) _ l (λ p m f. place-back n p f) (h .1))
+
+-- a part, and then nothing more
+last-back : {A B : Type 0} (r : Read A) (f : A → B) (ws : List ℕ) (a : A) → Back r ws a → Back (r >>= λ (x : A). pure (f x)) ws (f a)
+last-back {A} {B} r f ws a h =
+    subst (λ (vs : List ℕ). Back (r >>= λ (x : A). pure (f x)) vs (f a)) (append-nil ws) (bind-back r (λ (x : A). pure (f x)) ws [] a (f a) h (pure-back (f a)))
+
+function-back : (n : ℕ) (f : InnerFunction) → FunctionFits n f → Back (innerFunction n) (functionWords f) f
+unfolding innerFunction
+function-back n f h =
+    let l : List Diagnostic = f .diagnostics in
+    bind-back (counted mostInnerDiagnostics diagnostic) _ (section diagnosticWords l) (section placeWords (f .context)) l f
+    (counted-back mostInnerDiagnostics diagnostic diagnosticWords l (h .0 .0) (every-mem DiagnosticFits _ l (λ d m k. diagnostic-back d k) (h .0 .1)))
+    (last-back (counted mostInnerContext (place n)) (λ (cs : List Place). record { diagnostics = l; context = cs }) (section placeWords (f .context)) (f .context) (places-back n mostInnerContext (f .context) (h .1)))
 
 -- ---- effects
 kind-back : (k : EffectKind) → kindOf (rowOf k .number) ≡ k
@@ -197,31 +202,53 @@ phi-back n p h =
     (numbered-back (operand n) (λ (o : Operand). o .predecessor) (λ (o : Operand). placeWords (o .place)) l [] (every-mem (OperandFits n) _ l (λ o k f. (f .0, operand-back n o f)) (h .2)) (none-used (λ (o : Operand). o .predecessor) l) (h .3))
     (pure-back p))))
 
+value-back : (n m : ℕ) (v : InstructionValue) → ValueFits n m v → Back (instructionValue n m) (valueWords v) v
+unfolding instructionValue
+value-back n m Plain h = bind-back (atMost mostValue) (valueBy n m) (0 ∷ []) [] 0 Plain (atMost-back mostValue 0 (omega arith)) (pure-back Plain)
+value-back n m (Function k) h =
+    bind-back (atMost mostValue) (valueBy n m) (1 ∷ []) (k ∷ []) 1 (Function k) (atMost-back mostValue 1 (omega arith)) (last-back (below m) Function (k ∷ []) k (below-back m k h))
+value-back n m (StoreContext x) h =
+    bind-back (atMost mostValue) (valueBy n m) (2 ∷ []) (x ∷ []) 2 (StoreContext x) (atMost-back mostValue 2 (omega arith)) (last-back (below n) StoreContext (x ∷ []) x (below-back n x h))
+
 instruction-back : (n m : ℕ) (i : Instruction) → InstructionFits n m i → Back (instruction n m) (instructionWords i) i
 unfolding instruction
 instruction-back n m i h =
-    bind-back (atMost mostOrder) _ (i .order ∷ []) (effectsWords (i .effects)) (i .order) i (atMost-back mostOrder (i .order) (h .0))
-    (subst (λ (vs : List ℕ). Back (effects n m >>= λ (l : EffectList). pure (record { order = i .order; effects = l })) vs i) (append-nil (effectsWords (i .effects)))
-    (bind-back (effects n m) _ (effectsWords (i .effects)) [] (i .effects) i (effects-back n m (i .effects) (h .1)) (pure-back i)))
+    let es : List ℕ = effectsWords (i .effects) in
+    let vs : List ℕ = valueWords (i .value) ++ es in
+    let ps : List ℕ = section placeWords (i .operands) ++ vs in
+    let ls : List ℕ = section placeWords (i .valueLvalues) ++ ps in
+    bind-back (atMost mostOrder) _ (i .order ∷ []) (placeWords (i .lvalue) ++ ls) (i .order) i (atMost-back mostOrder (i .order) (h .order))
+    (bind-back (place n) _ (placeWords (i .lvalue)) ls (i .lvalue) i (place-back n (i .lvalue) (h .lvalue))
+    (bind-back (counted mostLvalues (place n)) _ (section placeWords (i .valueLvalues)) ps (i .valueLvalues) i (places-back n mostLvalues (i .valueLvalues) (h .valueLvalues))
+    (bind-back (counted mostOperands (place n)) _ (section placeWords (i .operands)) vs (i .operands) i (places-back n mostOperands (i .operands) (h .operands))
+    (bind-back (instructionValue n m) _ (valueWords (i .value)) es (i .value) i (value-back n m (i .value) (h .value))
+    (last-back (effects n m) (λ (l : EffectList). instructionBy l) es (i .effects) (effects-back n m (i .effects) (h .effects)))))))
+  where
+    instructionBy : EffectList → Instruction
+    instructionBy l = record { order = i .order; lvalue = i .lvalue; valueLvalues = i .valueLvalues; operands = i .operands; value = i .value; effects = l }
 
--- effects, and then nothing more
-last-effects : {A : Type 0} (n m : ℕ) (l : EffectList) (f : EffectList → A) → EffectsFit n m l → Back (effects n m >>= λ (k : EffectList). pure (f k)) (effectsWords l) (f l)
+-- effects, and then no operands
+last-effects : {A : Type 0} (n m : ℕ) (l : EffectList) (f : EffectList → A) → EffectsFit n m l
+    → Back (effects n m >>= λ (k : EffectList). fixed noOperands >>= λ (z : ℕ). pure (f k)) (effectsWords l ++ (noOperands ∷ [])) (f l)
 last-effects {A} n m l f h =
-    subst (λ (vs : List ℕ). Back (effects n m >>= λ (k : EffectList). pure (f k)) vs (f l)) (append-nil (effectsWords l))
-    (bind-back (effects n m) (λ (k : EffectList). pure (f k)) (effectsWords l) [] l (f l) (effects-back n m l h) (pure-back (f l)))
+    bind-back (effects n m) (λ (k : EffectList). fixed noOperands >>= λ (z : ℕ). pure (f k)) (effectsWords l) (noOperands ∷ []) l (f l) (effects-back n m l h)
+    (last-back (fixed noOperands) (λ (z : ℕ). f l) (noOperands ∷ []) noOperands (fixed-back noOperands))
 
 terminal-back : (n m : ℕ) (t : Terminal) → TerminalFits n m t → Back (terminal n m) (terminalWords t) t
 unfolding terminal terminalOf
-terminal-back n m (Other o) h =
-    bind-back (atMost mostTerminal) _ (0 ∷ []) (o ∷ []) 0 (Other o) (atMost-back mostTerminal 0 (omega arith))
-    (bind-back (atMost mostOrder) _ (o ∷ []) [] o (Other o) (atMost-back mostOrder o h) (pure-back (Other o)))
+terminal-back n m (Other o ps) h =
+    bind-back (atMost mostTerminal) _ (0 ∷ []) (o ∷ section placeWords ps) 0 (Other o ps) (atMost-back mostTerminal 0 (omega arith))
+    (bind-back (atMost mostOrder) _ (o ∷ []) (section placeWords ps) o (Other o ps) (atMost-back mostOrder o (h .0))
+    (last-back (counted mostOperands (place n)) (Other o) (section placeWords ps) ps (places-back n mostOperands ps (h .1))))
 terminal-back n m (Return o p l) h =
-    bind-back (atMost mostTerminal) _ (1 ∷ []) (o ∷ (placeWords p ++ effectsWords l)) 1 (Return o p l) (atMost-back mostTerminal 1 (omega arith))
-    (bind-back (atMost mostOrder) _ (o ∷ []) (placeWords p ++ effectsWords l) o (Return o p l) (atMost-back mostOrder o (h .0))
-    (bind-back (place n) _ (placeWords p) (effectsWords l) p (Return o p l) (place-back n p (h .1)) (last-effects n m l (Return o p) (h .2))))
+    let es : List ℕ = effectsWords l ++ (noOperands ∷ []) in
+    bind-back (atMost mostTerminal) _ (1 ∷ []) (o ∷ (placeWords p ++ es)) 1 (Return o p l) (atMost-back mostTerminal 1 (omega arith))
+    (bind-back (atMost mostOrder) _ (o ∷ []) (placeWords p ++ es) o (Return o p l) (atMost-back mostOrder o (h .0))
+    (bind-back (place n) _ (placeWords p) es p (Return o p l) (place-back n p (h .1)) (last-effects n m l (Return o p) (h .2))))
 terminal-back n m (MaybeThrow o l) h =
-    bind-back (atMost mostTerminal) _ (2 ∷ []) (o ∷ effectsWords l) 2 (MaybeThrow o l) (atMost-back mostTerminal 2 (omega arith))
-    (bind-back (atMost mostOrder) _ (o ∷ []) (effectsWords l) o (MaybeThrow o l) (atMost-back mostOrder o (h .0)) (last-effects n m l (MaybeThrow o) (h .1)))
+    let es : List ℕ = effectsWords l ++ (noOperands ∷ []) in
+    bind-back (atMost mostTerminal) _ (2 ∷ []) (o ∷ es) 2 (MaybeThrow o l) (atMost-back mostTerminal 2 (omega arith))
+    (bind-back (atMost mostOrder) _ (o ∷ []) es o (MaybeThrow o l) (atMost-back mostOrder o (h .0)) (last-effects n m l (MaybeThrow o) (h .1)))
 
 block-back : (n m : ℕ) (b : Block) → BlockFits n m b → Back (block n m (b .number)) (blockRest b) b
 unfolding block
@@ -255,10 +282,10 @@ sheet-back s h =
     bind-back flags _ (flagsWords (s .flags)) w₁ (s .flags) s (flags-back (s .flags))
     (bind-back (counted mostIdentifiers identifier) _ (section identifierWords (s .identifiers)) w₂ (s .identifiers) s
     (counted-back mostIdentifiers identifier identifierWords (s .identifiers) (h .identifierCount) (every-mem IdentifierFits _ (s .identifiers) (λ i k f. identifier-back i f) (h .identifiers)))
-    (bind-back (counted mostFunctions innerFunction) _ (section functionWords (s .functions)) w₃ (s .functions) s
-    (counted-back mostFunctions innerFunction functionWords (s .functions) (h .functionCount) (every-mem FunctionFits _ (s .functions) (λ f k g. function-back f g) (h .functions)))
-    (bind-back (counted mostParams (place n)) _ (section placeWords (s .params)) w₄ (s .params) s (places-back n mostParams (s .params) (h .paramCount) (h .params))
-    (bind-back (counted mostContext (place n)) _ (section placeWords (s .context)) w₅ (s .context) s (places-back n mostContext (s .context) (h .contextCount) (h .context))
+    (bind-back (counted mostFunctions (innerFunction n)) _ (section functionWords (s .functions)) w₃ (s .functions) s
+    (counted-back mostFunctions (innerFunction n) functionWords (s .functions) (h .functionCount) (every-mem (FunctionFits n) _ (s .functions) (λ f k g. function-back n f g) (h .functions)))
+    (bind-back (counted mostParams (place n)) _ (section placeWords (s .params)) w₄ (s .params) s (places-back n mostParams (s .params) (h .paramCount, h .params))
+    (bind-back (counted mostContext (place n)) _ (section placeWords (s .context)) w₅ (s .context) s (places-back n mostContext (s .context) (h .contextCount, h .context))
     (bind-back (fixed returnsCount) _ (returnsCount ∷ []) w₆ returnsCount s (fixed-back returnsCount)
     (bind-back (place n) _ (placeWords (s .returns)) w₇ (s .returns) s (place-back n (s .returns) (h .returns))
     (bind-back (count mostBlocks) _ (length (s .blocks) ∷ []) bs (length (s .blocks)) s (count-back mostBlocks (length (s .blocks)) (h .blockCount))

@@ -6,13 +6,13 @@ use mathlib.Core.Bool.{Bool, true, true≢false}
 use mathlib.Core.List.{List, []}
 use lib.ListN.{length}
 use lib.Dec.{leb}
-use Rattle.model.specs.Limits.{mostIdentifiers, mostFunctions, mostParams, mostContext, returnsCount, mostBlocks, mostCount, mostOrder, mostTerminal, mostTraits, mostKind}
+use Rattle.model.specs.Limits.{mostIdentifiers, mostFunctions, mostParams, mostContext, returnsCount, mostBlocks, mostCount, mostOrder, mostLvalues, mostOperands, noOperands, mostValue, mostTerminal, mostTraits, mostKind, mostInnerDiagnostics, mostInnerContext}
 use Rattle.model.specs.Lists.{pick, Every}
-use Rattle.model.specs.Sheet.{Identifier, InnerFunction, BlockId, Place, unusedPlace, EffectKind, Operand, Instruction, Other, Return, MaybeThrow}
+use Rattle.model.specs.Sheet.{Identifier, InnerFunction, BlockId, Place, unusedPlace, EffectKind, Operand, Plain, Function, StoreContext, Terminal, Other, Return, MaybeThrow, orderOf}
 use Rattle.model.specs.Effects.{kindOf, rowOf, isCreateFunction}
 use Rattle.model.specs.Reading.{word, count, fixed, atMost, below, numbered, counted}
-use Rattle.model.specs.Sections.{flags, identifier, innerFunction, place, unused, extra, effect, effects, operand, phi, instruction, terminalOf, terminal, block, sheet}
-use Rattle.model.specs.Ranges.{PlaceBelow, EffectBelow, PhiBelow, TerminalBelow, BlockBelow, SheetBelow}
+use Rattle.model.specs.Sections.{flags, identifier, diagnostic, innerFunction, place, unused, extra, effect, effects, operand, phi, valueBy, instructionValue, instruction, terminalOf, terminal, block, sheet}
+use Rattle.model.specs.Ranges.{PlaceBelow, PlacesBelow, FunctionBelow, EffectBelow, PhiBelow, ValueBelow, InstructionBelow, TerminalBelow, BlockBelow, SheetBelow}
 use Rattle.model.proofs.ReadLaws.{Reads, pure-reads, pick-reads, both-reads, bind-reads, then-reads, atMost-reads, below-reads, numbered-reads, counted-reads, counted-length}
 
 pub place-reads : (n : ℕ) → Reads (place n) (PlaceBelow n)
@@ -69,48 +69,83 @@ phi-reads n =
     (λ k. bind-reads (numbered k [] (operand n)) _ (Every (λ (o : Operand). PlaceBelow n (o .place))) (PhiBelow n) (numbered-reads _ k [] (operand n) (operand-reads n))
     (λ l q. pure-reads _ (PhiBelow n) (h, q))))
 
-abbrev InstructionBelow : ℕ → ℕ → Instruction → Type 0
-InstructionBelow n m i = Every (EffectBelow n m) (i .effects)
+list-reads : (n most : ℕ) → Reads (counted most (place n)) (PlacesBelow n)
+list-reads n most = counted-reads (PlaceBelow n) most (place n) (place-reads n)
+
+value-by : (n m w : ℕ) → Reads (valueBy n m w) (ValueBelow n m)
+value-by n m zero = pure-reads Plain (ValueBelow n m) tt
+value-by n m (suc zero) = bind-reads (below m) _ (λ (k : ℕ). k < m) (ValueBelow n m) (below-reads m) (λ k h. pure-reads (Function k) (ValueBelow n m) h)
+value-by n m (suc (suc w)) = bind-reads (below n) _ (λ (x : ℕ). x < n) (ValueBelow n m) (below-reads n) (λ x h. pure-reads (StoreContext x) (ValueBelow n m) h)
+
+value-reads : (n m : ℕ) → Reads (instructionValue n m) (ValueBelow n m)
+unfolding instructionValue
+value-reads n m = then-reads (atMost mostValue) _ (ValueBelow n m) (value-by n m)
 
 instruction-reads : (n m : ℕ) → 0 < n → Reads (instruction n m) (InstructionBelow n m)
 unfolding instruction
 instruction-reads n m h =
-    then-reads (atMost mostOrder) _ (InstructionBelow n m)
-    (λ o. bind-reads (effects n m) _ (Every (EffectBelow n m)) (InstructionBelow n m) (effects-reads n m h) (λ l q. pure-reads _ (InstructionBelow n m) q))
+    bind-reads (atMost mostOrder) _ (λ (o : ℕ). o ≤ mostOrder) (InstructionBelow n m) (atMost-reads mostOrder)
+    (λ o ho. bind-reads (place n) _ (PlaceBelow n) (InstructionBelow n m) (place-reads n)
+    (λ p hp. bind-reads (counted mostLvalues (place n)) _ (PlacesBelow n) (InstructionBelow n m) (list-reads n mostLvalues)
+    (λ ls hl. bind-reads (counted mostOperands (place n)) _ (PlacesBelow n) (InstructionBelow n m) (list-reads n mostOperands)
+    (λ ps hs. bind-reads (instructionValue n m) _ (ValueBelow n m) (InstructionBelow n m) (value-reads n m)
+    (λ v hv. bind-reads (effects n m) _ (Every (EffectBelow n m)) (InstructionBelow n m) (effects-reads n m h)
+    (λ l q. pure-reads _ (InstructionBelow n m) (record { order = ho; lvalue = hp; valueLvalues = hl; operands = hs; value = hv; effects = q })))))))
 
-terminalOf-reads : (n m : ℕ) → 0 < n → (k o : ℕ) → Reads (terminalOf n m k o) (TerminalBelow n m)
+-- a terminal with what it names, and its order
+abbrev TerminalKnown : ℕ → ℕ → Terminal → Type 0
+TerminalKnown n m t = TerminalBelow n m t × (orderOf t ≤ mostOrder)
+
+terminalOf-reads : (n m : ℕ) → 0 < n → (k o : ℕ) → o ≤ mostOrder → Reads (terminalOf n m k o) (TerminalKnown n m)
 unfolding terminalOf
-terminalOf-reads n m h zero o = pure-reads (Other o) (TerminalBelow n m) tt
-terminalOf-reads n m h (suc zero) o =
-    bind-reads (place n) _ (PlaceBelow n) (TerminalBelow n m) (place-reads n)
-    (λ p hp. bind-reads (effects n m) _ (Every (EffectBelow n m)) (TerminalBelow n m) (effects-reads n m h) (λ l q. pure-reads (Return o p l) (TerminalBelow n m) (hp, q)))
-terminalOf-reads n m h (suc (suc k)) o =
-    bind-reads (effects n m) _ (Every (EffectBelow n m)) (TerminalBelow n m) (effects-reads n m h) (λ l q. pure-reads (MaybeThrow o l) (TerminalBelow n m) q)
+terminalOf-reads n m h zero o ho =
+    bind-reads (counted mostOperands (place n)) _ (PlacesBelow n) (TerminalKnown n m) (list-reads n mostOperands) (λ ps q. pure-reads (Other o ps) (TerminalKnown n m) (q, ho))
+terminalOf-reads n m h (suc zero) o ho =
+    bind-reads (place n) _ (PlaceBelow n) (TerminalKnown n m) (place-reads n)
+    (λ p hp. bind-reads (effects n m) _ (Every (EffectBelow n m)) (TerminalKnown n m) (effects-reads n m h)
+    (λ l q. then-reads (fixed noOperands) _ (TerminalKnown n m) (λ k. pure-reads (Return o p l) (TerminalKnown n m) ((hp, q), ho))))
+terminalOf-reads n m h (suc (suc k)) o ho =
+    bind-reads (effects n m) _ (Every (EffectBelow n m)) (TerminalKnown n m) (effects-reads n m h)
+    (λ l q. then-reads (fixed noOperands) _ (TerminalKnown n m) (λ j. pure-reads (MaybeThrow o l) (TerminalKnown n m) (q, ho)))
 
-terminal-reads : (n m : ℕ) → 0 < n → Reads (terminal n m) (TerminalBelow n m)
+terminal-reads : (n m : ℕ) → 0 < n → Reads (terminal n m) (TerminalKnown n m)
 unfolding terminal
 terminal-reads n m h =
-    then-reads (atMost mostTerminal) _ (TerminalBelow n m) (λ k. then-reads (atMost mostOrder) _ (TerminalBelow n m) (λ o. terminalOf-reads n m h k o))
+    then-reads (atMost mostTerminal) _ (TerminalKnown n m)
+    (λ k. bind-reads (atMost mostOrder) _ (λ (o : ℕ). o ≤ mostOrder) (TerminalKnown n m) (atMost-reads mostOrder) (λ o ho. terminalOf-reads n m h k o ho))
+
+-- a section of places, its count within the limit
+places-reads : (most n : ℕ) → Reads (counted most (place n)) (λ (l : List Place). Every (PlaceBelow n) l × (length l ≤ most))
+places-reads most n =
+    both-reads (counted most (place n)) (Every (PlaceBelow n)) (λ (l : List Place). length l ≤ most) (list-reads n most) (counted-length most (place n))
+
+function-reads : (n : ℕ) → Reads (innerFunction n) (FunctionBelow n)
+unfolding innerFunction
+function-reads n =
+    then-reads (counted mostInnerDiagnostics diagnostic) _ (FunctionBelow n)
+    (λ l. bind-reads (counted mostInnerContext (place n)) _ (λ (cs : List Place). PlacesBelow n cs × (length cs ≤ mostInnerContext)) (FunctionBelow n) (places-reads mostInnerContext n)
+    (λ cs h. pure-reads _ (FunctionBelow n) h))
 
 block-reads : (n m : ℕ) → 0 < n → (b : BlockId) → Reads (block n m b) (BlockBelow n m)
 unfolding block
 block-reads n m h b =
     bind-reads (counted mostCount (phi n)) _ (Every (PhiBelow n)) (BlockBelow n m) (counted-reads (PhiBelow n) mostCount (phi n) (phi-reads n))
     (λ ps hp. bind-reads (counted mostCount (instruction n m)) _ (Every (InstructionBelow n m)) (BlockBelow n m) (counted-reads (InstructionBelow n m) mostCount (instruction n m) (instruction-reads n m h))
-    (λ is hi. bind-reads (terminal n m) _ (TerminalBelow n m) (BlockBelow n m) (terminal-reads n m h)
+    (λ is hi. bind-reads (terminal n m) _ (TerminalKnown n m) (BlockBelow n m) (terminal-reads n m h)
     (λ t ht. pure-reads _ (BlockBelow n m) (hp, hi, ht))))
 
--- a section of places, its count within the limit
-places-reads : (most n : ℕ) → Reads (counted most (place n)) (λ (l : List Place). Every (PlaceBelow n) l × (length l ≤ most))
-places-reads most n =
-    both-reads (counted most (place n)) (Every (PlaceBelow n)) (λ (l : List Place). length l ≤ most) (counted-reads (PlaceBelow n) most (place n) (place-reads n)) (counted-length most (place n))
+-- the inner functions, their count within the limit
+functions-reads : (n : ℕ) → Reads (counted mostFunctions (innerFunction n)) (λ (l : List InnerFunction). Every (FunctionBelow n) l × (length l ≤ mostFunctions))
+functions-reads n =
+    both-reads (counted mostFunctions (innerFunction n)) (Every (FunctionBelow n)) (λ (l : List InnerFunction). length l ≤ mostFunctions)
+    (counted-reads (FunctionBelow n) mostFunctions (innerFunction n) (function-reads n)) (counted-length mostFunctions (innerFunction n))
 
 pub sheet-reads : Reads sheet SheetBelow
 unfolding sheet
 sheet-reads =
     then-reads flags _ SheetBelow
     (λ fs. bind-reads (counted mostIdentifiers identifier) _ (λ (l : List Identifier). length l ≤ mostIdentifiers) SheetBelow (counted-length mostIdentifiers identifier)
-    (λ ids hn. bind-reads (counted mostFunctions innerFunction) _ (λ (l : List InnerFunction). length l ≤ mostFunctions) SheetBelow (counted-length mostFunctions innerFunction)
+    (λ ids hn. bind-reads (counted mostFunctions (innerFunction (length ids))) _ (λ (l : List InnerFunction). Every (FunctionBelow (length ids)) l × (length l ≤ mostFunctions)) SheetBelow (functions-reads (length ids))
     (λ inner hm. bind-reads (counted mostParams (place (length ids))) _ (λ (l : List Place). Every (PlaceBelow (length ids)) l × (length l ≤ mostParams)) SheetBelow (places-reads mostParams (length ids))
     (λ ps hp. bind-reads (counted mostContext (place (length ids))) _ (λ (l : List Place). Every (PlaceBelow (length ids)) l × (length l ≤ mostContext)) SheetBelow (places-reads mostContext (length ids))
     (λ cs hc. then-reads (fixed returnsCount) _ SheetBelow
@@ -120,7 +155,8 @@ sheet-reads =
     (numbered-reads (BlockBelow (length ids) (length inner)) b [] (block (length ids) (length inner)) (block-reads (length ids) (length inner) (omega (arith, hr))))
     (λ bs hb. pure-reads _ SheetBelow (record {
       identifiers = hn;
-      functions = hm;
+      functionCount = hm .1;
+      functions = hm .0;
       paramCount = hp .1;
       contextCount = hc .1;
       params = hp .0;

@@ -1,11 +1,10 @@
 -- How many words a section, a sheet and an answer have, and how many records each section of a sheet's answer has, or has at most.
 use Prim.Native.Nat.{ℕ, _+_, _*_, _≤_}
 use native.Mathlib.Omega.{arith}
-use mathlib.Core.Path.{_≡_, refl, sym, ap, _∙_}
+use mathlib.Core.Path.{_≡_, refl}
 use mathlib.Core.List.{List, [], _∷_, _++_}
 use mathlib.Core.Option.{Option, none, some}
 use lib.ListN.{length, length-append, length-map}
-use lib.Seq.{length-take-le}
 use Rattle.model.specs.Limits.{flagsWidth, returnsCount, identifierWidth, placeWidth, diagnosticWidth, effectWidth}
 use Rattle.model.specs.Lists.{gather, Every}
 use Rattle.model.specs.Sheet.{Place, Effect, Block, Sheet}
@@ -14,17 +13,15 @@ use Rattle.model.specs.Mutation.{Mutation}
 use Rattle.model.specs.Building.{build}
 use Rattle.model.specs.State.{Info, State, Mode, real}
 use Rattle.model.specs.Walks.{Walk, mutate}
-use Rattle.model.specs.Runs.{walksOf, after}
+use Rattle.model.specs.Runs.{walksOf}
 use Rattle.model.specs.Summary.{errors, built, realWalks, afterRenders, copied, recordOf, localEffects, transitiveEffects, collectParamEffects, createReturns}
 use Rattle.model.specs.Simulated.{simulate}
-use Rattle.model.specs.Answer.{Range, Answer, rangeWords, placeWords, diagnosticWords, effectWords, countWords, section, summary, answer, answerWords}
+use Rattle.model.specs.Answer.{Answer, rangeWords, placeWords, diagnosticWords, effectWords, countWords, section, summary, answer, middleWords, operandWords, answerWords}
 use Rattle.model.specs.Encoder.{identifierWords, functionWords, phiWords, instructionWords, terminalWords, blockWords, sheetWords}
-use Rattle.model.specs.Demand3.{how}
 use Rattle.model.proofs.Everywhere.{every-of}
 use Rattle.model.proofs.Tallies.{tally-each, tally-most, gather-tally}
 use Rattle.model.proofs.Counted.{build-mutations}
 use Rattle.model.proofs.Flows.{simulate-walks, simulate-effects}
-use Rattle.model.proofs.Demand3.{answer-ends, last-length}
 
 module _ {A : Type 0} (w : A → List ℕ) (k : ℕ) where
   -- records that all have k words
@@ -66,11 +63,20 @@ block-words b =
     let i : List ℕ = section instructionWords (b .instructions) in
     omega (arith, length-append p (i ++ terminalWords (b .terminal)), length-append i (terminalWords (b .terminal)))
 
+-- the places of the four sections of the pass
+abbrev pub passPlaces : Answer → ℕ
+passPlaces a = length (a .phis) + length (a .instructions) + length (a .terminals) + length (a .inner)
+
 -- the words of an answer by the records of its sections
 pub answer-words : (a : Answer)
-    → length (answerWords a) ≡ 6 + 2 * length (a .ranges) + placeWidth * (length (a .params) + length (a .context)) + diagnosticWidth * length (a .diagnostics) + effectWidth * length (a .effects) + length (a .walks)
-unfolding answerWords
+    → length (answerWords a)
+    ≡ 10 + 2 * length (a .ranges) + placeWidth * (length (a .params) + length (a .context)) + diagnosticWidth * length (a .diagnostics) + effectWidth * length (a .effects) + length (a .walks) + placeWidth * passPlaces a
+unfolding answerWords middleWords operandWords
 answer-words a =
+    let w₉ : List ℕ = section placeWords (a .inner) in
+    let w₈ : List ℕ = section placeWords (a .terminals) in
+    let w₇ : List ℕ = section placeWords (a .instructions) in
+    let w₀ : List ℕ = section placeWords (a .phis) in
     let w₆ : List ℕ = section countWords (a .walks) in
     let w₅ : List ℕ = section effectWords (a .effects) in
     let w₄ : List ℕ = section diagnosticWords (a .diagnostics) in
@@ -79,17 +85,25 @@ answer-words a =
     let w₁ : List ℕ = section rangeWords (a .ranges) in
     omega (
       arith,
-      length-append w₁ (w₂ ++ (w₃ ++ (w₄ ++ (w₅ ++ w₆)))),
+      length-append w₁ ((w₂ ++ (w₃ ++ (w₄ ++ (w₅ ++ w₆)))) ++ (w₀ ++ (w₇ ++ (w₈ ++ w₉)))),
+      length-append (w₂ ++ (w₃ ++ (w₄ ++ (w₅ ++ w₆)))) (w₀ ++ (w₇ ++ (w₈ ++ w₉))),
       length-append w₂ (w₃ ++ (w₄ ++ (w₅ ++ w₆))),
       length-append w₃ (w₄ ++ (w₅ ++ w₆)),
       length-append w₄ (w₅ ++ w₆),
       length-append w₅ w₆,
+      length-append w₀ (w₇ ++ (w₈ ++ w₉)),
+      length-append w₇ (w₈ ++ w₉),
+      length-append w₈ w₉,
       section-length rangeWords 2 (λ r. refl) (a .ranges),
       section-length placeWords placeWidth (λ p. refl) (a .params),
       section-length placeWords placeWidth (λ p. refl) (a .context),
       section-length diagnosticWords diagnosticWidth (λ d. refl) (a .diagnostics),
       section-length effectWords effectWidth (λ e. refl) (a .effects),
       section-length countWords 1 (λ k. refl) (a .walks),
+      section-length placeWords placeWidth (λ p. refl) (a .phis),
+      section-length placeWords placeWidth (λ p. refl) (a .instructions),
+      section-length placeWords placeWidth (λ p. refl) (a .terminals),
+      section-length placeWords placeWidth (λ p. refl) (a .inner),
     )
 
 -- at most two effects of a place's record
@@ -117,12 +131,6 @@ walks-length t [] s = refl
 walks-length t (m ∷ ms) s = omega (arith, walks-length t ms (mutate t m s .state))
 
 module _ (s : Sheet) where
-  -- a range for each identifier
-  pub answer-ranges : length (answer s .ranges) ≡ length (s .identifiers)
-  answer-ranges =
-      sym (length-map (answer s .ranges) (λ (r : Range). r .end)) ∙ ap (λ (l : List ℕ). length l) (answer-ends s)
-      ∙ length-take-le (length (s .identifiers)) (after (how s) (build s .mutations) (built s) .ends) (last-length s)
-
   -- what is copied, two for each parameter and context place, Create, and those of the simulated walks
   pub answer-effects : length (summary s)
       ≤ length (copied s) + 2 * (length (s .params) + length (s .context)) + 1 + (length (s .params) + length (s .context)) * (length (s .params) + length (s .context))

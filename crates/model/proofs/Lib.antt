@@ -1,6 +1,7 @@
 -- The theorems about the definitions, and the laws behind them.
 -- the tables of cases and the order of the refusals
 pub mod BenchTable
+pub mod OperandCases
 pub mod AllRefusals
 -- one walk: an induction principle, and what it gives
 pub mod Induct
@@ -50,6 +51,14 @@ pub mod NodeAssertion
 pub mod IndexesBelow
 pub mod Quiet
 pub mod Demand3
+-- the pass over operands
+pub mod PassRanges
+pub mod EndMoves
+pub mod EndAlone
+pub mod EndsSet
+pub mod SecondProperty
+pub mod PassLengths
+-- the call
 pub mod Buffers
 pub mod CallEnds
 -- what the call builds on: renders and simulated walks, one after another

@@ -1,24 +1,25 @@
 -- Every class load within its bounds is read as its sheet and accepted, and its answer is short.
 use Prim.Native.Nat.{ℕ, _+_, _≤_, _<_}
 use native.Mathlib.Omega.{arith}
-use mathlib.Core.Path.{_≡_, refl, sym, ap, subst}
+use mathlib.Core.Path.{_≡_, refl, sym, ap, subst, _∙_}
 use mathlib.Core.Bool.{Bool, true, false, _||_, _&&_}
-use mathlib.Core.List.{List, [], _∷_}
+use mathlib.Core.List.{List, [], _∷_, append-nil}
 use lib.ListN.{length, replicate, length-append, length-replicate}
 use lib.Dec.{leb}
 use borrow.Author.Tests.{leb-true}
-use Rattle.model.specs.Limits.{leastWorkspace, mostSheet, mostIdentifiers, leastLoadIdentifiers, leastLoadEffects, mostLoadEffects, effectWidth}
-use Rattle.model.specs.Lists.{gather, tally, oneIf, Every}
-use Rattle.model.specs.Sheet.{Diagnostic, Effect, Instruction, Block, Sheet}
-use Rattle.model.specs.Effects.{Role, rowOf, isRelation, isMutation, isRender, isDiagnosis}
+use Rattle.model.specs.Limits.{leastWorkspace, mostSheet, mostIdentifiers, leastLoadIdentifiers, leastLoadEffects, mostLoadEffects}
+use Rattle.model.specs.Lists.{gather, each, tally, oneIf, Every}
+use Rattle.model.specs.Sheet.{Diagnostic, Place, Effect, Instruction, Other, Block, Sheet}
+use Rattle.model.specs.Effects.{Role, rowOf, isRelation, isMutation, isRender, isDiagnosis, isApply, anyApply}
 use Rattle.model.specs.Totals.{instructionEffects, withRole, blockRelations, totals, over}
 use Rattle.model.specs.Summary.{copied, recorded}
 use Rattle.model.specs.Simulated.{simulate}
 use Rattle.model.specs.Answer.{functionErrors, diagnosed, answer, answerWords}
-use Rattle.model.specs.Call.{accepted, outcome}
+use Rattle.model.specs.Call.{accepted, applies, outcome}
 use Rattle.model.specs.Encoder.{instructionWords, blockWords, sheetWords, IdentifierFits, InstructionFits, BlockFits, SheetFits}
-use Rattle.model.specs.Load.{drawEffect, loadInstructions, loadBlock, loadIdentifier, classLoad, loadable}
-use Rattle.model.specs.LoadAccepted.{loadLength, mostLoadAnswer, LoadAccepted}
+use Rattle.model.specs.Operands.{Pass, firstOrder, phisMarked, phis, instruction, terminalPlaces, terminal, block, beforePass, afterPass}
+use Rattle.model.specs.Load.{drawEffect, loadInstruction, loadInstructions, loadBlock, loadIdentifier, classLoad, loadable}
+use Rattle.model.specs.LoadAccepted.{loadInstructionWidth, loadLength, mostLoadAnswer, LoadAccepted}
 use Rattle.model.proofs.Either.{and-left, and-right}
 use Rattle.model.proofs.Everywhere.{every-mem, every-replicate, every-gather}
 use Rattle.model.proofs.Gathers.{gather-none}
@@ -26,8 +27,10 @@ use Rattle.model.proofs.Tallies.{tally-each, role-most, keep-none}
 use Rattle.model.proofs.WhenRead.{few-not-over}
 use Rattle.model.proofs.AllRefusals.{then-accepted}
 use Rattle.model.proofs.Encoder.{reads-back, accepts-words}
-use Rattle.model.proofs.Lengths.{section-each, sheet-words, block-words, answer-words, answer-ranges, answer-effects, answer-walks}
-use Rattle.model.proofs.Drawn.{effect-drawn, drawn-fits, drawn-not-copied, NotCopied, instructions-length, each-instruction}
+use Rattle.model.proofs.Lengths.{section-each, sheet-words, block-words, answer-words, answer-effects, answer-walks}
+use Rattle.model.proofs.SecondProperty.{answer-ranges}
+use Rattle.model.proofs.PassLengths.{placeCount, instructions-added}
+use Rattle.model.proofs.Drawn.{effect-drawn, drawn-fits, drawn-not-copied, drawn-not-apply, NotCopied, instructions-length, each-instruction}
 
 -- ---- the bounds
 -- "n identifiers (2 to 512) and m effects (1 to 512)"
@@ -51,6 +54,9 @@ load-bounds n m h =
       effects = leb-true m mostLoadEffects (and-right (leb leastLoadEffects m) (leb m mostLoadEffects) e);
     }
 
+abbrev NotApply : Effect → Type 0
+NotApply e = isApply (e .kind) ≡ false
+
 module _ (seed n m : ℕ) (h : Loadable n m) where
   some : 0 < n
   some = omega (arith, h .someIdentifiers)
@@ -59,9 +65,15 @@ module _ (seed n m : ℕ) (h : Loadable n m) where
   instructions = loadInstructions n 1 m seed
 
   -- ---- the sheet
-  instruction-fits : (o state : ℕ) → o ≤ m → InstructionFits n 0 (record { order = o; effects = drawEffect n state .effect ∷ [] })
-  instruction-fits o state k =
-      (omega (arith, k, h .effects), (omega arith, (drawn-fits n (drawEffect n state .effect) (effect-drawn n some state), tt)))
+  instruction-fits : (o state : ℕ) → o ≤ m → InstructionFits n 0 (loadInstruction o (drawEffect n state .effect))
+  instruction-fits o state k = record {
+    order = omega (arith, k, h .effects);
+    lvalue = (some, omega arith);
+    valueLvalues = (omega arith, tt);
+    operands = (omega arith, tt);
+    value = tt;
+    effects = (omega arith, (drawn-fits n (drawEffect n state .effect) (effect-drawn n some state), tt));
+  }
 
   block-fits : BlockFits n 0 (loadBlock seed n m)
   block-fits = record {
@@ -70,7 +82,7 @@ module _ (seed n m : ℕ) (h : Loadable n m) where
     phis = tt;
     instructionCount = omega (arith, instructions-length n 1 m seed, h .effects);
     instructions = each-instruction n m (InstructionFits n 0) instruction-fits m 1 seed (omega arith);
-    terminal = omega (arith, h .effects);
+    terminal = (omega (arith, h .effects), (omega arith, tt));
   }
 
   pub load-fits : SheetFits (classLoad seed n m)
@@ -93,8 +105,8 @@ module _ (seed n m : ℕ) (h : Loadable n m) where
       }
 
   -- ---- its length
-  instruction-words : Every (λ (i : Instruction). length (instructionWords i) ≡ 2 + effectWidth) instructions
-  instruction-words = each-instruction n m (λ (i : Instruction). length (instructionWords i) ≡ 2 + effectWidth) (λ o state k. refl) m 1 seed (omega arith)
+  instruction-words : Every (λ (i : Instruction). length (instructionWords i) ≡ loadInstructionWidth) instructions
+  instruction-words = each-instruction n m (λ (i : Instruction). length (instructionWords i) ≡ loadInstructionWidth) (λ o state k. refl) m 1 seed (omega arith)
 
   pub load-length : length (sheetWords (classLoad seed n m)) ≡ loadLength n m
   unfolding classLoad
@@ -105,7 +117,7 @@ module _ (seed n m : ℕ) (h : Loadable n m) where
         length-replicate n loadIdentifier,
         length-append (blockWords (loadBlock seed n m)) [],
         block-words (loadBlock seed n m),
-        section-each instructionWords (2 + effectWidth) instructions instruction-words,
+        section-each instructionWords loadInstructionWidth instructions instruction-words,
         instructions-length n 1 m seed,
       )
 
@@ -163,6 +175,24 @@ module _ (seed n m : ℕ) (h : Loadable n m) where
       rw (keep-none (λ (e : Effect). isDiagnosis (rowOf (e .kind) .role)) effects (every-mem NotCopied _ effects (λ e i r. r .0) none-copied))
       (gather-none (functionErrors []) (λ k. refl) (simulate (classLoad seed n m) .state .handed))
 
+  -- ---- the pass over operands
+  one-place : tally placeCount instructions ≡ m
+  one-place = omega (arith, tally-each placeCount 1 instructions (each-instruction n m (λ (i : Instruction). placeCount i ≡ 1) (λ o state k. refl) m 1 seed (omega arith)), instructions-length n 1 m seed)
+
+  abbrev passed : Pass
+  passed = afterPass (classLoad seed n m)
+
+  load-places : (length (passed .instructions) ≡ m) × ((passed .phis ≡ []) × ((passed .terminals ≡ []) × (length (passed .contexts) ≡ 0)))
+  unfolding afterPass beforePass classLoad block phis phisMarked terminal terminalPlaces
+  load-places =
+      let before : Pass = phis (firstOrder instructions (Other (m + 1) [])) [] (beforePass (classLoad seed n m)) in
+      let a = instructions-added [] instructions before in
+      (omega (arith, a .instructions, one-place), (a .phis, (append-nil (each (instruction []) instructions before .terminals) ∙ a .terminals, a .contexts)))
+
+  no-inner : (cs : List (List Place)) → length cs ≡ 0 → length (gather (λ (l : List Place). l) cs) ≡ 0
+  no-inner [] e = refl
+  no-inner (c ∷ cs) e = absurd (omega (arith, e))
+
   pub load-answer : length (answerWords (answer (classLoad seed n m))) ≤ mostLoadAnswer n m
   unfolding answer classLoad
   load-answer =
@@ -177,7 +207,24 @@ module _ (seed n m : ℕ) (h : Loadable n m) where
         ap (λ (l : List Effect). length l) nothing-copied,
         answer-walks s,
         few-mutations,
+        load-places .0,
+        ap (λ (l : List Place). length l) (load-places .1 .0),
+        ap (λ (l : List Place). length l) (load-places .1 .1 .0),
+        no-inner (passed .contexts) (load-places .1 .1 .1),
       )
+
+  -- no Apply
+  no-apply : applies (classLoad seed n m) ≡ false
+  unfolding applies instructionEffects classLoad
+  no-apply =
+      let each = each-instruction n m (λ (i : Instruction). Every NotApply (i .effects)) (λ o state k. (drawn-not-apply n (drawEffect n state .effect) (effect-drawn n some state), tt)) m 1 seed (omega arith) in
+      none (instructionEffects (classLoad seed n m))
+      (every-gather (λ (b : Block). gather (λ (i : Instruction). i .effects) (b .instructions)) NotApply (loadBlock seed n m ∷ [])
+      (every-gather (λ (i : Instruction). i .effects) NotApply instructions each, tt))
+    where
+      none : (l : List Effect) → Every NotApply l → anyApply l ≡ false
+      none [] k = refl
+      none (e ∷ l) k = rw (k .0, none l (k .1))
 
   -- ---- the calls
   call-accepted : (workspace room : ℕ) → leastWorkspace ≤ workspace → length (answerWords (answer (classLoad seed n m))) ≤ room
@@ -185,7 +232,7 @@ module _ (seed n m : ℕ) (h : Loadable n m) where
   call-accepted workspace room w r =
       let s : Sheet = classLoad seed n m in
       let ws : List ℕ = sheetWords s in
-      then-accepted ws workspace room w load-short s (length ws) (reads-back s load-fits) (omega arith) load-not-over r
+      then-accepted ws workspace room w load-short s (length ws) (reads-back s load-fits) (omega arith) load-not-over no-apply r
 
   within-bounds : LoadAccepted seed n m
   within-bounds = record {

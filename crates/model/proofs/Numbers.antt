@@ -13,7 +13,7 @@ use Rattle.model.specs.Reading.{Position, Result, got, refused}
 use Rattle.model.specs.Sections.{sheet}
 use Rattle.model.specs.Totals.{totals, over, judged}
 use Rattle.model.specs.Answer.{answer, answerWords}
-use Rattle.model.specs.Call.{Outcome, refusal, accepted, ended, read, fits, answered, admit, outcome, numberOf}
+use Rattle.model.specs.Call.{applies, Outcome, refusal, accepted, ended, read, fits, answered, admit, outcome, numberOf}
 use Rattle.model.specs.Numbers.{IsNumber, FromReading, Numbered}
 use Rattle.model.proofs.Refusing.{sheet-refuses}
 
@@ -57,11 +57,12 @@ read-numbered ws = go (ltb mostSheet (length ws))
 
 answered-numbered : (room : ℕ) (r : Result Sheet) → NumberedRead r → Numbered (answered room r)
 unfolding answered fits
-answered-numbered room (got s c) h = go (ltb room (length (answerWords (answer s))))
+answered-numbered room (got s c) h = go (applies s) (ltb room (length (answerWords (answer s))))
   where
-    go : (b : Bool) → Numbered (pick b (refusal 9) (accepted (answerWords (answer s))))
-    go true = (omega arith, omega arith)
-    go false = tt
+    go : (a b : Bool) → Numbered (pick a (refusal 10) (pick b (refusal 9) (accepted (answerWords (answer s)))))
+    go true b = (omega arith, omega arith)
+    go false true = (omega arith, omega arith)
+    go false false = tt
 answered-numbered room (refused k) h = h
 
 admit-numbered : (ws : List ℕ) (workspace : ℕ) → NumberedRead (admit ws workspace)

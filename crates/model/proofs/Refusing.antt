@@ -5,12 +5,12 @@ use mathlib.Core.Bool.{Bool, true, false, true≢false}
 use mathlib.Core.List.{List, [], _∷_}
 use lib.ListN.{length, getD}
 use lib.Dec.{ltb, leb, eqb}
-use Rattle.model.specs.Limits.{flagCount, mostFlag, mostIdentifiers, mostRange, mostType, mostFunctions, mostInnerDiagnostics, mostDiagnostic, mostParams, mostContext, returnsCount, mostBlocks, mostBlockNumber, mostCount, mostOrder, mostTerminal, mostTraits, mostKind}
+use Rattle.model.specs.Limits.{flagCount, mostFlag, mostIdentifiers, mostRange, mostType, mostFunctions, mostInnerDiagnostics, mostInnerContext, mostDiagnostic, mostParams, mostContext, returnsCount, mostBlocks, mostBlockNumber, mostCount, mostOrder, mostLvalues, mostOperands, noOperands, mostValue, mostTerminal, mostTraits, mostKind}
 use Rattle.model.specs.Lists.{pick, among}
 use Rattle.model.specs.Sheet.{BlockId, EffectKind}
 use Rattle.model.specs.Effects.{kindOf, rowOf, isCreateFunction}
 use Rattle.model.specs.Reading.{Position, Result, got, refused, Read, andThen, _>>=_, pure, refuse, word, count, fixed, atMost, below, newNumber, times, numbered, counted}
-use Rattle.model.specs.Sections.{flag, flags, identifier, diagnostic, innerFunction, place, unused, extra, effect, effects, operand, phi, instruction, terminalOf, terminal, block, sheet}
+use Rattle.model.specs.Sections.{flag, flags, identifier, diagnostic, innerFunction, place, unused, extra, effect, effects, operand, phi, valueBy, instructionValue, instruction, terminalOf, terminal, block, sheet}
 use Rattle.model.proofs.ReadLaws.{isGot}
 
 -- the number of a refusal, and of none
@@ -112,16 +112,20 @@ module _ (P : ℕ → Type 0) where
     unfolding diagnostic
     diagnostic-refuses = bind-refuses (atMost mostDiagnostic) _ (atMost-refuses mostDiagnostic) (λ i. bind-refuses (atMost mostDiagnostic) _ (atMost-refuses mostDiagnostic) (λ k. pure-refuses _))
 
-    innerFunction-refuses : Refuses P innerFunction
-    unfolding innerFunction
-    innerFunction-refuses =
-        bind-refuses (counted mostInnerDiagnostics diagnostic) _ (counted-refuses mostInnerDiagnostics diagnostic diagnostic-refuses) (λ l. pure-refuses _)
-
     place-refuses : (n : ℕ) → Refuses P (place n)
     unfolding place
     place-refuses n =
         bind-refuses (below n) _ (below-refuses n)
         (λ i. bind-refuses (atMost mostTraits) _ (atMost-refuses mostTraits) (λ t. bind-refuses word _ word-refuses (λ s. pure-refuses _)))
+
+    places-refuses : (most n : ℕ) → Refuses P (counted most (place n))
+    places-refuses most n = counted-refuses most (place n) (place-refuses n)
+
+    innerFunction-refuses : (n : ℕ) → Refuses P (innerFunction n)
+    unfolding innerFunction
+    innerFunction-refuses n =
+        bind-refuses (counted mostInnerDiagnostics diagnostic) _ (counted-refuses mostInnerDiagnostics diagnostic diagnostic-refuses)
+        (λ l. bind-refuses (counted mostInnerContext (place n)) _ (places-refuses mostInnerContext n) (λ cs. pure-refuses _))
 
     unused-refuses : (instance : ℕ) → Refuses P (unused instance)
     unfolding unused
@@ -151,15 +155,31 @@ module _ (P : ℕ → Type 0) where
         (λ p. bind-refuses (count mostCount) _ (count-refuses mostCount)
         (λ k. bind-refuses (numbered k [] (operand n)) _ (numbered-refuses k [] (operand n) (λ b. bind-refuses (place n) _ (place-refuses n) (λ q. pure-refuses _))) (λ l. pure-refuses _)))
 
+    value-by : (n m w : ℕ) → Refuses P (valueBy n m w)
+    value-by n m zero = pure-refuses _
+    value-by n m (suc zero) = bind-refuses (below m) _ (below-refuses m) (λ k. pure-refuses _)
+    value-by n m (suc (suc w)) = bind-refuses (below n) _ (below-refuses n) (λ x. pure-refuses _)
+
+    value-refuses : (n m : ℕ) → Refuses P (instructionValue n m)
+    unfolding instructionValue
+    value-refuses n m = bind-refuses (atMost mostValue) _ (atMost-refuses mostValue) (value-by n m)
+
     instruction-refuses : (n m : ℕ) → Refuses P (instruction n m)
     unfolding instruction
-    instruction-refuses n m = bind-refuses (atMost mostOrder) _ (atMost-refuses mostOrder) (λ o. bind-refuses (effects n m) _ (effects-refuses n m) (λ l. pure-refuses _))
+    instruction-refuses n m =
+        bind-refuses (atMost mostOrder) _ (atMost-refuses mostOrder)
+        (λ o. bind-refuses (place n) _ (place-refuses n)
+        (λ p. bind-refuses (counted mostLvalues (place n)) _ (places-refuses mostLvalues n)
+        (λ ls. bind-refuses (counted mostOperands (place n)) _ (places-refuses mostOperands n)
+        (λ ps. bind-refuses (instructionValue n m) _ (value-refuses n m) (λ v. bind-refuses (effects n m) _ (effects-refuses n m) (λ l. pure-refuses _))))))
 
     terminalOf-refuses : (n m k o : ℕ) → Refuses P (terminalOf n m k o)
     unfolding terminalOf
-    terminalOf-refuses n m zero o = pure-refuses _
-    terminalOf-refuses n m (suc zero) o = bind-refuses (place n) _ (place-refuses n) (λ p. bind-refuses (effects n m) _ (effects-refuses n m) (λ l. pure-refuses _))
-    terminalOf-refuses n m (suc (suc k)) o = bind-refuses (effects n m) _ (effects-refuses n m) (λ l. pure-refuses _)
+    terminalOf-refuses n m zero o = bind-refuses (counted mostOperands (place n)) _ (places-refuses mostOperands n) (λ ps. pure-refuses _)
+    terminalOf-refuses n m (suc zero) o =
+        bind-refuses (place n) _ (place-refuses n)
+        (λ p. bind-refuses (effects n m) _ (effects-refuses n m) (λ l. bind-refuses (fixed noOperands) _ (fixed-refuses noOperands) (λ k. pure-refuses _)))
+    terminalOf-refuses n m (suc (suc k)) o = bind-refuses (effects n m) _ (effects-refuses n m) (λ l. bind-refuses (fixed noOperands) _ (fixed-refuses noOperands) (λ j. pure-refuses _))
 
     terminal-refuses : (n m : ℕ) → Refuses P (terminal n m)
     unfolding terminal
@@ -179,9 +199,9 @@ module _ (P : ℕ → Type 0) where
     sheet-refuses =
         bind-refuses flags _ flags-refuses
         (λ fs. bind-refuses (counted mostIdentifiers identifier) _ (counted-refuses mostIdentifiers identifier identifier-refuses)
-        (λ ids. bind-refuses (counted mostFunctions innerFunction) _ (counted-refuses mostFunctions innerFunction innerFunction-refuses)
-        (λ inner. bind-refuses (counted mostParams (place (length ids))) _ (counted-refuses mostParams (place (length ids)) (place-refuses (length ids)))
-        (λ ps. bind-refuses (counted mostContext (place (length ids))) _ (counted-refuses mostContext (place (length ids)) (place-refuses (length ids)))
+        (λ ids. bind-refuses (counted mostFunctions (innerFunction (length ids))) _ (counted-refuses mostFunctions (innerFunction (length ids)) (innerFunction-refuses (length ids)))
+        (λ inner. bind-refuses (counted mostParams (place (length ids))) _ (places-refuses mostParams (length ids))
+        (λ ps. bind-refuses (counted mostContext (place (length ids))) _ (places-refuses mostContext (length ids))
         (λ cs. bind-refuses (fixed returnsCount) _ (fixed-refuses returnsCount)
         (λ k. bind-refuses (place (length ids)) _ (place-refuses (length ids))
         (λ r. bind-refuses (count mostBlocks) _ (count-refuses mostBlocks)

@@ -227,7 +227,7 @@ module _ (f : ℕ → ℕ) where
 
   terminal-within : (r : Place) (t : Terminal) (b : Built) → Within b → Within (terminal r t b)
   unfolding terminal
-  terminal-within r (Other o) b h = h
+  terminal-within r (Other o ps) b h = h
   terminal-within r (Return o p l) b h =
       each-keeps terminalEffect Within l (between (relate intoAliases) p r b) (λ e m c q. terminalEffect-within e c q) (aliased-within p r b h)
   terminal-within r (MaybeThrow o l) b h = each-keeps terminalEffect Within l b (λ e m c q. terminalEffect-within e c q) h

@@ -44,7 +44,7 @@ module _ (a : Asks) where
 
   -- a terminal: the Return value, then its effects
   abbrev pub tellTerminal : Terminal → a .Tally → a .Tally
-  tellTerminal (Other o) t = t
+  tellTerminal (Other o ps) t = t
   tellTerminal (Return o p l) t = each (tellEffect true) l (a .relation t)
   tellTerminal (MaybeThrow o l) t = each (tellEffect true) l t
 
@@ -71,11 +71,11 @@ module _ (a : Asks) where
 
   -- an instruction
   unfoldable pub instruction : ℕ → ℕ → a .Tally → Read Instruction
-  instruction n m t = instructionOf (effects false n m t)
+  instruction n m t = instructionOf n m (effects false n m t)
 
   -- a terminal of this kind and order: asked after the first word of a Return value
   unfoldable pub terminalOf : ℕ → ℕ → a .Tally → ℕ → ℕ → Read Terminal
-  terminalOf n m t = terminalBy (placeAsking (a .ask (a .relation t)) n) (effects true n m (a .relation t)) (effects true n m t)
+  terminalOf n m t = terminalBy n (placeAsking (a .ask (a .relation t)) n) (effects true n m (a .relation t)) (effects true n m t)
 
   -- a terminal
   unfoldable pub terminal : ℕ → ℕ → a .Tally → Read Terminal

@@ -40,9 +40,17 @@ unusedPlace instance before = wordLimit before instance ++ (wordLimit (before ++
 abbrev pub afterIdentifiers : List ℕ → List ℕ
 afterIdentifiers ws = flags 0 0 ++ (identifiers 3 ++ ws)
 
--- the same with m inner functions, no parameter and no context, and the words after the number of the one block
+-- the same with m inner functions, no parameter and no context, and the words after the number of the first of two blocks
 abbrev pub inBlock : ℕ → List ℕ → List ℕ
-inBlock m ws = afterIdentifiers (functions (replicate m []) ++ (0 ∷ 0 ∷ 1 ∷ (place 0 ++ (1 ∷ 0 ∷ ws))))
+inBlock m ws = afterIdentifiers (functions (replicate m []) ++ (0 ∷ 0 ∷ 1 ∷ (place 0 ++ (2 ∷ 0 ∷ ws))))
+
+-- the words after the lvalue place of the first instruction
+abbrev pub inInstruction : ℕ → List ℕ → List ℕ
+inInstruction m ws = inBlock m (0 ∷ 1 ∷ 0 ∷ (place 0 ++ ws))
+
+-- the words after its value: no list, value 0
+abbrev pub atEffects : ℕ → List ℕ → List ℕ
+atEffects m ws = inInstruction m (0 ∷ 0 ∷ 0 ∷ ws)
 
 -- the limits, in the document's order
 unfoldable pub limits : List Call
@@ -62,6 +70,9 @@ limits =
     ∷ countLimit (afterIdentifiers (1 ∷ [])) 64
     ∷ wordLimit (afterIdentifiers (1 ∷ 1 ∷ [])) 65535
     ∷ wordLimit (afterIdentifiers (1 ∷ 1 ∷ 0 ∷ [])) 65535
+    -- document 02, order 4: "after its diagnostics, a count of context places (at most 64) and those places"
+    ∷ countLimit (afterIdentifiers (1 ∷ 0 ∷ [])) 64
+    ∷ placeLimits (afterIdentifiers (1 ∷ 0 ∷ 1 ∷ []))
     -- "Parameters, then context, at most 64 each: places"
     ∷ countLimit (afterIdentifiers (0 ∷ [])) 64
     ∷ placeLimits (afterIdentifiers (0 ∷ 1 ∷ []))
@@ -82,14 +93,31 @@ limits =
     -- "instruction count, each an order, an effect count and the effects"; "An order is at most 999,999"; "Freeze 0 to Render 17"
     ∷ countLimit (inBlock 0 (0 ∷ [])) 1024
     ∷ wordLimit (inBlock 0 (0 ∷ 1 ∷ [])) 999999
-    ∷ countLimit (inBlock 0 (0 ∷ 1 ∷ 0 ∷ [])) 1024
-    ∷ wordLimit (inBlock 0 (0 ∷ 1 ∷ 0 ∷ 1 ∷ [])) 17
+    ∷ countLimit (atEffects 0 []) 1024
+    ∷ wordLimit (atEffects 0 (1 ∷ [])) 17
+    -- order 4: "after its order, its lvalue place; its value lvalues, then its operands, each after a count of at most 64"
+    ∷ placeLimits (inBlock 0 (0 ∷ 1 ∷ 0 ∷ []))
+    ∷ countLimit (inInstruction 0 []) 64
+    ∷ placeLimits (inInstruction 0 (1 ∷ []))
+    ∷ countLimit (inInstruction 0 (0 ∷ [])) 64
+    ∷ placeLimits (inInstruction 0 (0 ∷ 1 ∷ []))
+    -- "and a value word: 0 plain, 1 then an inner function number, 2 then the identifier that StoreContext stores": below their count and below N
+    ∷ wordLimit (inInstruction 0 (0 ∷ 0 ∷ [])) 2
+    ∷ (ends (inInstruction 0 (0 ∷ 0 ∷ 1 ∷ [])) 0 5 ∷ [])
+    ∷ wordLimit (inInstruction 1 (0 ∷ 0 ∷ 1 ∷ [])) 0
+    ∷ wordLimit (inInstruction 64 (0 ∷ 0 ∷ 1 ∷ [])) 63
+    ∷ wordLimit (inInstruction 0 (0 ∷ 0 ∷ 2 ∷ [])) 2
     -- "terminal kind (0 other, 1 Return, 2 MaybeThrow) and order; for 1 a place; for 1 and 2 an effect count and effects"
     ∷ wordLimit (inBlock 0 (0 ∷ 0 ∷ [])) 2
     ∷ wordLimit (inBlock 0 (0 ∷ 0 ∷ 2 ∷ [])) 999999
     ∷ placeLimits (inBlock 0 (0 ∷ 0 ∷ 1 ∷ 0 ∷ []))
     ∷ countLimit (inBlock 0 (0 ∷ 0 ∷ 1 ∷ 0 ∷ place 0)) 1024
     ∷ countLimit (inBlock 0 (0 ∷ 0 ∷ 2 ∷ 0 ∷ [])) 1024
+    -- order 4: "at its end, its operands after a count of at most 64; for Return and MaybeThrow that count is 0"
+    ∷ countLimit (inBlock 0 (0 ∷ 0 ∷ 0 ∷ 0 ∷ [])) 64
+    ∷ placeLimits (inBlock 0 (0 ∷ 0 ∷ 0 ∷ 0 ∷ 1 ∷ []))
+    ∷ countLimit (inBlock 0 (0 ∷ 0 ∷ 1 ∷ 0 ∷ (place 0 ++ (0 ∷ [])))) 0
+    ∷ countLimit (inBlock 0 (0 ∷ 0 ∷ 2 ∷ 0 ∷ 0 ∷ [])) 0
     ∷ [])
 
 -- a row of the document's table of effect kinds: the kind, its places, its largest instance (0 where it has none), its largest extra word
@@ -134,7 +162,7 @@ effectLimits m r =
     ++ wordLimit (before (place 0 ++ place 0)) (r .extra))
   where
     before : List ℕ → List ℕ
-    before ws = inBlock m (0 ∷ 1 ∷ 0 ∷ 1 ∷ r .kind ∷ ws)
+    before ws = atEffects m (1 ∷ r .kind ∷ ws)
 
 -- CreateFunction's largest is that of 64 inner functions; the other kinds need none
 abbrev functionsFor : ℕ → ℕ

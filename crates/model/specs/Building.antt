@@ -77,7 +77,7 @@ terminalEffect e b = pick (isAlias (e .kind)) (between (relate intoAliases) (e .
 
 -- "the Return value (into returns)", then the terminal's effects
 unfoldable pub terminal : Place → Terminal → Built → Built
-terminal r (Other o) b = b
+terminal r (Other o ps) b = b
 terminal r (Return o p l) b = each terminalEffect l (between (relate intoAliases) p r b)
 terminal r (MaybeThrow o l) b = each terminalEffect l b
 

@@ -14,7 +14,7 @@ use Rattle.model.specs.Walks.{Walk}
 use Rattle.model.specs.Chain.{LeadsTo, LeadsDirectly}
 use Rattle.model.specs.Runs.{walksOf, after, reached, timesAccepted, largestEnd, EachWalk, SameMutations}
 use Rattle.model.specs.Summary.{errors, built}
-use Rattle.model.specs.Answer.{Range, answer}
+use Rattle.model.specs.Answer.{Range, rangesBefore}
 
 -- the function has no phi
 abbrev pub NoPhis : List Block → Type 0
@@ -46,6 +46,6 @@ pub record Demand3From (errors : Bool) (start : State) (n : ℕ) (plain : Type 0
 abbrev pub Demand3 : Sheet → List Mutation → Type 0
 Demand3 s ms = Demand3From (errors s) (built s) (length (s .identifiers)) (NoPhis (s .blocks)) ms
 
--- "For all mutations once, in sheet order, the ends are those after the call's real walks, in this paper the answer's"
+-- "For all mutations once, in sheet order, the ends are those after the call's real walks": those before the pass over operands (document 02, order 4)
 abbrev pub AnswerEnds : Sheet → Type 0
-AnswerEnds s = map (λ (r : Range). r .end) (answer s .ranges) ≡ take (length (s .identifiers)) (after (how s) (build s .mutations) (built s) .ends)
+AnswerEnds s = map (λ (r : Range). r .end) (rangesBefore s) ≡ take (length (s .identifiers)) (after (how s) (build s .mutations) (built s) .ends)

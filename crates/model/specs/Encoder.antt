@@ -5,9 +5,9 @@ use mathlib.Core.Bool.{Bool, true, false}
 use mathlib.Core.List.{List, [], _∷_, _++_, map}
 use lib.ListN.{length}
 use lib.Dec.{leb}
-use Rattle.model.specs.Limits.{flagCount, mostIdentifiers, mostRange, mostFunctions, mostInnerDiagnostics, mostDiagnostic, mostParams, mostContext, returnsCount, mostBlocks, mostBlockNumber, mostCount, mostOrder}
+use Rattle.model.specs.Limits.{flagCount, mostIdentifiers, mostRange, mostFunctions, mostInnerDiagnostics, mostInnerContext, mostDiagnostic, mostParams, mostContext, returnsCount, mostBlocks, mostBlockNumber, mostCount, mostOrder, mostLvalues, mostOperands, noOperands}
 use Rattle.model.specs.Lists.{Every, oneIf}
-use Rattle.model.specs.Sheet.{Flags, IdentifierType, other, primitive, jsx, Identifier, Diagnostic, InnerFunction, Place, unusedPlace, Effect, Operand, Phi, EffectList, Instruction, Terminal, Other, Return, MaybeThrow, Block, Sheet}
+use Rattle.model.specs.Sheet.{Flags, IdentifierType, other, primitive, jsx, Identifier, Diagnostic, InnerFunction, Place, unusedPlace, Effect, Operand, Phi, EffectList, InstructionValue, Plain, Function, StoreContext, Instruction, Terminal, Other, Return, MaybeThrow, Block, Sheet}
 use Rattle.model.specs.Traits.{reactiveTraits}
 use Rattle.model.specs.Effects.{rowOf, isCreateFunction}
 use Rattle.model.specs.Answer.{placeWords, diagnosticWords, effectWords, section}
@@ -28,9 +28,9 @@ typeWord jsx = 2
 abbrev pub identifierWords : Identifier → List ℕ
 identifierWords i = i .start ∷ i .end ∷ typeWord (i .type) ∷ []
 
--- "a count, then that many pairs"
+-- "a count, then that many pairs"; "after its diagnostics, a count of context places and those places"
 abbrev pub functionWords : InnerFunction → List ℕ
-functionWords f = section diagnosticWords (f .diagnostics)
+functionWords f = section diagnosticWords (f .diagnostics) ++ section placeWords (f .context)
 
 -- "an effect count and the effects"
 abbrev pub effectsWords : EffectList → List ℕ
@@ -44,15 +44,27 @@ operandWords o = o .predecessor ∷ placeWords (o .place)
 abbrev pub phiWords : Phi → List ℕ
 phiWords p = placeWords (p .place) ++ section operandWords (p .operands)
 
--- "each an order, an effect count and the effects"
-abbrev pub instructionWords : Instruction → List ℕ
-instructionWords i = i .order ∷ effectsWords (i .effects)
+-- "a value word: 0 plain, 1 then an inner function number, 2 then the identifier that StoreContext stores"
+abbrev pub valueWords : InstructionValue → List ℕ
+valueWords Plain = 0 ∷ []
+valueWords (Function k) = 1 ∷ k ∷ []
+valueWords (StoreContext x) = 2 ∷ x ∷ []
 
--- "terminal kind (0 other, 1 Return, 2 MaybeThrow) and order; for 1 a place; for 1 and 2 an effect count and effects"
+-- "each an order, an effect count and the effects"; after the order "its lvalue place; its value lvalues, then its operands; and a value word"
+abbrev pub instructionWords : Instruction → List ℕ
+instructionWords i =
+    i .order
+    ∷ (placeWords (i .lvalue)
+    ++ (section placeWords (i .valueLvalues)
+    ++ (section placeWords (i .operands)
+    ++ (valueWords (i .value)
+    ++ effectsWords (i .effects)))))
+
+-- "terminal kind (0 other, 1 Return, 2 MaybeThrow) and order; for 1 a place; for 1 and 2 an effect count and effects"; at its end its operands
 abbrev pub terminalWords : Terminal → List ℕ
-terminalWords (Other o) = 0 ∷ o ∷ []
-terminalWords (Return o p l) = 1 ∷ o ∷ (placeWords p ++ effectsWords l)
-terminalWords (MaybeThrow o l) = 2 ∷ o ∷ effectsWords l
+terminalWords (Other o ps) = 0 ∷ o ∷ section placeWords ps
+terminalWords (Return o p l) = 1 ∷ o ∷ (placeWords p ++ (effectsWords l ++ (noOperands ∷ [])))
+terminalWords (MaybeThrow o l) = 2 ∷ o ∷ (effectsWords l ++ (noOperands ∷ []))
 
 -- a block after its number
 abbrev pub blockRest : Block → List ℕ
@@ -82,13 +94,17 @@ IdentifierFits i = (i .start ≤ mostRange) × (i .end ≤ mostRange)
 abbrev pub DiagnosticFits : Diagnostic → Type 0
 DiagnosticFits d = (d .identity ≤ mostDiagnostic) × (d .instance ≤ mostDiagnostic)
 
--- "a count (at most 64), then that many pairs"
-abbrev pub FunctionFits : InnerFunction → Type 0
-FunctionFits f = (length (f .diagnostics) ≤ mostInnerDiagnostics) × Every DiagnosticFits (f .diagnostics)
-
 -- "identifier (below N); traits, the effect's position in `Effect`"
 abbrev pub PlaceFits : ℕ → Place → Type 0
 PlaceFits n p = (p .identifier < n) × (p .effect < reactiveTraits)
+
+-- a list of places after a count of its own limit
+abbrev pub PlacesFit : ℕ → ℕ → List Place → Type 0
+PlacesFit n most l = (length l ≤ most) × Every (PlaceFits n) l
+
+-- "a count (at most 64), then that many pairs"; "a count of context places (at most 64)"
+abbrev pub FunctionFits : ℕ → InnerFunction → Type 0
+FunctionFits n f = ((length (f .diagnostics) ≤ mostInnerDiagnostics) × Every DiagnosticFits (f .diagnostics)) × PlacesFit n mostInnerContext (f .context)
 
 -- a place if the kind uses it, else "unused places are 0", but for an instance as the first word
 abbrev pub UsedFits : Bool → ℕ → ℕ → Place → Type 0
@@ -119,13 +135,24 @@ OperandFits n o = (o .predecessor ≤ mostBlockNumber) × PlaceFits n (o .place)
 abbrev pub PhiFits : ℕ → Phi → Type 0
 PhiFits n p = PlaceFits n (p .place) × (length (p .operands) ≤ mostCount) × Every (OperandFits n) (p .operands) × PhiDistinct p
 
--- "An order is at most 999,999"
-abbrev pub InstructionFits : ℕ → ℕ → Instruction → Type 0
-InstructionFits n m i = (i .order ≤ mostOrder) × EffectsFit n m (i .effects)
+-- an inner function number below their count, or an identifier below N
+abbrev pub ValueFits : ℕ → ℕ → InstructionValue → Type 0
+ValueFits n m Plain = Unit {0}
+ValueFits n m (Function k) = k < m
+ValueFits n m (StoreContext x) = x < n
 
--- a terminal's value and effects
+-- "An order is at most 999,999"
+pub record InstructionFits (n m : ℕ) (i : Instruction) : Type 0 where
+  pub order : i .order ≤ mostOrder
+  pub lvalue : PlaceFits n (i .lvalue)
+  pub valueLvalues : PlacesFit n mostLvalues (i .valueLvalues)
+  pub operands : PlacesFit n mostOperands (i .operands)
+  pub value : ValueFits n m (i .value)
+  pub effects : EffectsFit n m (i .effects)
+
+-- a terminal's value, effects and operands
 abbrev pub TerminalFits : ℕ → ℕ → Terminal → Type 0
-TerminalFits n m (Other o) = o ≤ mostOrder
+TerminalFits n m (Other o ps) = (o ≤ mostOrder) × PlacesFit n mostOperands ps
 TerminalFits n m (Return o p l) = (o ≤ mostOrder) × PlaceFits n p × EffectsFit n m l
 TerminalFits n m (MaybeThrow o l) = (o ≤ mostOrder) × EffectsFit n m l
 
@@ -143,7 +170,7 @@ pub record SheetFits (s : Sheet) : Type 0 where
   pub identifierCount : length (s .identifiers) ≤ mostIdentifiers
   pub identifiers : Every IdentifierFits (s .identifiers)
   pub functionCount : length (s .functions) ≤ mostFunctions
-  pub functions : Every FunctionFits (s .functions)
+  pub functions : Every (FunctionFits (length (s .identifiers))) (s .functions)
   pub paramCount : length (s .params) ≤ mostParams
   pub params : Every (PlaceFits (length (s .identifiers))) (s .params)
   pub contextCount : length (s .context) ≤ mostContext

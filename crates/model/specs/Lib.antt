@@ -23,6 +23,9 @@ pub mod Renders
 pub mod Runs
 pub mod Summary
 pub mod Simulated
+-- document 02, order 4: the pass over operands
+pub mod Marks
+pub mod Operands
 -- "The answer", and the call and the service of "Answers and refusals"
 pub mod Answer
 pub mod Call
@@ -36,6 +39,7 @@ pub mod Table
 pub mod Ours
 pub mod Refusals
 pub mod Boundaries
+pub mod OperandCases
 pub mod LoadCases
 -- what is claimed of all this; proofs/ has the theorems
 pub mod Ranges
@@ -49,4 +53,6 @@ pub mod Quiet
 pub mod Numbers
 pub mod Chain
 pub mod Demand3
+pub mod EndsSet
+pub mod SecondProperty
 pub mod CallEnds

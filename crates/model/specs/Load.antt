@@ -7,7 +7,7 @@ use lib.ListN.{length, getD, replicate}
 use lib.Dec.{leb}
 use Rattle.model.specs.Limits.{leastLoadIdentifiers, mostIdentifiers, leastLoadEffects, mostLoadEffects}
 use Rattle.model.specs.Lists.{pick}
-use Rattle.model.specs.Sheet.{EvaluationOrder, Flags, Identifier, other, Place, plainPlace, noPlace, EffectKind, Mutate, MutateConditionally, MutateTransitive, MutateTransitiveConditionally, Capture, Alias, MaybeAlias, Assign, CreateFrom, Effect, Instruction, Other, Block, Sheet}
+use Rattle.model.specs.Sheet.{EvaluationOrder, Flags, Identifier, other, Place, plainPlace, noPlace, EffectKind, Mutate, MutateConditionally, MutateTransitive, MutateTransitiveConditionally, Capture, Alias, MaybeAlias, Assign, CreateFrom, Effect, Plain, Instruction, Other, Block, Sheet}
 use Rattle.model.specs.Effects.{rowOf}
 use Rattle.model.specs.Encoder.{sheetWords}
 use Rattle.model.specs.Call.{Outcome, refusal, fits}
@@ -57,15 +57,19 @@ drawPlaces n k state = drawSecond (leb 2 (rowOf k .places)) n k (plainPlace (dra
 unfoldable pub drawEffect : ℕ → ℕ → DrawnEffect
 drawEffect n state = drawPlaces n (loadKind (drawBelow (length loadKinds) state .number)) (drawBelow (length loadKinds) state .state)
 
+-- an instruction of one effect; "Generated loads use lvalue place 0, empty lists and value 0" (order 4)
+abbrev pub loadInstruction : EvaluationOrder → Effect → Instruction
+loadInstruction o e = record { order = o; lvalue = plainPlace 0; valueLvalues = []; operands = []; value = Plain; effects = e ∷ [] }
+
 -- "instructions with orders 1 to m of one effect each": as many as are left, from this order on
 unfoldable pub loadInstructions : ℕ → EvaluationOrder → ℕ → ℕ → List Instruction
 loadInstructions n o zero state = []
-loadInstructions n o (suc left) state = record { order = o; effects = drawEffect n state .effect ∷ [] } ∷ loadInstructions n (suc o) left (drawEffect n state .state)
+loadInstructions n o (suc left) state = loadInstruction o (drawEffect n state .effect) ∷ loadInstructions n (suc o) left (drawEffect n state .state)
 
 -- ---- the sheet
 -- "block 0 without phis"; "the terminal is kind 0 with order m + 1"
 abbrev pub loadBlock : ℕ → ℕ → ℕ → Block
-loadBlock seed n m = record { number = 0; phis = []; instructions = loadInstructions n 1 m seed; terminal = Other (m + 1) }
+loadBlock seed n m = record { number = 0; phis = []; instructions = loadInstructions n 1 m seed; terminal = Other (m + 1) [] }
 
 -- "flags 0 and 1"
 abbrev pub loadFlags : Flags

@@ -2,19 +2,23 @@
 use Prim.Native.Nat.{ℕ, _+_, _*_, _≤_}
 use mathlib.Core.Path.{_≡_}
 use lib.ListN.{length}
-use Rattle.model.specs.Limits.{leastWorkspace, lentAnswer, identifierWidth, effectWidth}
+use Rattle.model.specs.Limits.{leastWorkspace, lentAnswer, identifierWidth, placeWidth, effectWidth}
 use Rattle.model.specs.Encoder.{sheetWords}
 use Rattle.model.specs.Answer.{answer, answerWords}
 use Rattle.model.specs.Call.{IsSheet, accepted, outcome}
 use Rattle.model.specs.Load.{classLoad}
 
+-- how many words an instruction has: its order, its lvalue, two counts, its value, its effect count and its effect
+abbrev pub loadInstructionWidth : ℕ
+loadInstructionWidth = 5 + placeWidth + effectWidth
+
 -- how many words the sheet has
 abbrev pub loadLength : ℕ → ℕ → ℕ
-loadLength n m = 20 + identifierWidth * n + (2 + effectWidth) * m
+loadLength n m = 21 + identifierWidth * n + loadInstructionWidth * m
 
--- how many words its answer has at most: a range for each identifier, one parameter, four effects (two of parameter 0, Create, Alias), and a walk for each mutation, for the parameter and for returns
+-- how many words its answer has at most: a range for each identifier, one parameter, four effects (two of parameter 0, Create, Alias), a walk for each mutation, for the parameter and for returns, and a place for each instruction
 abbrev pub mostLoadAnswer : ℕ → ℕ → ℕ
-mostLoadAnswer n m = 43 + 2 * n + m
+mostLoadAnswer n m = 47 + 2 * n + 4 * m
 
 -- the claim
 pub record LoadAccepted (seed n m : ℕ) : Type 0 where

@@ -1,14 +1,15 @@
--- Document 01, "Answers and refusals": for each refusal a call that gets it, and the order of two that could both be given.
+-- Document 01, "Answers and refusals", and document 02, order 4: for each refusal a call that gets it, and the order of two that could both be given.
+-- Left out: 8 and its neighbours, which stand in crate `cases`.
 use Prim.Native.Nat.{ℕ, _-_}
 use mathlib.Core.Bool.{Bool, true, false, _&&_}
 use mathlib.Core.List.{List, [], _∷_, _++_}
 use mathlib.Core.Option.{Option, none, some}
-use lib.ListN.{length, replicate}
+use lib.ListN.{length, replicate, take}
 use lib.Dec.{eqb}
 use Rattle.model.specs.Call.{Outcome, refusal, accepted}
 use Rattle.model.specs.Service.{Served, call}
-use Rattle.model.specs.Small.{operand, phi, block, sheet}
-use Rattle.model.specs.Table.{case1, answer1, case2}
+use Rattle.model.specs.Small.{place, one, operand, phi, returning, throwing, blockOf, block, sheet}
+use Rattle.model.specs.Table.{case1, call1, case2}
 
 -- a call, by its sheet and the lengths of workspace and answer buffer, and the number that it is refused with; 0 if it is accepted
 pub record Call : Type 0 where
@@ -29,6 +30,14 @@ predecessorTwice = sheet 1 [] 0 (block 0 (phi 0 (operand 7 0 ∷ operand 7 1 ∷
 abbrev pub predecessorOfTwo : List ℕ
 predecessorOfTwo = sheet 1 [] 0 (block 0 (phi 0 (operand 7 0 ∷ []) ∷ phi 0 (operand 7 0 ∷ []) ∷ []) [] ∷ [])
 
+-- "Apply among an instruction's effects": after another effect, in the second block
+abbrev pub applied : List ℕ
+applied = sheet 1 [] 0 (block 0 [] [] ∷ block 1 [] (one 9 0 ∷ one 12 0 ∷ []) ∷ [])
+
+-- Apply in a block's terminal
+abbrev pub appliedAtEnd : List ℕ → List ℕ
+appliedAtEnd t = sheet 1 [] 0 (blockOf 0 [] [] t ∷ [])
+
 -- the calls
 unfoldable pub calls : List Call
 calls =
@@ -45,8 +54,17 @@ calls =
     ∷ row predecessorOfTwo 16384 16384 0
     ∷ row (case2 ++ (0 ∷ [])) 16384 16384 7
     -- "One answer word short: 9"
-    ∷ row case1 16384 (length answer1) 0
-    ∷ row case1 16384 (length answer1 - 1) 9
+    ∷ row case1 16384 (length call1) 0
+    ∷ row case1 16384 (length call1 - 1) 9
+    -- document 02, order 4: 10; in a terminal Apply does nothing
+    ∷ row applied 16384 16384 10
+    ∷ row (appliedAtEnd (throwing 1 (one 12 0 ∷ []))) 16384 16384 0
+    ∷ row (appliedAtEnd (returning 1 (place 0) (one 12 0 ∷ []))) 16384 16384 0
+    -- 10 "before 9", and after 1, 3 and 7
+    ∷ row applied 16384 0 10
+    ∷ row applied 16383 0 1
+    ∷ row (take (length applied - 1) applied) 16384 0 3
+    ∷ row (applied ++ (0 ∷ [])) 16384 0 7
     -- 1 before 2; 2 before 3; the first faulty word before a later one of a lower number
     ∷ row (replicate 16385 0) 16383 16384 1
     ∷ row (replicate 16385 2) 16384 16384 2

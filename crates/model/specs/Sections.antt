@@ -4,9 +4,9 @@ use mathlib.Core.Bool.{Bool}
 use mathlib.Core.List.{List, [], _∷_}
 use lib.ListN.{length, getD}
 use lib.Dec.{leb, eqb}
-use Rattle.model.specs.Limits.{flagCount, mostFlag, mostIdentifiers, mostRange, mostType, mostFunctions, mostInnerDiagnostics, mostDiagnostic, mostParams, mostContext, returnsCount, mostBlocks, mostCount, mostOrder, mostTerminal, mostTraits, mostKind}
+use Rattle.model.specs.Limits.{flagCount, mostFlag, mostIdentifiers, mostRange, mostType, mostFunctions, mostInnerDiagnostics, mostInnerContext, mostDiagnostic, mostParams, mostContext, returnsCount, mostBlocks, mostCount, mostOrder, mostLvalues, mostOperands, noOperands, mostValue, mostTerminal, mostTraits, mostKind}
 use Rattle.model.specs.Lists.{pick}
-use Rattle.model.specs.Sheet.{Flags, IdentifierType, other, primitive, jsx, Identifier, Diagnostic, InnerFunction, Place, unusedPlace, EffectKind, Effect, Operand, Phi, EffectList, Instruction, Terminal, Other, Return, MaybeThrow, Block, BlockId, Sheet}
+use Rattle.model.specs.Sheet.{Flags, IdentifierType, other, primitive, jsx, Identifier, Diagnostic, InnerFunction, Place, unusedPlace, EffectKind, Effect, Operand, Phi, EffectList, InstructionValue, Plain, Function, StoreContext, Instruction, Terminal, Other, Return, MaybeThrow, Block, BlockId, Sheet}
 use Rattle.model.specs.Traits.{effectOf, reactiveOf}
 use Rattle.model.specs.Effects.{kindOf, rowOf, isCreateFunction}
 use Rattle.model.specs.Reading.{Read, _>>=_, pure, word, count, fixed, atMost, below, numbered, counted}
@@ -44,12 +44,6 @@ diagnostic = do
   k ← atMost mostDiagnostic
   pure (record { identity = i; instance = k })
 
--- "a count (at most 64)", then that many pairs
-unfoldable pub innerFunction : Read InnerFunction
-innerFunction = do
-  l ← counted mostInnerDiagnostics diagnostic
-  pure (record { diagnostics = l })
-
 -- ---- Parts with words that refusal 8 counts: the kind of an effect, the first word of a phi operand and of a Return value. After such a word's own
 -- checks a question can stand. Document 01 has none: a part by its plain name asks nothing. Asking has the same parts with questions.
 -- no question
@@ -68,6 +62,13 @@ placeAsking ask n = do
 -- the place, with no question
 unfoldable pub place : ℕ → Read Place
 place n = placeAsking noQuestion n
+
+-- "a count (at most 64)", then that many pairs; "after its diagnostics, a count of context places (at most 64) and those places"
+unfoldable pub innerFunction : ℕ → Read InnerFunction
+innerFunction n = do
+  l ← counted mostInnerDiagnostics diagnostic
+  cs ← counted mostInnerContext (place n)
+  pure (record { diagnostics = l; context = cs })
 
 -- "unused places are 0", but for an instance as the first word
 unfoldable pub unused : ℕ → Read Place
@@ -122,31 +123,55 @@ phiOf operands n = do
 unfoldable pub phi : ℕ → Read Phi
 phi n = phiOf (λ k. numbered k [] (operand n)) n
 
--- "each an order, an effect count and the effects"
-abbrev pub instructionOf : Read EffectList → Read Instruction
-instructionOf effects = do
+-- by the value word: "0 plain, 1 then an inner function number, 2 then the identifier that StoreContext stores"
+abbrev pub valueBy : ℕ → ℕ → ℕ → Read InstructionValue
+valueBy n m zero = pure Plain
+valueBy n m (suc zero) = do
+  k ← below m
+  pure (Function k)
+valueBy n m (suc (suc w)) = do
+  x ← below n
+  pure (StoreContext x)
+
+-- "and a value word"
+unfoldable pub instructionValue : ℕ → ℕ → Read InstructionValue
+instructionValue n m = do
+  w ← atMost mostValue
+  valueBy n m w
+
+-- "each an order, an effect count and the effects"; after the order "its lvalue place; its value lvalues, then its operands; and a value word"
+abbrev pub instructionOf : ℕ → ℕ → Read EffectList → Read Instruction
+instructionOf n m effects = do
   o ← atMost mostOrder
+  p ← place n
+  ls ← counted mostLvalues (place n)
+  ps ← counted mostOperands (place n)
+  v ← instructionValue n m
   l ← effects
-  pure (record { order = o; effects = l })
+  pure (record { order = o; lvalue = p; valueLvalues = ls; operands = ps; value = v; effects = l })
 
 -- the instruction
 unfoldable pub instruction : ℕ → ℕ → Read Instruction
-instruction n m = instructionOf (effects n m)
+instruction n m = instructionOf n m (effects n m)
 
--- "for 1 a place; for 1 and 2 an effect count and effects"
-abbrev pub terminalBy : Read Place → Read EffectList → Read EffectList → ℕ → ℕ → Read Terminal
-terminalBy value returned thrown zero o = pure (Other o)
-terminalBy value returned thrown (suc zero) o = do
+-- "for 1 a place; for 1 and 2 an effect count and effects"; at its end "its operands; for Return and MaybeThrow that count is 0"
+abbrev pub terminalBy : ℕ → Read Place → Read EffectList → Read EffectList → ℕ → ℕ → Read Terminal
+terminalBy n value returned thrown zero o = do
+  ps ← counted mostOperands (place n)
+  pure (Other o ps)
+terminalBy n value returned thrown (suc zero) o = do
   p ← value
   l ← returned
+  k ← fixed noOperands
   pure (Return o p l)
-terminalBy value returned thrown (suc (suc k)) o = do
+terminalBy n value returned thrown (suc (suc w)) o = do
   l ← thrown
+  k ← fixed noOperands
   pure (MaybeThrow o l)
 
 -- the terminal of this kind and order
 unfoldable pub terminalOf : ℕ → ℕ → ℕ → ℕ → Read Terminal
-terminalOf n m k o = terminalBy (place n) (effects n m) (effects n m) k o
+terminalOf n m k o = terminalBy n (place n) (effects n m) (effects n m) k o
 
 -- "terminal kind (0 other, 1 Return, 2 MaybeThrow) and order"
 abbrev pub terminalAfter : (ℕ → ℕ → Read Terminal) → Read Terminal
@@ -187,4 +212,4 @@ sheetOf inner blocks = do
 
 -- the sheet
 unfoldable pub sheet : Read Sheet
-sheet = sheetOf (λ n. innerFunction) (λ n m k. numbered k [] (block n m))
+sheet = sheetOf innerFunction (λ n m k. numbered k [] (block n m))

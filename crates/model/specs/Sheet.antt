@@ -2,7 +2,7 @@
 -- Left out: nothing. Stricter: a number below its limit is a plain number here; Reading has the limits.
 use Prim.Native.Nat.{ℕ}
 use mathlib.Core.Bool.{Bool, false}
-use mathlib.Core.List.{List, []}
+use mathlib.Core.List.{List, [], _∷_}
 
 -- the Rust's `IdentifierId`, `BlockId`, `FunctionId` and `EvaluationOrder`
 abbrev pub IdentifierId : Type 0
@@ -40,14 +40,6 @@ pub record Diagnostic : Type 0 where
   pub identity : ℕ
   pub instance : ℕ
 
--- "Inner function lists hold and count pairs"
-pub record InnerFunction : Type 0 where
-  pub diagnostics : List Diagnostic
-
--- stands for an inner function that is not there, which no accepted sheet names
-abbrev pub noFunction : InnerFunction
-noFunction = record { diagnostics = [] }
-
 -- "A place is three words: identifier; traits, the effect's position in `Effect` counted from 0 plus 8 if reactive; span, 0 for none"
 pub record Place : Type 0 where
   pub identifier : IdentifierId
@@ -66,6 +58,15 @@ unusedPlace i = plainPlace i
 -- "unused places are 0"
 abbrev pub noPlace : Place
 noPlace = unusedPlace 0
+
+-- "Inner function lists hold and count pairs"; "An inner function adds, after its diagnostics, context places"
+pub record InnerFunction : Type 0 where
+  pub diagnostics : List Diagnostic
+  pub context : List Place
+
+-- stands for an inner function that is not there, which no accepted sheet names
+abbrev pub noFunction : InnerFunction
+noFunction = record { diagnostics = []; context = [] }
 
 -- "Kind is the position in `AliasingEffect`, Freeze 0 to Render 17": the Rust's names, in its order
 pub data EffectKind : Type 0 where
@@ -94,16 +95,36 @@ pub record Phi : Type 0 where
 abbrev pub EffectList : Type 0
 EffectList = List Effect
 
--- "each an order, an effect count and the effects"
+-- document 02, order 4: "a value word: 0 plain, 1 then an inner function number (FunctionExpression, ObjectMethod), 2 then the identifier that StoreContext stores"
+pub data InstructionValue : Type 0 where
+  Plain : InstructionValue
+  Function : FunctionId → InstructionValue
+  StoreContext : IdentifierId → InstructionValue
+
+-- "each an order, an effect count and the effects"; "An instruction adds, after its order, its lvalue place; its value lvalues, then its operands; and a value word"
 pub record Instruction : Type 0 where
   pub order : EvaluationOrder
+  pub lvalue : Place
+  pub valueLvalues : List Place
+  pub operands : List Place
+  pub value : InstructionValue
   pub effects : EffectList
 
--- "terminal kind (0 other, 1 Return, 2 MaybeThrow) and order; for 1 a place; for 1 and 2 effects"
+-- the lvalue place, then the value lvalues
+abbrev pub lvaluesOf : Instruction → List Place
+lvaluesOf i = i .lvalue ∷ i .valueLvalues
+
+-- "terminal kind (0 other, 1 Return, 2 MaybeThrow) and order; for 1 a place; for 1 and 2 effects"; "A terminal adds, at its end, its operands; for Return and MaybeThrow that count is 0"
 pub data Terminal : Type 0 where
-  Other : EvaluationOrder → Terminal
+  Other : EvaluationOrder → List Place → Terminal
   Return : EvaluationOrder → Place → EffectList → Terminal
   MaybeThrow : EvaluationOrder → EffectList → Terminal
+
+-- a terminal's order
+abbrev pub orderOf : Terminal → EvaluationOrder
+orderOf (Other o ps) = o
+orderOf (Return o p l) = o
+orderOf (MaybeThrow o l) = o
 
 -- "number; phis; instructions; terminal"
 pub record Block : Type 0 where

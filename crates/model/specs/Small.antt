@@ -1,4 +1,5 @@
 -- Small sheets as words, for the tables of cases: places with no traits and no span, effects with extra 0, one instruction of order 1 in each block.
+-- Document 02, order 4: "Generated loads and the bench cases use lvalue place 0, empty lists and value 0".
 use Prim.Native.Nat.{ℕ, _*_}
 use mathlib.Core.List.{List, [], _∷_, _++_, map}
 use lib.ListN.{length, replicate}
@@ -45,25 +46,47 @@ diagnosis k x identity instance = effect k (place x) (place instance) identity
 abbrev pub operand : ℕ → ℕ → List ℕ
 operand b x = b ∷ place x
 
--- a phi and its operands
-abbrev pub phi : ℕ → List (List ℕ) → List ℕ
-phi x os = place x ++ several os
+-- a phi by its place and its operands
+abbrev pub phiOf : List ℕ → List (List ℕ) → List ℕ
+phiOf p os = p ++ several os
 
--- an instruction of order o with these effects
+-- a phi with no traits and no span
+abbrev pub phi : ℕ → List (List ℕ) → List ℕ
+phi x os = phiOf (place x) os
+
+-- values: plain, the inner function k, StoreContext of x
+abbrev pub plain : List ℕ
+plain = 0 ∷ []
+
+abbrev pub function : ℕ → List ℕ
+function k = 1 ∷ k ∷ []
+
+abbrev pub storing : ℕ → List ℕ
+storing x = 2 ∷ x ∷ []
+
+-- an instruction by its order, lvalue place, value lvalues, operands, value and effects
+abbrev pub instructionOf : ℕ → List ℕ → List (List ℕ) → List (List ℕ) → List ℕ → List (List ℕ) → List ℕ
+instructionOf o p ls ps v es = o ∷ (p ++ (several ls ++ (several ps ++ (v ++ several es))))
+
+-- an instruction of order o with these effects, lvalue place 0, empty lists and value 0
 abbrev pub instruction : ℕ → List (List ℕ) → List ℕ
-instruction o es = o ∷ several es
+instruction o es = instructionOf o (place 0) [] [] plain es
+
+-- a terminal of order o with these operands
+abbrev pub otherOf : ℕ → List (List ℕ) → List ℕ
+otherOf o ps = 0 ∷ o ∷ several ps
 
 -- a terminal of order o
 abbrev pub other : ℕ → List ℕ
-other o = 0 ∷ o ∷ []
+other o = otherOf o []
 
 -- Return of the place p, with these effects
 abbrev pub returning : ℕ → List ℕ → List (List ℕ) → List ℕ
-returning o p es = 1 ∷ o ∷ (p ++ several es)
+returning o p es = 1 ∷ o ∷ (p ++ (several es ++ (0 ∷ [])))
 
 -- MaybeThrow with these effects
 abbrev pub throwing : ℕ → List (List ℕ) → List ℕ
-throwing o es = 2 ∷ o ∷ several es
+throwing o es = 2 ∷ o ∷ (several es ++ (0 ∷ []))
 
 -- block b with phis, instructions and a terminal
 abbrev pub blockOf : ℕ → List (List ℕ) → List (List ℕ) → List ℕ → List ℕ
@@ -89,13 +112,21 @@ identifier start end type = start ∷ end ∷ type ∷ []
 abbrev pub pair : ℕ → ℕ → List ℕ
 pair identity instance = identity ∷ instance ∷ []
 
--- inner functions, each by its diagnostics
-abbrev pub functions : List (List (List ℕ)) → List ℕ
-functions ds = several (map several ds)
+-- an inner function by its diagnostics and its context places
+abbrev pub functionOf : List (List ℕ) → List (List ℕ) → List ℕ
+functionOf ds cs = several ds ++ several cs
 
--- flags, identifiers, inner functions, parameters, context, returns, then the blocks
+-- inner functions, each by its diagnostics, with no context
+abbrev pub functions : List (List (List ℕ)) → List ℕ
+functions ds = several (map (λ (l : List (List ℕ)). functionOf l []) ds)
+
+-- the sections as words: flags, identifiers, inner functions; then parameters, context, returns, and the blocks
+abbrev pub wholeBy : List ℕ → List ℕ → List ℕ → List (List ℕ) → List (List ℕ) → List ℕ → List (List ℕ) → List ℕ
+wholeBy fs ids fns ps cs r bs = joined (fs ∷ ids ∷ fns ∷ several ps ∷ several cs ∷ several (r ∷ []) ∷ several bs ∷ [])
+
+-- the same with inner functions by their diagnostics
 abbrev pub wholeOf : List ℕ → List ℕ → List (List (List ℕ)) → List (List ℕ) → List (List ℕ) → List ℕ → List (List ℕ) → List ℕ
-wholeOf fs ids ds ps cs r bs = joined (fs ∷ ids ∷ functions ds ∷ several ps ∷ several cs ∷ several (r ∷ []) ∷ several bs ∷ [])
+wholeOf fs ids ds ps cs r bs = wholeBy fs ids (functions ds) ps cs r bs
 
 -- the same with n identifiers of zeros, and places with no traits and no span
 abbrev pub whole : List ℕ → ℕ → List (List (List ℕ)) → List ℕ → List ℕ → ℕ → List (List ℕ) → List ℕ
@@ -109,9 +140,13 @@ sheet n ps r bs = whole (flags 0 1) n [] ps [] r bs
 abbrev pub range : ℕ → ℕ → List ℕ
 range start end = start ∷ end ∷ []
 
--- an answer: ranges, params, context, diagnostics, effects, walks
+-- the first six sections of an answer: ranges, params, context, diagnostics, effects, walks
 abbrev pub answered : List (List ℕ) → List (List ℕ) → List (List ℕ) → List (List ℕ) → List (List ℕ) → List ℕ → List ℕ
 answered rs ps cs ds es ws = joined (several rs ∷ several ps ∷ several cs ∷ several ds ∷ several es ∷ (length ws ∷ ws) ∷ [])
+
+-- the whole answer: after the first six sections phis, instructions, terminals, inner
+abbrev pub tenOf : List ℕ → List (List ℕ) → List (List ℕ) → List (List ℕ) → List (List ℕ) → List ℕ
+tenOf six ps is ts ns = six ++ joined (several ps ∷ several is ∷ several ts ∷ several ns ∷ [])
 
 -- a row of a table
 abbrev pub case : List ℕ → Claim → Case

@@ -73,7 +73,11 @@ fn print_answer(answer: &[u32]) {
     let a3 = print_section(b"context", answer, a2, 3);
     let a4 = print_section(b"diagnostics", answer, a3, 2);
     let a5 = print_section(b"effects", answer, a4, 8);
-    print_section(b"walks", answer, a5, 1);
+    let a6 = print_section(b"walks", answer, a5, 1);
+    let a7 = print_section(b"phis", answer, a6, 3);
+    let a8 = print_section(b"instructions", answer, a7, 3);
+    let a9 = print_section(b"terminals", answer, a8, 3);
+    print_section(b"inner", answer, a9, 3);
 }
 
 fn main() {

@@ -1,20 +1,21 @@
 -- The parts of a block, judged: what is left to read once the words so far were read.
 use Prim.Native.Nat.{ℕ, _+_, _<_}
 use native.Mathlib.Numerals.{add-one}
-use mathlib.Core.Path.{_≡_, _∙_, refl}
+use mathlib.Core.Path.{_≡_, _∙_}
 use mathlib.Core.Bool.{Bool, true, false, _||_, or-false, or-assoc, or-comm}
 use mathlib.Core.List.{List, []}
 use lib.ListN.{length, drop, getD}
 use lib.Seq.{drop-length, drop-cons}
 use lib.Dec.{eqb}
-use Rattle.model.specs.Limits.{mostCount, mostOrder, mostTerminal, mostBlocks}
+use Rattle.model.specs.Limits.{mostCount, mostOrder, mostLvalues, mostOperands, noOperands, mostTerminal, mostBlocks}
 use Rattle.model.specs.Lists.{each, among}
-use Rattle.model.specs.Sheet.{Place, Effect, EffectList, Operand, Phi, Instruction, Terminal, Return, MaybeThrow, BlockId, EvaluationOrder}
-use Rattle.model.specs.Reading.{Position, got, refused, _>>=_, pure, Read, count, atMost, numberedFrom, countedFrom}
-use Rattle.model.specs.Sections.{place, effect as plainEffect}
+use Rattle.model.specs.Sheet.{Place, Effect, Operand, Phi, Instruction, Terminal, BlockId}
+use Rattle.model.specs.Reading.{Position, got, refused, _>>=_, pure, Read, count, fixed, atMost, counted, numberedFrom, countedFrom}
+use Rattle.model.specs.Sections.{place, effect as plainEffect, instructionValue}
 use Rattle.model.specs.Asking.{effect, effects, operand, phi, instruction, terminalOf, terminal, block, tellEffect, tellOperand, tellPhi, tellInstruction, tellTerminal, tellBlock}
-use Rattle.reading.specs.Judging.{Told, telling, judge, withRelation, tellKind, counting, blocksOf}
-use Rattle.reading.proofs.JudgeLaws.{judge-got, judge-refused, got-judged, refused-judged, then-got, then-refused, then-made}
+use Rattle.reading.specs.Judging.{Told, telling, judge, withRelation, tellKind, counting, terminalEffects, blocksOf}
+use Rattle.reading.specs.Whole.{lengthOf, uses, judgedInstruction}
+use Rattle.reading.proofs.JudgeLaws.{result-case, judge-got, judge-refused, got-judged, refused-judged, then-got, then-refused, then-made}
 
 -- a search: what is found or stands from here on, one number later
 pub listed-next : (x : ℕ) (l : List ℕ) (i : ℕ) (found : Bool) → i < length l → found || among x (drop i l) ≡ eqb x (getD l i 0) || found || among x (drop (i + 1) l)
@@ -75,16 +76,23 @@ unfolding telling tellBlock
 block-told n m x t u v ws c ps is g k = rw (g, k)
 
 module _ (n m : ℕ) (t : Told) (ws : List ℕ) (c : Position) where
-  pub instruction-got : (o : EvaluationOrder) (d : Position) → atMost mostOrder ws c ≡ got o d →
-      judge (instruction counting n m) (tellInstruction counting) t ws c ≡ judge (effects counting false n m) (each (tellEffect counting false)) t ws d
-  unfolding instruction
-  instruction-got o d x =
-      then-got (atMost mostOrder) _ (tellInstruction counting) t ws c o d x
-      ∙ then-made (effects counting false n m t) (λ (l : EffectList). record { order = o; effects = l }) (tellInstruction counting) t ws d
-
-  pub instruction-refused : (k : ℕ) → atMost mostOrder ws c ≡ refused k → judge (instruction counting n m) (tellInstruction counting) t ws c ≡ refused k
-  unfolding instruction
-  instruction-refused k x = then-refused (atMost mostOrder) _ (tellInstruction counting) t ws c k x
+  -- an instruction: of its words before the effects nothing goes on
+  pub instruction-judged : judge (instruction counting n m) (tellInstruction counting) t ws c ≡ judgedInstruction n m t ws c
+  unfolding instruction judgedInstruction uses lengthOf telling
+  instruction-judged =
+      result-case (atMost mostOrder ws c)
+      (λ o d1 e1. result-case (place n ws d1)
+      (λ p d2 e2. result-case (counted mostLvalues (place n) ws d2)
+      (λ ls d3 e3. result-case (counted mostOperands (place n) ws d3)
+      (λ ps d4 e4. result-case (instructionValue n m ws d4)
+      (λ v d5 e5. result-case (effects counting false n m t ws d5)
+      (λ l d6 e6. rw (e1, e2, e3, e4, e5, e6))
+      (λ k e6. rw (e1, e2, e3, e4, e5, e6)))
+      (λ k e5. rw (e1, e2, e3, e4, e5)))
+      (λ k e4. rw (e1, e2, e3, e4)))
+      (λ k e3. rw (e1, e2, e3)))
+      (λ k e2. rw (e1, e2)))
+      (λ k e1. rw e1)
 
   -- a terminal after its kind and order
   pub terminal-got : (k o : ℕ) (d e : Position) → atMost mostTerminal ws c ≡ got k d → atMost mostOrder ws d ≡ got o e →
@@ -101,25 +109,30 @@ module _ (n m : ℕ) (t : Told) (ws : List ℕ) (c : Position) where
   unfolding terminal
   terminal-order-refused k d r x y = then-got (atMost mostTerminal) _ (tellTerminal counting) t ws c k d x ∙ then-refused (atMost mostOrder) _ (tellTerminal counting) t ws d r y
 
-  pub other-got : (o : ℕ) → telling (terminalOf counting n m t 0 o) (tellTerminal counting) t ws c ≡ got t c
-  unfolding terminalOf telling
-  other-got o = refl
+  -- each kind of terminal
+  pub other-judged : (o : ℕ) → telling (terminalOf counting n m t 0 o) (tellTerminal counting) t ws c ≡ (lengthOf (counted mostOperands (place n)) >>= λ (k : ℕ). pure t) ws c
+  unfolding terminalOf lengthOf telling
+  other-judged o = result-case (counted mostOperands (place n) ws c) (λ ps d e. rw e) (λ k e. rw e)
 
-  pub return-got : (o : ℕ) (p : Place) (d : Position) → place n ws c ≡ got p d →
-      telling (terminalOf counting n m t 1 o) (tellTerminal counting) t ws c ≡ judge (effects counting true n m) (each (tellEffect counting true)) (withRelation t) ws d
-  unfolding terminalOf place telling
-  return-got o p d x =
-      then-got (place n) (λ (p : Place). effects counting true n m (withRelation t) >>= λ (l : EffectList). pure (Return o p l)) (tellTerminal counting) t ws c p d x
-      ∙ then-made (effects counting true n m (withRelation t)) (λ (l : EffectList). Return o p l) (tellTerminal counting) t ws d
+  pub throw-judged : (o : ℕ) → telling (terminalOf counting n m t 2 o) (tellTerminal counting) t ws c ≡ terminalEffects n m t ws c
+  unfolding terminalOf terminalEffects telling
+  throw-judged o =
+      result-case (effects counting true n m t ws c)
+      (λ l d1 e1. result-case (fixed noOperands ws d1)
+      (λ k d2 e2. rw (e1, e2))
+      (λ k e2. rw (e1, e2)))
+      (λ k e1. rw e1)
 
-  pub return-refused : (o r : ℕ) → place n ws c ≡ refused r → telling (terminalOf counting n m t 1 o) (tellTerminal counting) t ws c ≡ refused r
-  unfolding terminalOf place
-  return-refused o r x =
-      then-refused (place n) (λ (p : Place). effects counting true n m (withRelation t) >>= λ (l : EffectList). pure (Return o p l)) (tellTerminal counting) t ws c r x
-
-  pub throw-got : (o : ℕ) → telling (terminalOf counting n m t 2 o) (tellTerminal counting) t ws c ≡ judge (effects counting true n m) (each (tellEffect counting true)) t ws c
-  unfolding terminalOf telling
-  throw-got o = then-made (effects counting true n m t) (λ (l : EffectList). MaybeThrow o l) (tellTerminal counting) t ws c
+  pub return-judged : (o : ℕ) → telling (terminalOf counting n m t 1 o) (tellTerminal counting) t ws c ≡ (place n >>= λ (p : Place). terminalEffects n m (withRelation t)) ws c
+  unfolding terminalOf terminalEffects place telling
+  return-judged o =
+      result-case (place n ws c)
+      (λ p d1 e1. result-case (effects counting true n m (withRelation t) ws d1)
+      (λ l d2 e2. result-case (fixed noOperands ws d2)
+      (λ k d3 e3. rw (e1, e2, e3))
+      (λ k e3. rw (e1, e2, e3)))
+      (λ k e2. rw (e1, e2)))
+      (λ k e1. rw e1)
 
   pub block-got : (x : BlockId) (u v : Told) (d e : Position) → judge (phis n) (each (tellPhi counting)) t ws c ≡ got u d →
       judge (instructions n m) (each (tellInstruction counting)) u ws d ≡ got v e →

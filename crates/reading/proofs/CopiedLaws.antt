@@ -6,21 +6,16 @@ use mathlib.Core.Bool.{Bool, true, false, _||_}
 use mathlib.Core.List.{List, [], _∷_}
 use lib.Dec.{ltb}
 use borrow.Author.Tests.{lt-ltb}
-use Rattle.model.specs.Lists.{keep, consIf, gather, tally, oneIf}
-use Rattle.model.specs.Sheet.{Effect, Instruction, Block, Sheet}
+use Rattle.model.specs.Lists.{keep, consIf, tally, oneIf}
+use Rattle.model.specs.Sheet.{Effect, Sheet}
 use Rattle.model.specs.Effects.{Role, rowOf, isRender, isDiagnosis}
-use Rattle.model.specs.Totals.{instructionEffects, withRole, totals}
+use Rattle.model.specs.Totals.{instructionEffects, totals}
 use Rattle.model.specs.Summary.{copied}
 use Rattle.model.specs.Call.{read, IsSheet}
-use Rattle.model.proofs.Stored.{tally-append}
 use Rattle.reading.specs.Judging.{Told}
 use Rattle.reading.specs.Whole.{diagnoses, told, acceptance, judgementOf}
 use Rattle.reading.proofs.Accepted.{accepted-told}
-
-module _ {A B : Type 0} (f : B → ℕ) (g : A → List B) where
-  tally-gather : (l : List A) → tally f (gather g l) ≡ tally (λ (a : A). tally f (g a)) l
-  tally-gather [] = refl
-  tally-gather (a ∷ l) = omega (arith, tally-append f (g a) (gather g l), tally-gather l)
+use Rattle.reading.proofs.EffectTallies.{tally-effects}
 
 module _ {A : Type 0} (p q : A → Bool) where
   none-kept : (l : List A) → tally (λ (a : A). oneIf (p a)) l ≡ 0 → tally (λ (a : A). oneIf (q a)) l ≡ 0 → keep (λ (a : A). p a || q a) l ≡ []
@@ -35,13 +30,6 @@ module _ {A : Type 0} (p q : A → Bool) where
 abbrev counts : (Role → Bool) → Effect → ℕ
 counts f e = oneIf (f (rowOf (e .kind) .role))
 
--- block by block, or all effects of instructions at once
-with-role : (f : Role → Bool) (s : Sheet) → tally (counts f) (instructionEffects s) ≡ tally (λ (b : Block). withRole f (b .instructions)) (s .blocks)
-unfolding instructionEffects
-with-role f s =
-    tally-gather (counts f) (λ (b : Block). gather (λ (i : Instruction). i .effects) (b .instructions)) (s .blocks)
-    ∙ (λ j. tally (λ (b : Block). tally-gather (counts f) (λ (i : Instruction). i .effects) (b .instructions) j) (s .blocks))
-
 none-told : (n : ℕ) → oneIf (ltb 0 n) ≡ 0 → n ≡ 0
 none-told zero h = refl
 none-told (suc n) h = let k : oneIf (ltb 0 (suc n)) ≡ 1 = ap oneIf (lt-ltb 0 (suc n) (omega arith)) in absurd (omega (arith, h, k))
@@ -50,7 +38,7 @@ none-copied : (s : Sheet) → told s .diagnoses ≡ 0 → told s .renders ≡ 0 
 unfolding copied told diagnoses totals
 none-copied s h k =
     none-kept (λ (e : Effect). isDiagnosis (rowOf (e .kind) .role)) (λ (e : Effect). isRender (rowOf (e .kind) .role)) (instructionEffects s)
-    (with-role isDiagnosis s ∙ none-told (diagnoses s) h) (with-role isRender s ∙ k)
+    (tally-effects (counts isDiagnosis) s ∙ none-told (diagnoses s) h) (tally-effects (counts isRender) s ∙ k)
 
 pub accepted-copies : (ws : List ℕ) (t : Told) → judgementOf (read ws) ≡ acceptance t → t .diagnoses ≡ 0 → t .renders ≡ 0 → (s : Sheet) → IsSheet ws s → copied s ≡ []
 accepted-copies ws t e h k s is = let q : told s ≡ t = accepted-told ws t e s is in none-copied s (ap (λ (u : Told). u .diagnoses) q ∙ h) (ap (λ (u : Told). u .renders) q ∙ k)

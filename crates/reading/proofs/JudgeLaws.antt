@@ -16,6 +16,11 @@ use Rattle.model.specs.Reading.{Position, Result, got, refused, Read, andThen, 
 use Rattle.model.proofs.Everywhere.{every-mem}
 use Rattle.reading.specs.Judging.{mapResult, telling, judge}
 
+-- what was read, or refused
+pub result-case : {A P : Type 0} (x : Result A) → ((a : A) (d : Position) → x ≡ got a d → P) → ((k : ℕ) → x ≡ refused k → P) → P
+result-case (got a d) f g = f a d refl
+result-case (refused k) f g = g k refl
+
 module _ {A B : Type 0} (f : Read A) (tell : A → B → B) (b : B) (ws : List ℕ) (c : Position) where
   pub judge-got : (a : A) (d : Position) → f ws c ≡ got a d → telling f tell b ws c ≡ got (tell a b) d
   unfolding telling

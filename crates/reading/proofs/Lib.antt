@@ -6,4 +6,6 @@ pub mod WholeLaws
 pub mod TotalsLaws
 pub mod VerdictLaws
 pub mod Accepted
+pub mod EffectTallies
 pub mod CopiedLaws
+pub mod ApplyLaws

@@ -1,16 +1,15 @@
 -- A section of which only the length goes on: its count, if all of its parts are read.
 use Prim.Native.Nat.{ℕ}
-use mathlib.Core.Path.{_≡_, _∙_, refl, sym}
+use mathlib.Core.Path.{_≡_, _∙_, sym}
 use mathlib.Core.List.{List}
-use Rattle.model.specs.Limits.{mostInnerDiagnostics}
+use Rattle.model.specs.Limits.{mostInnerDiagnostics, mostInnerContext}
 use Rattle.model.specs.Lists.{each}
-use Rattle.model.specs.Sheet.{Diagnostic, InnerFunction}
-use Rattle.model.specs.Reading.{Position, Result, got, refused, Read, andThen, count, times, counted, timesFrom}
-use Rattle.model.specs.Sections.{diagnostic, innerFunction}
+use Rattle.model.specs.Reading.{Position, got, refused, Read, _>>=_, pure, count, times, counted, timesFrom}
+use Rattle.model.specs.Sections.{diagnostic, innerFunction, place}
 use Rattle.model.proofs.ReadLaws.{times-length}
 use Rattle.model.proofs.Asked.{itself, times-follows, never}
-use Rattle.reading.specs.Judging.{mapResult, telling}
-use Rattle.reading.proofs.JudgeLaws.{got-judged, refused-judged}
+use Rattle.reading.specs.Judging.{telling}
+use Rattle.reading.proofs.JudgeLaws.{result-case, got-judged, refused-judged}
 use Rattle.reading.specs.Whole.{lengthOf, skip, passing}
 
 -- parts that are read with a tally of nothing
@@ -32,19 +31,14 @@ module _ {A : Type 0} (most : ℕ) (f : Read A) (ws : List ℕ) (c : Position) w
   unfolding lengthOf counted
   count-stopped r x = rw x
 
-module _ (ws : List ℕ) (c : Position) where
-  -- an inner function after its count
-  pub inner-got : (k : ℕ) (d : Position) → count mostInnerDiagnostics ws c ≡ got k d →
-      telling innerFunction skip tt ws c ≡ passing k diagnostic ws d
-  unfolding innerFunction counted telling
-  inner-got k d x = rw (x, plain k diagnostic ws d) (go (times k diagnostic ws d))
-    where
-      go : (r : Result (List Diagnostic)) →
-          mapResult (λ (a : InnerFunction). tt) (andThen r (λ (l : List Diagnostic) (e : Position). got (record { diagnostics = l }) e))
-          ≡ mapResult (λ (l : List Diagnostic). each skip l tt) r
-      go (got l e) = refl
-      go (refused n) = refl
-
-  pub inner-refused : (r : ℕ) → count mostInnerDiagnostics ws c ≡ refused r → telling innerFunction skip tt ws c ≡ refused r
-  unfolding innerFunction counted telling
-  inner-refused r x = rw x
+-- an inner function: two sections of which nothing goes on
+pub inner-judged : (n : ℕ) (ws : List ℕ) (c : Position) →
+    telling (innerFunction n) skip tt ws c
+    ≡ (lengthOf (counted mostInnerDiagnostics diagnostic) >>= λ (k : ℕ). lengthOf (counted mostInnerContext (place n)) >>= λ (j : ℕ). pure tt) ws c
+unfolding innerFunction lengthOf telling
+inner-judged n ws c =
+    result-case (counted mostInnerDiagnostics diagnostic ws c)
+    (λ l d1 e1. result-case (counted mostInnerContext (place n) ws d1)
+    (λ cs d2 e2. rw (e1, e2))
+    (λ k e2. rw (e1, e2)))
+    (λ k e1. rw e1)

@@ -1,27 +1,23 @@
 -- The judged sheet is the sheet, told.
 use Prim.Native.Nat.{ℕ}
-use mathlib.Core.Path.{_≡_, refl, sym}
+use mathlib.Core.Path.{_≡_, sym}
 use mathlib.Core.List.{List, []}
 use lib.ListN.{length}
 use Rattle.model.specs.Limits.{mostIdentifiers, mostFunctions, mostParams, mostContext, returnsCount, mostBlocks}
-use Rattle.model.specs.Reading.{Position, Result, got, refused, count, fixed, counted, numberedFrom}
+use Rattle.model.specs.Reading.{Position, count, fixed, counted, numberedFrom}
 use Rattle.model.specs.Sections.{noQuestion, flags, identifier, innerFunction, place, sheet}
 use Rattle.model.specs.Asking.{block, tellBlock, sheet as askedSheet}
 use Rattle.model.proofs.Asked.{itself, sheet-follows, never}
 use Rattle.reading.specs.Judging.{telling, noTotals, counting, blocksOf}
+use Rattle.reading.proofs.JudgeLaws.{result-case}
 use Rattle.reading.specs.Whole.{lengthOf, heading, placeLists, judgedSheet, tellSheet}
-
--- what was read, or refused
-result-case : {A P : Type 0} (x : Result A) → ((a : A) (d : Position) → x ≡ got a d → P) → ((k : ℕ) → x ≡ refused k → P) → P
-result-case (got a d) f g = f a d refl
-result-case (refused k) f g = g k refl
 
 asked-judged : (ws : List ℕ) (c : Position) → telling (askedSheet counting) tellSheet noTotals ws c ≡ judgedSheet ws c
 unfolding askedSheet judgedSheet heading placeLists lengthOf telling blocksOf
 asked-judged ws c =
     result-case (flags ws c)
     (λ fs d1 e1. result-case (counted mostIdentifiers identifier ws d1)
-    (λ ids d2 e2. result-case (counted mostFunctions innerFunction ws d2)
+    (λ ids d2 e2. result-case (counted mostFunctions (innerFunction (length ids)) ws d2)
     (λ inner d3 e3. result-case (counted mostParams (place (length ids)) ws d3)
     (λ ps d4 e4. result-case (counted mostContext (place (length ids)) ws d4)
     (λ cs d5 e5. result-case (fixed returnsCount ws d5)

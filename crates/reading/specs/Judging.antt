@@ -1,16 +1,16 @@
 -- Reading that keeps no tree: what was read is told to running totals as it comes, and only they go on.
--- Refusal 8 asks whether a total is over its limit, so a total stops one above it; of diagnoses it is told only whether there is one.
+-- Refusal 8 asks whether a total is over its limit, so a total stops one above it; of diagnoses and of Apply it is told only whether there is one.
 use Prim.Native.Nat.{ℕ, _+_}
-use mathlib.Core.Bool.{Bool}
+use mathlib.Core.Bool.{Bool, true}
 use mathlib.Core.List.{List, []}
 use lib.Dec.{ltb}
-use Rattle.model.specs.Limits.{mostBlocks, mostRelations, mostMutations, mostRenders}
-use Rattle.model.specs.Lists.{pick}
+use Rattle.model.specs.Limits.{mostBlocks, noOperands, mostRelations, mostMutations, mostRenders}
+use Rattle.model.specs.Lists.{pick, each}
 use Rattle.model.specs.Sheet.{EffectKind, Block}
-use Rattle.model.specs.Effects.{Role, relation, mutation, render, diagnosis, nothing, rowOf, isAlias}
-use Rattle.model.specs.Reading.{Result, got, refused, Read, _>>=_, count, numberedFrom}
+use Rattle.model.specs.Effects.{Role, relation, mutation, render, diagnosis, nothing, rowOf, isApply, isAlias}
+use Rattle.model.specs.Reading.{Result, got, refused, Read, _>>=_, pure, count, fixed, numberedFrom}
 use Rattle.model.specs.Sections.{noQuestion, innerFunction}
-use Rattle.model.specs.Asking.{Asks, tellBlock, block}
+use Rattle.model.specs.Asking.{Asks, tellEffect, tellBlock, effects, block}
 
 module _ {A B : Type 0} where
   -- the same position or refusal, with another value
@@ -42,48 +42,60 @@ mutationStop = mostMutations + 1
 abbrev pub renderStop : ℕ
 renderStop = mostRenders + 1
 
--- the three totals, and 1 if an instruction has an effect of kind 14 to 16
+-- the three totals, 1 if an instruction has an effect of kind 14 to 16, and 1 if one has an Apply
 pub record Told : Type 0 where
   pub relations : ℕ
   pub mutations : ℕ
   pub renders : ℕ
   pub diagnoses : ℕ
+  pub applies : ℕ
 
 -- one more relation effect
 unfoldable pub withRelation : Told → Told
-withRelation t = record { relations = bump relationStop (t .relations); mutations = t .mutations; renders = t .renders; diagnoses = t .diagnoses }
+withRelation t = record { relations = bump relationStop (t .relations); mutations = t .mutations; renders = t .renders; diagnoses = t .diagnoses; applies = t .applies }
 
 -- one more mutation
 unfoldable pub withMutation : Told → Told
-withMutation t = record { relations = t .relations; mutations = bump mutationStop (t .mutations); renders = t .renders; diagnoses = t .diagnoses }
+withMutation t = record { relations = t .relations; mutations = bump mutationStop (t .mutations); renders = t .renders; diagnoses = t .diagnoses; applies = t .applies }
 
 -- one more render
 unfoldable pub withRender : Told → Told
-withRender t = record { relations = t .relations; mutations = t .mutations; renders = bump renderStop (t .renders); diagnoses = t .diagnoses }
+withRender t = record { relations = t .relations; mutations = t .mutations; renders = bump renderStop (t .renders); diagnoses = t .diagnoses; applies = t .applies }
 
 -- there is a diagnosis
 unfoldable pub withDiagnosis : Told → Told
-withDiagnosis t = record { relations = t .relations; mutations = t .mutations; renders = t .renders; diagnoses = 1 }
+withDiagnosis t = record { relations = t .relations; mutations = t .mutations; renders = t .renders; diagnoses = 1; applies = t .applies }
 
--- an effect of an instruction, by what it is for
-abbrev pub tellRole : Role → Told → Told
-tellRole relation t = withRelation t
-tellRole mutation t = withMutation t
-tellRole render t = withRender t
-tellRole diagnosis t = withDiagnosis t
-tellRole nothing t = t
+-- there is an Apply
+unfoldable pub withApply : Told → Told
+withApply t = record { relations = t .relations; mutations = t .mutations; renders = t .renders; diagnoses = t .diagnoses; applies = 1 }
+
+-- an effect of an instruction, by what it is for and whether it is Apply
+abbrev pub tellRole : Bool → Role → Told → Told
+tellRole apply relation t = withRelation t
+tellRole apply mutation t = withMutation t
+tellRole apply render t = withRender t
+tellRole apply diagnosis t = withDiagnosis t
+tellRole apply nothing t = pick apply (withApply t) t
 
 -- an effect of a terminal counts if it is an alias
 unfoldable pub tellKind : Bool → EffectKind → Told → Told
-tellKind terminal k t = pick terminal (pick (isAlias k) (withRelation t) t) (tellRole (rowOf k .role) t)
+tellKind terminal k t = pick terminal (pick (isAlias k) (withRelation t) t) (tellRole (isApply k) (rowOf k .role) t)
 
 -- before the first block
 abbrev pub noTotals : Told
-noTotals = record { relations = 0; mutations = 0; renders = 0; diagnoses = 0 }
+noTotals = record { relations = 0; mutations = 0; renders = 0; diagnoses = 0; applies = 0 }
 
 -- what is counted while reading; nothing is asked
 abbrev pub counting : Asks
-counting = record { Tally = Told; none = noTotals; effect = tellKind; relation = withRelation; ask = λ t. noQuestion; inner = λ n. innerFunction }
+counting = record { Tally = Told; none = noTotals; effect = tellKind; relation = withRelation; ask = λ t. noQuestion; inner = innerFunction }
+
+-- the effects of a Return or a MaybeThrow, after which the count of operands "is 0"
+unfoldable pub terminalEffects : ℕ → ℕ → Told → Read Told
+terminalEffects n m t = do
+  u ← judge (effects counting true n m) (each (tellEffect counting true)) t
+  k ← fixed noOperands
+  pure u
 
 -- "Blocks, at most 256"
 unfoldable pub blocksOf : ℕ → ℕ → Told → Read (List Block)

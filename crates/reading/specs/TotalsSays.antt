@@ -7,7 +7,7 @@ use Rattle.reading.specs.declared.blocks.TotalsStep.the-variants.{Got, R
 
 -- the totals as the definitions have them
 abbrev pub totalsAre : Totals → Told
-totalsAre t = record { relations = t .relations; mutations = t .mutations; renders = t .renders; diagnoses = t .diagnoses }
+totalsAre t = record { relations = t .relations; mutations = t .mutations; renders = t .renders; diagnoses = t .diagnoses; applies = t .applies }
 
 -- the totals so far with the next position, or the refusal's number
 abbrev pub totalsSays : TotalsStep → Result Told

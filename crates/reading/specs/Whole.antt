@@ -1,16 +1,18 @@
--- A whole sheet judged: the heading, the lists of places, the blocks; and the verdict.
+-- A whole sheet judged: the heading, the lists of places, an instruction, the blocks; and the verdict.
 use Prim.Native.Nat.{ℕ}
+use mathlib.Core.Bool.{false}
 use mathlib.Core.List.{List}
 use lib.ListN.{length}
 use lib.Dec.{ltb}
-use Rattle.model.specs.Limits.{mostIdentifiers, mostFunctions, mostParams, mostContext, returnsCount}
+use Rattle.model.specs.Limits.{mostIdentifiers, mostFunctions, mostParams, mostContext, returnsCount, mostOrder, mostLvalues, mostOperands}
 use Rattle.model.specs.Lists.{each, tally, oneIf}
 use Rattle.model.specs.Sheet.{Place, Block, Sheet}
 use Rattle.model.specs.Effects.{isDiagnosis}
-use Rattle.model.specs.Reading.{Result, got, refused, Read, _>>=_, pure, fixed, counted, timesFrom}
-use Rattle.model.specs.Sections.{flags, identifier, innerFunction, place}
-use Rattle.model.specs.Asking.{tellBlock}
+use Rattle.model.specs.Reading.{Result, got, refused, Read, _>>=_, pure, fixed, atMost, counted, timesFrom}
+use Rattle.model.specs.Sections.{flags, identifier, innerFunction, place, instructionValue}
+use Rattle.model.specs.Asking.{effects, tellEffect, tellBlock}
 use Rattle.model.specs.Totals.{withRole, Totals, totals}
+use Rattle.model.specs.Call.{applies}
 use Rattle.reading.specs.Judging.{mapResult, judge, Told, noTotals, counting, blocksOf}
 
 module _ {A : Type 0} where
@@ -36,7 +38,7 @@ unfoldable pub heading : Read Heading
 heading = do
   fs ← flags
   n ← lengthOf (counted mostIdentifiers identifier)
-  m ← lengthOf (counted mostFunctions innerFunction)
+  m ← lengthOf (counted mostFunctions (innerFunction n))
   pure (record { identifiers = n; functions = m })
 
 -- "Parameters, then context", "Returns, count 1: a place"
@@ -46,6 +48,22 @@ placeLists n = do
   cs ← lengthOf (counted mostContext (place n))
   k ← fixed returnsCount
   place n
+
+-- what stands between an instruction's order and its effects: "its lvalue place; its value lvalues, then its operands; and a value word"
+unfoldable pub uses : ℕ → ℕ → Read (Unit {0})
+uses n m = do
+  p ← place n
+  ls ← lengthOf (counted mostLvalues (place n))
+  ps ← lengthOf (counted mostOperands (place n))
+  v ← instructionValue n m
+  pure tt
+
+-- an instruction, of which only its effects are told
+unfoldable pub judgedInstruction : ℕ → ℕ → Told → Read Told
+judgedInstruction n m t = do
+  o ← atMost mostOrder
+  u ← uses n m
+  judge (effects counting false n m) (each (tellEffect counting false)) t
 
 -- the sections in their order, with what refusal 8 counts
 unfoldable pub judgedSheet : Read Told
@@ -66,9 +84,9 @@ totalsOf t = record { relations = t .relations; mutations = t .mutations; render
 unfoldable pub diagnoses : Sheet → ℕ
 diagnoses s = tally (λ (b : Block). withRole isDiagnosis (b .instructions)) (s .blocks)
 
--- what is told of an accepted sheet: its totals, and whether there is a diagnosis
+-- what is told of an accepted sheet: its totals, whether there is a diagnosis, and whether refusal 10 applies
 unfoldable pub told : Sheet → Told
-told s = record { relations = totals s .relations; mutations = totals s .mutations; renders = totals s .renders; diagnoses = oneIf (ltb 0 (diagnoses s)) }
+told s = record { relations = totals s .relations; mutations = totals s .mutations; renders = totals s .renders; diagnoses = oneIf (ltb 0 (diagnoses s)); applies = oneIf (applies s) }
 
 -- what is said of a sheet: a refusal's number, or what is told of it
 pub data Judgement : Type 0 where

@@ -4,8 +4,11 @@ ghost use Rattle.model.specs.Lists.{each};
 ghost use Rattle.model.specs.Reading.{countedFrom};
 ghost use Rattle.model.specs.Asking.{effects, instruction, terminal, block, tellEffect, tellInstruction, tellTerminal, tellBlock};
 ghost use Rattle.model.specs.Limits.{mostCount};
-ghost use Rattle.reading.specs.Judging.{judge, counting, noTotals, blocksOf};
+ghost use Rattle.reading.specs.Judging.{judge, counting, noTotals, terminalEffects, blocksOf};
 ghost use Rattle.reading.specs.TotalsSays.{totalsAre, totalsSays};
+ghost use Rattle.reading.specs.Says.{cursorSays};
+ghost use Rattle.reading.specs.Whole.{uses};
+use crate::CursorStep;
 use hir::BlockStep;
 use hir::Cursor;
 use hir::EffectStep;
@@ -13,16 +16,21 @@ use hir::KindStep;
 use hir::OrderStep;
 use hir::PlaceStep;
 use hir::TerminalKind;
+use hir::ValueStep;
 use hir::WordStep;
 use hir::limits::MOST_BLOCKS;
 use hir::limits::MOST_COUNT;
+use hir::limits::MOST_LVALUES;
+use hir::limits::MOST_OPERANDS;
+use hir::limits::NO_OPERANDS;
 
-// The relation effects, mutations and renders so far, each no higher than one above its limit; and 1 if an instruction had a diagnosis.
+// The relation effects, mutations and renders so far, each no higher than one above its limit; 1 if an instruction had a diagnosis; 1 if one had an Apply.
 pub struct Totals {
     pub relations: u32,
     pub mutations: u32,
     pub renders: u32,
     pub diagnoses: u32,
+    pub applies: u32,
 }
 
 // The totals and the position after a part of the sheet, or a refusal.
@@ -63,13 +71,35 @@ fn effects(start: Cursor, s: &[u32], n: u32, m: u32, terminal: bool, totals: Tot
     TotalsStep::Got(t, c)
 }
 
-// An order, an effect count and the effects.
+// What stands between an instruction's order and its effects: lvalue, value lvalues, operands, value.
+fn uses(c: Cursor, s: &[u32], n: u32, m: u32) -> CursorStep
+    ensures { λ r. ⌜ cursorSays r ≡ uses n m (now (s .entry)) (c .at) ⌝ }
+{
+    match c.place(s, n) {
+        PlaceStep::Got(_, c1) => match crate::sections::places(c1, s, n, MOST_LVALUES) {
+            WordStep::Got(_, c2) => match crate::sections::places(c2, s, n, MOST_OPERANDS) {
+                WordStep::Got(_, c3) => match c3.value(s, n, m) {
+                    ValueStep::Got(_, c4) => CursorStep::Got(c4),
+                    ValueStep::Refused(k4) => CursorStep::Refused(k4),
+                },
+                WordStep::Refused(k3) => CursorStep::Refused(k3),
+            },
+            WordStep::Refused(k2) => CursorStep::Refused(k2),
+        },
+        PlaceStep::Refused(k1) => CursorStep::Refused(k1),
+    }
+}
+
+// An order, places and a value, an effect count and the effects.
 fn instruction(c: Cursor, s: &[u32], n: u32, m: u32, totals: Totals) -> TotalsStep
     ensures { λ r. ⌜ totalsSays r ≡ judge (instruction counting n m) (tellInstruction counting) (totalsAre totals) (now (s .entry)) (c .at) ⌝ }
 {
     match c.order(s) {
-        OrderStep::Got(_, d) => effects(d, s, n, m, false, totals),
-        OrderStep::Refused(k) => TotalsStep::Refused(k),
+        OrderStep::Got(_, c1) => match uses(c1, s, n, m) {
+            CursorStep::Got(c2) => effects(c2, s, n, m, false, totals),
+            CursorStep::Refused(k2) => TotalsStep::Refused(k2),
+        },
+        OrderStep::Refused(k1) => TotalsStep::Refused(k1),
     }
 }
 
@@ -104,7 +134,20 @@ fn instructions(start: Cursor, s: &[u32], n: u32, m: u32, totals: Totals) -> Tot
     TotalsStep::Got(t, c)
 }
 
-// Kind and order; of a Return its value; of a Return and a MaybeThrow the effects.
+// The effects of a Return or a MaybeThrow, and the count of its operands, which is 0.
+fn terminal_effects(c: Cursor, s: &[u32], n: u32, m: u32, totals: Totals) -> TotalsStep
+    ensures { λ r. ⌜ totalsSays r ≡ terminalEffects n m (totalsAre totals) (now (s .entry)) (c .at) ⌝ }
+{
+    match effects(c, s, n, m, true, totals) {
+        TotalsStep::Got(t, c1) => match c1.fixed(s, NO_OPERANDS) {
+            WordStep::Got(_, c2) => TotalsStep::Got(t, c2),
+            WordStep::Refused(k2) => TotalsStep::Refused(k2),
+        },
+        TotalsStep::Refused(k1) => TotalsStep::Refused(k1),
+    }
+}
+
+// Kind and order; of a Return its value; of a Return and a MaybeThrow the effects; the operands.
 fn terminal(c: Cursor, s: &[u32], n: u32, m: u32, totals: Totals) -> TotalsStep
     ensures { λ r. ⌜ totalsSays r ≡ judge (terminal counting n m) (tellTerminal counting) (totalsAre totals) (now (s .entry)) (c .at) ⌝ }
 {
@@ -129,12 +172,15 @@ fn terminal(c: Cursor, s: &[u32], n: u32, m: u32, totals: Totals) -> TotalsStep
         }
     }
     match kind {
-        TerminalKind::Other => TotalsStep::Got(totals, c2),
-        TerminalKind::Return => match c2.place(s, n) {
-            PlaceStep::Got(_, c3) => effects(c3, s, n, m, true, totals.relation()),
-            PlaceStep::Refused(k3) => TotalsStep::Refused(k3),
+        TerminalKind::Other => match crate::sections::places(c2, s, n, MOST_OPERANDS) {
+            WordStep::Got(_, c3) => TotalsStep::Got(totals, c3),
+            WordStep::Refused(k3) => TotalsStep::Refused(k3),
         },
-        TerminalKind::MaybeThrow => effects(c2, s, n, m, true, totals),
+        TerminalKind::Return => match c2.place(s, n) {
+            PlaceStep::Got(_, c4) => terminal_effects(c4, s, n, m, totals.relation()),
+            PlaceStep::Refused(k4) => TotalsStep::Refused(k4),
+        },
+        TerminalKind::MaybeThrow => terminal_effects(c2, s, n, m, totals),
     }
 }
 
@@ -171,6 +217,7 @@ pub fn blocks(start: Cursor, s: &[u32], n: u32, m: u32) -> TotalsStep
         mutations: 0,
         renders: 0,
         diagnoses: 0,
+        applies: 0,
     };
     let mut used = [0u16; MOST_BLOCKS as usize];
     let mut free = MOST_BLOCKS as usize;

@@ -1,7 +1,7 @@
-// What refusal 8 counts.
+// What refusal 8 counts, and whether there is a diagnosis or an Apply.
 ghost use mathlib.Core.Path.{_≡_};
 ghost use Rattle.hir.specs.Numbers.{kindSays};
-ghost use Rattle.reading.specs.Judging.{bump, withRelation, withMutation, withRender, withDiagnosis, tellKind};
+ghost use Rattle.reading.specs.Judging.{bump, withRelation, withMutation, withRender, withDiagnosis, withApply, tellKind};
 ghost use Rattle.reading.specs.TotalsSays.{totalsAre};
 use crate::blocks::Totals;
 use hir::EffectKind;
@@ -49,6 +49,13 @@ impl Totals {
         self
     }
 
+    pub fn apply(mut self) -> Totals
+        ensures { λ r. ⌜ totalsAre r ≡ withApply (totalsAre self) ⌝ }
+    {
+        self.applies = 1;
+        self
+    }
+
     // An effect of this kind, of an instruction or of a terminal.
     pub fn effect(self, kind: EffectKind, terminal: bool) -> Totals
         ensures { λ r. ⌜ totalsAre r ≡ tellKind terminal (kindSays kind) (totalsAre self) ⌝ }
@@ -65,7 +72,12 @@ impl Totals {
             Role::Mutation => self.mutation(),
             Role::Render => self.render(),
             Role::Diagnosis => self.diagnosis(),
-            Role::Nothing => self,
+            Role::Nothing => {
+                if kind.is(EffectKind::Apply) {
+                    return self.apply();
+                }
+                self
+            }
         }
     }
 }

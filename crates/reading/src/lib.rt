@@ -47,7 +47,7 @@ pub enum HeadingStep {
 pub enum Verdict {
     // By the number of the refusal, 2 to 8.
     Refused(u32),
-    // With what refusal 8 counts, and whether there is a diagnosis.
+    // With what refusal 8 counts, and whether there is a diagnosis or an Apply.
     Accepted(Totals),
 }
 
@@ -57,7 +57,7 @@ fn head(c: Cursor, s: &[u32]) -> HeadingStep
 {
     match c.flags(s) {
         FlagsStep::Got(_, c1) => match sections::identifiers(c1, s) {
-            WordStep::Got(identifiers, c2) => match sections::functions(c2, s) {
+            WordStep::Got(identifiers, c2) => match sections::functions(c2, s, identifiers) {
                 WordStep::Got(functions, c3) => {
                     let h = Heading {
                         identifiers,

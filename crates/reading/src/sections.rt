@@ -1,8 +1,8 @@
-// The sections before the blocks, each after its count.
+// The sections before the blocks, and every list of places, each after its count.
 ghost use mathlib.Core.Path.{_≡_};
-ghost use Rattle.model.specs.Limits.{mostIdentifiers, mostFunctions};
+ghost use Rattle.model.specs.Limits.{mostIdentifiers, mostFunctions, mostInnerDiagnostics};
 ghost use Rattle.model.specs.Reading.{counted};
-ghost use Rattle.model.specs.Sections.{identifier, innerFunction, place};
+ghost use Rattle.model.specs.Sections.{identifier, diagnostic, innerFunction, place};
 ghost use Rattle.hir.specs.Says.{wordSays};
 ghost use Rattle.reading.specs.Judging.{telling};
 ghost use Rattle.reading.specs.Whole.{lengthOf, skip};
@@ -15,6 +15,7 @@ use hir::PlaceStep;
 use hir::WordStep;
 use hir::limits::MOST_FUNCTIONS;
 use hir::limits::MOST_IDENTIFIERS;
+use hir::limits::MOST_INNER_CONTEXT;
 use hir::limits::MOST_INNER_DIAGNOSTICS;
 
 // An identifier count and the identifiers: how many there are.
@@ -47,38 +48,52 @@ pub fn identifiers(start: Cursor, s: &[u32]) -> WordStep
     WordStep::Got(count, c)
 }
 
-// A count and that many diagnostics.
-pub fn inner_function(start: Cursor, s: &[u32]) -> CursorStep
-    ensures { λ r. ⌜ cursorSays r ≡ telling innerFunction skip tt (now (s .entry)) (start .at) ⌝ }
+// A count and the diagnostics of an inner function: how many there are.
+fn diagnostics(start: Cursor, s: &[u32]) -> WordStep
+    ensures { λ r. ⌜ wordSays r ≡ lengthOf (counted mostInnerDiagnostics diagnostic) (now (s .entry)) (start .at) ⌝ }
 {
-    let mut left: u32;
+    let count: u32;
     let mut c: Cursor;
     match start.count(s, MOST_INNER_DIAGNOSTICS) {
         WordStep::Got(k, d) => {
-            left = k;
+            count = k;
             c = d;
         }
         WordStep::Refused(k1) => {
-            return CursorStep::Refused(k1);
+            return WordStep::Refused(k1);
         }
     }
+    let mut left = count;
     while 0 < left {
         match c.diagnostic(s) {
             DiagnosticStep::Got(_, d2) => {
                 c = d2;
             }
             DiagnosticStep::Refused(k2) => {
-                return CursorStep::Refused(k2);
+                return WordStep::Refused(k2);
             }
         }
         left -= 1;
     }
-    CursorStep::Got(c)
+    WordStep::Got(count, c)
+}
+
+// Diagnostics, then context places.
+fn inner_function(c: Cursor, s: &[u32], n: u32) -> CursorStep
+    ensures { λ r. ⌜ cursorSays r ≡ telling (innerFunction n) skip tt (now (s .entry)) (c .at) ⌝ }
+{
+    match diagnostics(c, s) {
+        WordStep::Got(_, c1) => match places(c1, s, n, MOST_INNER_CONTEXT) {
+            WordStep::Got(_, c2) => CursorStep::Got(c2),
+            WordStep::Refused(k2) => CursorStep::Refused(k2),
+        },
+        WordStep::Refused(k1) => CursorStep::Refused(k1),
+    }
 }
 
 // A count and the inner functions: how many there are.
-pub fn functions(start: Cursor, s: &[u32]) -> WordStep
-    ensures { λ r. ⌜ wordSays r ≡ lengthOf (counted mostFunctions innerFunction) (now (s .entry)) (start .at) ⌝ }
+pub fn functions(start: Cursor, s: &[u32], n: u32) -> WordStep
+    ensures { λ r. ⌜ wordSays r ≡ lengthOf (counted mostFunctions (innerFunction n)) (now (s .entry)) (start .at) ⌝ }
 {
     let count: u32;
     let mut c: Cursor;
@@ -93,7 +108,7 @@ pub fn functions(start: Cursor, s: &[u32]) -> WordStep
     }
     let mut left = count;
     while 0 < left {
-        match inner_function(c, s) {
+        match inner_function(c, s, n) {
             CursorStep::Got(d2) => {
                 c = d2;
             }

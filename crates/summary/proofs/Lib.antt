@@ -3,7 +3,7 @@ pub mod Marking
 pub mod Collecting
 pub mod Flowing
 pub mod Counts
-pub mod Starts
+pub mod Ends
 pub mod Whole
 pub mod Rooms
 pub mod Turns

@@ -5,40 +5,31 @@ use native.Mathlib.Nat.{mul-suc}
 use mathlib.Core.Path.{_≡_, refl, ap, _∙_}
 use mathlib.Core.List.{List, [], _∷_, _++_, map, append-nil}
 use lib.ListN.{length, length-append}
-use Rattle.model.specs.Limits.{mostIdentifiers, identifierWidth, placeWidth, effectWidth}
+use Rattle.model.specs.Limits.{placeWidth, effectWidth}
 use Rattle.model.specs.Lists.{pick, gather}
 use Rattle.model.specs.Sheet.{Place, Effect, Sheet}
 use Rattle.model.specs.State.{State}
 use Rattle.model.specs.Summary.{marked, collectParamEffects}
 use Rattle.model.specs.Simulated.{tracked, flows, flowEffect, flowEffects}
-use Rattle.model.specs.Answer.{Range, rangesOf, rangeWords, placeWords, effectWords, countWords, section}
-use Rattle.hir.specs.declared.at.List.{List as Listed}
-use Rattle.hir.specs.Words.{wide, identifierAt, several}
+use Rattle.model.specs.Answer.{placeWords, effectWords, countWords, section}
 use Rattle.workspace.specs.Graph.{tab}
 use Rattle.workspace.proofs.Tables.{tab-length}
-use Rattle.aliasing.specs.State.{nodesOf, endsOf, stateOf}
+use Rattle.aliasing.specs.State.{stateOf}
 use Rattle.aliasing.specs.Pending.{takenOf}
 use Rattle.writing.specs.Wrote.{Wrote}
 use Rattle.copies.proofs.Lengths.{gather-length}
 use Rattle.summary.specs.Records.{Holds, Collected}
 use Rattle.workspace.specs.Tracked.{trackedAt, trackedOf, trackedFrom}
-use Rattle.summary.specs.Ranges.{rangeWidth, Ranges}
 use Rattle.summary.specs.Sections.{Marked, Flows, simulatedOf}
 use Rattle.summary.proofs.Held.{held}
 use Rattle.workspace.proofs.Places.{tracked-below}
 use Rattle.summary.proofs.Collecting.{collect-length, recordWords}
 use Rattle.summary.proofs.Flowing.{pick-most}
-use Rattle.summary.proofs.Starts.{ranges-length}
 use Rattle.summary.proofs.Marking.{marked-table}
 use Rattle.summary.proofs.Counts.{taken-length, simulated-length, counts-length}
 use Rattle.model.proofs.Gathers.{gather-append, gather-gather}
 
 module _ {a : List ℕ} {at : ℕ} {a′ : List ℕ} {r : ℕ} where
-  pub ranges-next : (sheet : List ℕ) (l : Listed) (ws : List ℕ) → l .count ≤ mostIdentifiers → Ranges sheet l ws a at a′ r → r ≡ at + 1 + rangeWidth * l .count
-  ranges-next sheet l ws b w =
-      let rs : List Range = rangesOf (several (l .count) (wide identifierWidth identifierAt) sheet (l .first) .what) (endsOf (nodesOf ws)) in
-      omega (arith, w .next, gather-length rangeWords rangeWidth (λ x. refl) rs, ranges-length sheet ws (l .count) (l .first) b)
-
   pub marked-next : (ws : List ℕ) (first count : ℕ) → Marked ws first count a at a′ r → r ≡ at + 1 + placeWidth * count
   marked-next ws first count v =
       let t : State = stateOf ws 0 in

@@ -67,6 +67,22 @@ ENTRIES = 8707
 abbrev pub PHIS : ℕ
 PHIS = 9731
 
+-- while the pass over operands runs, in the words of the queue and behind it: the starts, 512 words
+abbrev pub STARTS : ℕ
+STARTS = 7683
+
+-- the ends, 512 words
+abbrev pub ENDS : ℕ
+ENDS = 8195
+
+-- the marks of the inner functions' context places, 64 words each
+abbrev pub CONTEXTS : ℕ
+CONTEXTS = 8707
+
+-- where they end
+abbrev pub PASSED : ℕ
+PASSED = 12803
+
 -- the functions whose diagnostics are handed over, 512 words
 abbrev pub HANDED : ℕ
 HANDED = 11780

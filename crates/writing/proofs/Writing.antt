@@ -33,6 +33,20 @@ set-before a i at y (v ∷ vs) h =
 pub patched : (a : List ℕ) (at x y : ℕ) (vs : List ℕ) → set (sets a at (x ∷ vs)) at y ≡ sets a at (y ∷ vs)
 patched a at x y vs = set-before (set a at x) at (suc at) y vs (omega arith) ∙ ap (λ (l : List ℕ). sets l (suc at) vs) (set-set a at x y)
 
+sets-before : (a : List ℕ) (at to : ℕ) (us vs : List ℕ) → at + length us ≤ to → sets (sets a to vs) at us ≡ sets (sets a at us) to vs
+sets-before a at to [] vs h = refl
+sets-before a at to (u ∷ us) vs h =
+    ap (λ (l : List ℕ). sets l (suc at) us) (set-before a at to u vs (omega (arith, h))) ∙ sets-before (set a at u) (suc at) to us vs (omega (arith, h))
+
+-- words written last, before words that stand already
+pub wrote-before : {us vs a b c : List ℕ} {at at′ r r′ : ℕ} → Wrote vs a at′ b r → at′ ≡ at + length us → Wrote us b at c r′ → Wrote (us ++ vs) a at c r
+wrote-before {us} {vs} {a} {b} {c} {at} {at′} {r} h e k = record {
+  words =
+      k .words ∙ ap (λ (l : List ℕ). sets l at us) (h .words) ∙ ap (λ (i : ℕ). sets (sets a i vs) at us) e ∙ sets-before a at (at + length us) us vs (omega arith)
+      ∙ sets-append us vs a at;
+  next = omega (arith, h .next, e, length-append us vs);
+}
+
 -- words that fit stand behind what was there before them
 pub written : (a : List ℕ) (at : ℕ) (vs : List ℕ) → at + length vs ≤ length a → take (at + length vs) (sets a at vs) ≡ take at a ++ vs
 written a at vs h =

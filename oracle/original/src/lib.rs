@@ -1,6 +1,5 @@
-//! The original pass `infer_mutation_aliasing_ranges` with its second loop over
-//! the blocks cut. SHA256SUMS lists the files carried over unchanged; every other
-//! file is a stand-in for what they import.
+//! The original pass `infer_mutation_aliasing_ranges`. SHA256SUMS lists the files
+//! carried over unchanged; every other file is a stand-in for what they import.
 
 #![allow(dead_code, unused_imports, unused_variables)]
 

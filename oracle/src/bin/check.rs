@@ -1,7 +1,7 @@
 //! check --cases            the bench cases of document 01, its limits and refusals
 //! check --smallest FILE..  sheets with their answers, as text
 //!
-//! The plain reader is held to all lines of an answer, the original to the first five.
+//! The plain reader is held to all lines of an answer, the original to all but the walks.
 
 use std::process::ExitCode;
 
@@ -19,7 +19,8 @@ fn check(file: &str) -> Result<(), String> {
     }
     if let Ok(sheet) = plain::read(&text.words) {
         let original = original_lines(&sheet);
-        if original != text.answer[..5] {
+        let expected = text.answer.iter().filter(|line| !line.starts_with("walks"));
+        if !original.iter().eq(expected) {
             return Err(format!("original:\n= {}", original.join("\n= ")));
         }
     }

@@ -98,7 +98,7 @@ struct Counts {
     /// Those of the runs that were on fixed files.
     fixed_runs: u64,
     /// By refusal; 0 is accepted.
-    refusals: [u64; 10],
+    refusals: [u64; 11],
     differences: u64,
     /// That with the shortest sheet.
     shortest: Option<(Call, Difference)>,

@@ -130,7 +130,7 @@ fn write_replay(folder: &Path, count: usize) -> std::io::Result<()> {
     std::fs::create_dir_all(folder.join("data"))?;
     std::fs::write(folder.join("data/answers.bin"), bytes(&words))?;
     std::fs::write(folder.join("stdout"), &line)?;
-    for refusal in 0..10 {
+    for refusal in 0..=10 {
         let found = records.iter().filter(|r| r.refusal == refusal).count();
         println!("refusal {refusal}: {found} sheets");
     }

@@ -1,11 +1,13 @@
-//! A plain implementation of document 01, in the order of its text. Lists and loops
-//! only; no thought of speed or of memory.
+//! A plain implementation of document 01 with the orders of document 02 that have landed,
+//! in the order of their text. Lists and loops only; no thought of speed or of memory.
 
 pub mod building;
+pub mod operands;
 pub mod sheet;
 pub mod walks;
 
 use building::{Kind, Mutation, Node, build, records_errors};
+use operands::{CAPTURE, pass};
 use sheet::{
     Diagnostic, Effect, Place, Sheet, WORKSPACE_WORDS, put_diagnostic, put_effect, put_place,
 };
@@ -28,11 +30,15 @@ pub struct Answer {
     pub diagnostics: Vec<Diagnostic>,
     pub effects: Vec<Effect>,
     pub walks: Vec<u32>,
+    pub phis: Vec<Place>,
+    pub instructions: Vec<Place>,
+    pub terminals: Vec<Place>,
+    pub inner: Vec<Place>,
 }
 
 impl Answer {
     /// The sections with their names, counts and words.
-    pub fn sections(&self) -> [(&'static str, usize, Vec<u32>); 6] {
+    pub fn sections(&self) -> [(&'static str, usize, Vec<u32>); 10] {
         let places = |places: &[Place]| {
             let mut words = Vec::new();
             places.iter().for_each(|p| put_place(&mut words, p));
@@ -50,6 +56,10 @@ impl Answer {
             ("diagnostics", self.diagnostics.len(), diagnostics),
             ("effects", self.effects.len(), effects),
             ("walks", self.walks.len(), self.walks.clone()),
+            ("phis", self.phis.len(), places(&self.phis)),
+            ("instructions", self.instructions.len(), places(&self.instructions)),
+            ("terminals", self.terminals.len(), places(&self.terminals)),
+            ("inner", self.inner.len(), places(&self.inner)),
         ]
     }
 
@@ -95,9 +105,9 @@ fn record_effects(place: &Place, node: &Node) -> Vec<Effect> {
     effects
 }
 
-/// The place with its effect set to Capture, the reactive mark kept.
-fn marked(place: &Place) -> Place {
-    Place { traits: place.traits / 8 * 8 + 3, ..*place }
+/// The place with its effect replaced, the reactive mark kept.
+fn marked(place: &Place, effect: u32) -> Place {
+    Place { traits: place.traits / 8 * 8 + effect, ..*place }
 }
 
 /// The answer of an accepted sheet.
@@ -114,7 +124,7 @@ pub fn answer(sheet: &Sheet) -> Answer {
         let mutated = traced.walks.iter().flat_map(|w| w.functions.clone());
         let rendered = built.renders.iter().flat_map(|r| render(&built, r).functions);
         for function in mutated.chain(rendered) {
-            diagnostics.extend(&sheet.functions[function as usize]);
+            diagnostics.extend(&sheet.functions[function as usize].diagnostics);
         }
     }
 
@@ -123,7 +133,8 @@ pub fn answer(sheet: &Sheet) -> Answer {
         effects.extend(node_of(place).map_or(Vec::new(), |n| record_effects(place, n)));
     }
     let mark = |place: &Place| {
-        if node_of(place).is_some_and(|n| n.has_record()) { marked(place) } else { *place }
+        let recorded = node_of(place).is_some_and(|n| n.has_record());
+        if recorded { marked(place, CAPTURE) } else { *place }
     };
     let params: Vec<Place> = sheet.params.iter().map(mark).collect();
     let context: Vec<Place> = sheet.context.iter().map(mark).collect();
@@ -166,11 +177,22 @@ pub fn answer(sheet: &Sheet) -> Answer {
         }
     }
 
-    let ranges = sheet.identifiers.iter().zip(ends).map(|(i, end)| (i.start, end)).collect();
-    Answer { ranges, params, context, diagnostics, effects, walks: counts }
+    let passed = pass(sheet, ends);
+    Answer {
+        ranges: passed.ranges.iter().map(|r| (r.start, r.end)).collect(),
+        params,
+        context,
+        diagnostics,
+        effects,
+        walks: counts,
+        phis: passed.phis,
+        instructions: passed.instructions,
+        terminals: passed.terminals,
+        inner: passed.contexts.concat(),
+    }
 }
 
-/// What the sheet alone decides: the answer's words, or refusals 2 to 8.
+/// What the sheet alone decides: the answer's words, or refusals 2 to 8 and 10.
 pub fn judge(sheet: &[u32]) -> Result<Vec<u32>, u32> {
     Ok(answer(&read(sheet)?).words())
 }

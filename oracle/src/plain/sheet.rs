@@ -1,4 +1,4 @@
-//! The sheet: its parts, its words, and the reading of words (refusals 2 to 8).
+//! The sheet: its parts, its words, and the reading of words (refusals 2 to 8, and 10).
 
 pub const SHEET_WORDS: usize = 16_384;
 pub const WORKSPACE_WORDS: usize = 16_384;
@@ -18,6 +18,7 @@ pub const MAX_DIAGNOSTIC: u32 = 65_535;
 pub const MAX_TRAITS: u32 = 15;
 pub const MAX_KIND: u32 = 17;
 pub const MAX_TERMINAL: u32 = 2;
+pub const MAX_VALUE: u32 = 2;
 
 pub const MAX_RELATIONS: usize = 1_024;
 pub const MAX_MUTATIONS: usize = 512;
@@ -80,15 +81,44 @@ pub struct Phi {
     pub operands: Vec<(u32, Place)>,
 }
 
+/// What an instruction's value is to the pass over operands.
+#[derive(Debug, Clone, Copy, PartialEq, Eq)]
+pub enum Value {
+    Plain,
+    /// FunctionExpression or ObjectMethod of an inner function.
+    Function(u32),
+    /// StoreContext of an identifier.
+    StoreContext(u32),
+}
+
 #[derive(Debug, Clone, PartialEq, Eq)]
 pub struct Instruction {
     pub order: u32,
+    pub lvalue: Place,
+    /// The value's lvalues and operands, in the visitors' order.
+    pub lvalues: Vec<Place>,
+    pub operands: Vec<Place>,
+    pub value: Value,
     pub effects: Vec<Effect>,
+}
+
+impl Instruction {
+    /// With lvalue place 0, empty lists and value 0.
+    pub fn plain(order: u32, effects: Vec<Effect>) -> Instruction {
+        Instruction {
+            order,
+            lvalue: Place::default(),
+            lvalues: Vec::new(),
+            operands: Vec::new(),
+            value: Value::Plain,
+            effects,
+        }
+    }
 }
 
 #[derive(Debug, Clone, PartialEq, Eq)]
 pub enum Terminal {
-    Other { order: u32 },
+    Other { order: u32, operands: Vec<Place> },
     Return { order: u32, value: Place, effects: Vec<Effect> },
     MaybeThrow { order: u32, effects: Vec<Effect> },
 }
@@ -101,13 +131,18 @@ pub struct Block {
     pub terminal: Terminal,
 }
 
+#[derive(Debug, Clone, PartialEq, Eq, Default)]
+pub struct InnerFunction {
+    pub diagnostics: Vec<Diagnostic>,
+    pub context: Vec<Place>,
+}
+
 #[derive(Debug, Clone, PartialEq, Eq)]
 pub struct Sheet {
     pub function_expression: bool,
     pub validations: bool,
     pub identifiers: Vec<Identifier>,
-    /// Diagnostics of each inner function.
-    pub functions: Vec<Vec<Diagnostic>>,
+    pub functions: Vec<InnerFunction>,
     pub params: Vec<Place>,
     pub context: Vec<Place>,
     pub returns: Place,
@@ -122,6 +157,14 @@ pub struct Totals {
 }
 
 impl Terminal {
+    pub fn order(&self) -> u32 {
+        match self {
+            Terminal::Other { order, .. }
+            | Terminal::Return { order, .. }
+            | Terminal::MaybeThrow { order, .. } => *order,
+        }
+    }
+
     pub fn effects(&self) -> &[Effect] {
         match self {
             Terminal::Other { .. } => &[],
@@ -142,6 +185,8 @@ pub fn is_render(kind: u32) -> bool {
     kind == 17
 }
 
+pub const APPLY: u32 = 12;
+
 impl Sheet {
     /// Every effect, in terminals too.
     pub fn effects_mut(&mut self) -> Vec<&mut Effect> {
@@ -161,6 +206,7 @@ impl Sheet {
     /// Every place, unused ones of effects too.
     pub fn places_mut(&mut self) -> Vec<&mut Place> {
         let mut all: Vec<&mut Place> = Vec::new();
+        all.extend(self.functions.iter_mut().flat_map(|f| &mut f.context));
         all.extend(&mut self.params);
         all.extend(&mut self.context);
         all.push(&mut self.returns);
@@ -169,11 +215,15 @@ impl Sheet {
                 all.push(&mut phi.place);
                 all.extend(phi.operands.iter_mut().map(|o| &mut o.1));
             }
-            for effect in block.instructions.iter_mut().flat_map(|i| &mut i.effects) {
-                all.extend([&mut effect.first, &mut effect.second]);
+            for instruction in &mut block.instructions {
+                all.push(&mut instruction.lvalue);
+                all.extend(&mut instruction.lvalues);
+                all.extend(&mut instruction.operands);
+                let effects = &mut instruction.effects;
+                all.extend(effects.iter_mut().flat_map(|e| [&mut e.first, &mut e.second]));
             }
             match &mut block.terminal {
-                Terminal::Other { .. } => {}
+                Terminal::Other { operands, .. } => all.extend(operands),
                 Terminal::Return { value, effects, .. } => {
                     all.push(value);
                     all.extend(effects.iter_mut().flat_map(|e| [&mut e.first, &mut e.second]));
@@ -184,6 +234,12 @@ impl Sheet {
             }
         }
         all
+    }
+
+    /// Whether Apply is among an instruction's effects.
+    pub fn applies(&self) -> bool {
+        let mut instructions = self.blocks.iter().flat_map(|b| &b.instructions);
+        instructions.any(|i| i.effects.iter().any(|e| e.kind == APPLY))
     }
 
     /// Relation effects, mutations and renders.
@@ -256,18 +312,31 @@ fn put_block(words: &mut Vec<u32>, block: &Block) {
     words.push(block.instructions.len() as u32);
     for instruction in &block.instructions {
         words.push(instruction.order);
+        put_place(words, &instruction.lvalue);
+        put_places(words, &instruction.lvalues);
+        put_places(words, &instruction.operands);
+        match instruction.value {
+            Value::Plain => words.push(0),
+            Value::Function(function) => words.extend([1, function]),
+            Value::StoreContext(identifier) => words.extend([2, identifier]),
+        }
         put_effects(words, &instruction.effects);
     }
     match &block.terminal {
-        Terminal::Other { order } => words.extend([0, *order]),
+        Terminal::Other { order, operands } => {
+            words.extend([0, *order]);
+            put_places(words, operands);
+        }
         Terminal::Return { order, value, effects } => {
             words.extend([1, *order]);
             put_place(words, value);
             put_effects(words, effects);
+            put_places(words, &[]);
         }
         Terminal::MaybeThrow { order, effects } => {
             words.extend([2, *order]);
             put_effects(words, effects);
+            put_places(words, &[]);
         }
     }
 }
@@ -280,9 +349,10 @@ impl Sheet {
             words.extend([identifier.start, identifier.end, identifier.type_]);
         }
         words.push(self.functions.len() as u32);
-        for diagnostics in &self.functions {
-            words.push(diagnostics.len() as u32);
-            diagnostics.iter().for_each(|d| put_diagnostic(&mut words, d));
+        for function in &self.functions {
+            words.push(function.diagnostics.len() as u32);
+            function.diagnostics.iter().for_each(|d| put_diagnostic(&mut words, d));
+            put_places(&mut words, &function.context);
         }
         put_places(&mut words, &self.params);
         put_places(&mut words, &self.context);
@@ -356,9 +426,11 @@ impl Reader<'_> {
         Ok(Diagnostic { identity, instance })
     }
 
-    fn function(&mut self) -> Read<Vec<Diagnostic>> {
+    fn function(&mut self) -> Read<InnerFunction> {
         let count = self.count(MAX_FUNCTION_DIAGNOSTICS)?;
-        self.times(count, Self::diagnostic)
+        let diagnostics = self.times(count, Self::diagnostic)?;
+        let context = self.places()?;
+        Ok(InnerFunction { diagnostics, context })
     }
 
     fn place(&mut self) -> Read<Place> {
@@ -366,6 +438,11 @@ impl Reader<'_> {
         let traits = self.at_most(MAX_TRAITS)?;
         let span = self.word()?;
         Ok(Place { identifier, traits, span })
+    }
+
+    fn places(&mut self) -> Read<Vec<Place>> {
+        let count = self.count(MAX_PLACES)?;
+        self.times(count, Self::place)
     }
 
     /// An unused place, whose first word can be an instance.
@@ -414,20 +491,38 @@ impl Reader<'_> {
 
     fn instruction(&mut self) -> Read<Instruction> {
         let order = self.at_most(MAX_ORDER)?;
+        let lvalue = self.place()?;
+        let lvalues = self.places()?;
+        let operands = self.places()?;
+        let value = self.value()?;
         let effects = self.effects()?;
-        Ok(Instruction { order, effects })
+        Ok(Instruction { order, lvalue, lvalues, operands, value, effects })
+    }
+
+    fn value(&mut self) -> Read<Value> {
+        Ok(match self.at_most(MAX_VALUE)? {
+            0 => Value::Plain,
+            1 => Value::Function(self.below(self.functions)?),
+            _ => Value::StoreContext(self.below(self.identifiers)?),
+        })
     }
 
     fn terminal(&mut self) -> Read<Terminal> {
         let kind = self.at_most(MAX_TERMINAL)?;
         let order = self.at_most(MAX_ORDER)?;
         Ok(match kind {
-            0 => Terminal::Other { order },
+            0 => Terminal::Other { order, operands: self.places()? },
             1 => {
                 let value = self.place()?;
-                Terminal::Return { order, value, effects: self.effects()? }
+                let effects = self.effects()?;
+                self.fixed_count(0)?;
+                Terminal::Return { order, value, effects }
             }
-            _ => Terminal::MaybeThrow { order, effects: self.effects()? },
+            _ => {
+                let effects = self.effects()?;
+                self.fixed_count(0)?;
+                Terminal::MaybeThrow { order, effects }
+            }
         })
     }
 
@@ -451,10 +546,8 @@ impl Reader<'_> {
         let identifiers = self.times(self.identifiers, Self::identifier)?;
         self.functions = self.count(MAX_FUNCTIONS)?;
         let functions = self.times(self.functions, Self::function)?;
-        let count = self.count(MAX_PLACES)?;
-        let params = self.times(count, Self::place)?;
-        let count = self.count(MAX_PLACES)?;
-        let context = self.times(count, Self::place)?;
+        let params = self.places()?;
+        let context = self.places()?;
         self.fixed_count(1)?;
         let returns = self.place()?;
 
@@ -474,7 +567,7 @@ impl Reader<'_> {
     }
 }
 
-/// The sheet's parts with its verdict, 0 or 8; or the refusal, 2 to 7.
+/// The sheet's parts with its verdict, 0, 8 or 10; or the refusal, 2 to 7.
 pub fn read_whole(words: &[u32]) -> Result<(Sheet, u32), u32> {
     if words.len() > SHEET_WORDS {
         return Err(2);
@@ -488,10 +581,15 @@ pub fn read_whole(words: &[u32]) -> Result<(Sheet, u32), u32> {
     let over = totals.relations > MAX_RELATIONS
         || totals.mutations > MAX_MUTATIONS
         || totals.renders > MAX_RENDERS;
-    Ok((sheet, if over { 8 } else { 0 }))
+    let verdict = match (over, sheet.applies()) {
+        (true, _) => 8,
+        (false, true) => 10,
+        (false, false) => 0,
+    };
+    Ok((sheet, verdict))
 }
 
-/// The sheet's parts, or the refusal, 2 to 8.
+/// The sheet's parts, or the refusal, 2 to 8 or 10.
 pub fn read(words: &[u32]) -> Result<Sheet, u32> {
     match read_whole(words)? {
         (sheet, 0) => Ok(sheet),

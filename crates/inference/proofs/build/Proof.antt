@@ -36,7 +36,7 @@ returns c =
     let b12 = b7 .before .before .before .before .before in
     let b19 = b12 .before .before .before .before .before .before .before in
     let b23 = b19 .before .before .before .before in
-    prepares (b23 .pre .1 .0) (b19 .read-function .ensures) (b12 .build-blocks .ensures) (b23 .pre .1 .1) (b23 .pre .0) (b7 .lay-out .ensures) (c .before .before .keep .ensures)
+    prepares (b23 .pre .1 .0) (b19 .read-function .ensures) (b12 .build-blocks .ensures) (b23 .pre .1 .1 .0) (b23 .pre .1 .1 .1) (b23 .pre .0) (b7 .lay-out .ensures) (c .before .before .keep .ensures)
 
 pub build-spec : {M : Type 1} → statement M
 build-spec =

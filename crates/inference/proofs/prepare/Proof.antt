@@ -1,6 +1,6 @@
 use Rattle.hir.proofs.Answers.{says}
 use Rattle.reading.specs.Says.{verdictSays}
-use Rattle.inference.proofs.Calling.{accepted-is, accepted-none, short-refused, reading-refused, reading-prepares}
+use Rattle.inference.proofs.Calling.{accepted-is, accepted-none, accepted-tells, short-refused, reading-refused, reading-prepares}
 use borrow.Author.Needs.{needs}
 use Rattle.inference.proofs.prepare.Statement.{statement}
 use Rattle.inference.proofs.prepare.Tie as tie
@@ -19,12 +19,12 @@ enum-known-t c = search needs
 
 build-requires : tie.Need-build-requires
 build-requires c κs =
-    let b4 = c .before .before .before .before in
-    let b6 = b4 .before .before in
-    let b7 = b6 .before in
-    let b10 = b7 .before .before .before in
-    let said = says verdictSays (b4 .t .given .1) (b6 .read .ensures) in
-    (b7 .if1 .left, (accepted-is (b10 .args .sheet .now) said, accepted-none (b10 .args .sheet .now) said))
+    let b5 = c .before .before .before .before .before in
+    let b7 = b5 .before .before in
+    let b8 = b7 .before in
+    let b11 = b8 .before .before .before in
+    let said = says verdictSays (b5 .t .given .1) (b7 .read .ensures) in
+    (b8 .if1 .left, (accepted-is (b11 .args .sheet .now) said, (accepted-none (b11 .args .sheet .now) said, accepted-tells (b11 .args .sheet .now) said)))
 
 returns-2 : tie.Need-returns-2
 returns-2 c =
@@ -37,8 +37,8 @@ same-length c = search needs
 
 returns-3 : tie.Need-returns-3
 returns-3 c =
-    let b10 = c .before .before .before .before .before .before .before .before .before .before in
-    reading-prepares _ _ (b10 .if1 .left) (c .before .before .build .ensures)
+    let b11 = c .before .before .before .before .before .before .before .before .before .before .before in
+    reading-prepares _ _ (b11 .if1 .left) (c .before .before .build .ensures)
 
 pub prepare-spec : {M : Type 1} → statement M
 prepare-spec =

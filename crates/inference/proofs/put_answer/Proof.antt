@@ -1,108 +1,67 @@
 use native.Mathlib.Omega.{arith}
-use mathlib.Core.Path.{_∙_}
-use Rattle.inference.proofs.Answering.{real-indexed, real-stands, next-indexed}
-use Rattle.inference.proofs.Stages.{hand-low, before-effects, stages}
+use mathlib.Core.Path.{refl, _∙_}
+use Rattle.inference.proofs.Passing.{passing, answer-put}
 use borrow.Author.Needs.{needs}
 use Rattle.inference.proofs.put_answer.Statement.{statement}
 use Rattle.inference.proofs.put_answer.Tie as tie
 
-process-mutations-requires : tie.Need-process-mutations-requires
-process-mutations-requires c κs =
+add-behind : tie.Need-add-behind
+add-behind c =
     let b4 = c .before .before .before .before in
-    (b4 .pre .0 .1 .indexed, b4 .pre .0 .1 .pending)
+    omega (arith, b4 .pre .1)
 
-put-places-requires : tie.Need-put-places-requires
-put-places-requires c κs =
-    let b4 = c .before .before .before .before in
-    let b9 = b4 .before .before .before .before .before in
-    let p = b9 .pre .0 .1 in
-    (p .limited, ((b9 .pre .0 .0, (p .describes, real-stands p (b4 .process-mutations .ensures))), omega (arith, b9 .pre .1)))
+cast-behind : tie.Need-cast-behind
+cast-behind c =
+    let b5 = c .before .before .before .before .before in
+    omega (arith, b5 .pre .0 .1 .limited .n)
 
-put-diagnostics-requires : tie.Need-put-diagnostics-requires
-put-diagnostics-requires c κs =
-    let b4 = c .before .before .before .before in
-    let b9 = b4 .before .before .before .before .before in
-    let b14 = b9 .before .before .before .before .before in
-    let p = b14 .pre .0 .1 in
-    let m = b9 .process-mutations .ensures in
-    (p .limited, (real-indexed p m, ((b14 .pre .0 .0, (p .describes, real-stands p m)), (p .fewRenders, (hand-low m, omega (arith, b14 .pre .1, b4 .put-places .ensures .few))))))
+mul-behind : tie.Need-mul-behind
+mul-behind c =
+    let b5 = c .before .before .before .before .before in
+    omega (arith, b5 .pre .0 .1 .limited .n)
 
-index-requires : tie.Need-index-requires
-index-requires c κs =
-    let b20 = c .before .before .before .before .before .before .before .before .before .before .before .before .before .before .before .before .before .before .before .before in
-    let p = b20 .pre .0 .1 in
-    (p .fewRelations, (p .pending .few, p .fewRenders))
+add-behind-2 : tie.Need-add-behind-2
+add-behind-2 c =
+    let b5 = c .before .before .before .before .before in
+    omega (arith, b5 .pre .1, b5 .pre .0 .1 .limited .n)
 
-put-effects-requires : tie.Need-put-effects-requires
-put-effects-requires c κs =
+put-middle-requires : tie.Need-put-middle-requires
+put-middle-requires c κs =
     let b7 = c .before .before .before .before .before .before .before in
-    let b12 = b7 .before .before .before .before .before in
-    let b17 = b12 .before .before .before .before .before in
-    let b22 = b17 .before .before .before .before .before in
-    let p = b22 .pre .0 .1 in
-    let m = b17 .process-mutations .ensures in
-    let u = b7 .put-diagnostics .ensures .unmoved in
-    (p .limited, (next-indexed p m u, ((b22 .pre .0 .0, before-effects p m u (c .before .index .ensures)), (omega (arith, c .before .index .ensures, p .fewRelations, p .pending .few, p .fewRenders), omega (arith, b22 .pre .1, b12 .put-places .ensures .few, b7 .put-diagnostics .ensures .few)))))
+    (b7 .pre .0, omega (arith, b7 .pre .1, b7 .pre .0 .1 .limited .n))
 
-add-put-walks : tie.Need-add-put-walks
-add-put-walks c =
-    let b29 = c .before .before .before .before .before .before .before .before .before .before .before .before .before .before .before .before .before .before .before .before .before .before .before .before .before .before .before .before .before in
-    omega (arith, b29 .pre .0 .1 .limited .params, b29 .pre .0 .1 .limited .context)
-
-add-put-walks-2 : tie.Need-add-put-walks-2
-add-put-walks-2 c =
-    let b29 = c .before .before .before .before .before .before .before .before .before .before .before .before .before .before .before .before .before .before .before .before .before .before .before .before .before .before .before .before .before in
-    omega (arith, b29 .pre .0 .1 .limited .params, b29 .pre .0 .1 .limited .context)
-
-cast-put-walks : tie.Need-cast-put-walks
-cast-put-walks c =
-    let b29 = c .before .before .before .before .before .before .before .before .before .before .before .before .before .before .before .before .before .before .before .before .before .before .before .before .before .before .before .before .before in
-    omega (arith, b29 .pre .0 .1 .limited .params, b29 .pre .0 .1 .limited .context)
-
-put-walks-requires : tie.Need-put-walks-requires
-put-walks-requires c κs =
-    let b7 = c .before .before .before .before .before .before .before in
-    let b15 = b7 .before .before .before .before .before .before .before .before in
-    let b20 = b15 .before .before .before .before .before in
-    let b30 = b20 .before .before .before .before .before .before .before .before .before .before in
-    let p = b30 .pre .0 .1 in
-    ((p .pending .few, (omega (arith, p .limited .params, p .limited .context), b7 .put-effects .ensures .walkable .indexed .size)), omega (arith, b30 .pre .1, b20 .put-places .ensures .few, b15 .put-diagnostics .ensures .few, b7 .put-effects .ensures .few))
+put-passed-requires : tie.Need-put-passed-requires
+put-passed-requires c κs =
+    let b6 = c .before .before .before .before .before .before in
+    let b14 = b6 .before .before .before .before .before .before .before .before in
+    ((b14 .pre .0 .1 .limited, (b14 .pre .0 .0, passing (b6 .put-middle .ensures) (b14 .pre .0 .1))), (omega (arith, b14 .pre .1), omega (arith, b14 .pre .1, b14 .pre .0 .1 .limited .n, b6 .put-middle .ensures .few)))
 
 same-length : tie.Need-same-length
 same-length c =
-    let b10 = c .before .before .before .before .before .before .before .before .before .before in
-    let b18 = b10 .before .before .before .before .before .before .before .before in
-    let b28 = b18 .before .before .before .before .before .before .before .before .before .before in
-    b10 .put-effects .ensures .walkable .same
-    ∙ b18 .put-diagnostics .ensures .unmoved .aside .same
-    ∙ b28 .process-mutations .ensures .same
+    let b4 = c .before .before .before .before in
+    let b11 = b4 .before .before .before .before .before .before .before in
+    b4 .put-passed .ensures .kept .same ∙ b11 .put-middle .ensures .walkable .same
 
 same-length-2 : tie.Need-same-length-2
 same-length-2 c = search needs
 
 returns : tie.Need-returns
 returns c =
-    let b10 = c .before .before .before .before .before .before .before .before .before .before in
-    let b12 = b10 .before .before in
-    let b18 = b12 .before .before .before .before .before .before in
-    let b23 = b18 .before .before .before .before .before in
-    let b28 = b23 .before .before .before .before .before in
-    let b33 = b28 .before .before .before .before .before in
-    let p = b33 .pre .0 .1 in stages (p .limited) (p .pending .few) (b28 .process-mutations .ensures) (b23 .put-places .ensures) (b18 .put-diagnostics .ensures) (b12 .index .ensures) (b10 .put-effects .ensures) (c .before .before .put-walks .ensures)
+    let b4 = c .before .before .before .before in
+    let b11 = b4 .before .before .before .before .before .before .before in
+    let b19 = b11 .before .before .before .before .before .before .before .before in
+    answer-put (b11 .put-middle .ensures) (b19 .pre .0 .1 .limited) refl (b4 .put-passed .ensures)
 
 pub put-answer-spec : {M : Type 1} → statement M
 put-answer-spec =
     tie.close
     (tie.spec
-    process-mutations-requires
-    put-places-requires
-    put-diagnostics-requires
-    index-requires
-    put-effects-requires
-    add-put-walks
-    add-put-walks-2
-    cast-put-walks
-    put-walks-requires
+    add-behind
+    cast-behind
+    mul-behind
+    add-behind-2
+    put-middle-requires
+    put-passed-requires
     same-length
     same-length-2
     returns)

@@ -1,10 +1,10 @@
 use borrow.Author.Needs.{needs}
-use Rattle.instructions.proofs.Instruction.{instruction-inside, effects-ready, instruction-builds}
+use Rattle.instructions.proofs.Instruction.{effects-ready, instruction-builds}
 use Rattle.instructions.proofs.build_instruction.Statement.{statement}
 use Rattle.instructions.proofs.build_instruction.Tie as tie
 
 instruction-at-requires : tie.Need-instruction-at-requires
-instruction-at-requires c κs = instruction-inside _ _ (c .before .before .pre)
+instruction-at-requires c κs = c .before .before .pre .inside
 
 build-effects-requires : tie.Need-build-effects-requires
 build-effects-requires c κs = effects-ready (c .before .instruction-at .ensures) (c .before .before .before .before .pre)

@@ -1,4 +1,4 @@
-//! Why each end is where it is, in words.
+//! Why each range is where it is, in words.
 
 use std::fmt::Write;
 
@@ -6,13 +6,18 @@ use service_host::text::Names;
 use service_host::{Answer, IdentifierId, MutableRange, Sheet};
 
 use crate::graph::{Graph, Mutation, MutationKind, Origin, Relation};
+use crate::operands::{Set, Use, pass};
 use crate::walks::{Step, chain, walk_all};
 
-/// An identifier's range before and after, and what moved its end.
+/// An identifier's range before and after, and what moved it.
 pub struct Moved {
     pub before: MutableRange,
     pub after: MutableRange,
+    /// The mutation that moved the end last, and a chain from it.
     pub by: Option<(Mutation, Vec<Step>)>,
+    /// What then set the start and the end in the pass over operands.
+    pub start: Option<Set>,
+    pub end: Option<Set>,
 }
 
 /// One for each identifier. Fails if the walks made here and the library's answer disagree.
@@ -26,13 +31,15 @@ pub fn explain(sheet: &Sheet, answer: &Answer) -> Result<Vec<Moved>, String> {
             walked.taken
         ));
     }
+    let passed = pass(sheet, &walked.ends);
     let mut all = Vec::new();
     for (id, after) in sheet.identifier_ids().zip(answer.ranges()) {
         let at = id.0 as usize;
-        if after.end != walked.ends[at] {
+        let here = passed[at].range;
+        if after != here {
             return Err(format!(
-                "the library's end of identifier {at} is {}, that of the walks made here {}",
-                after.end.0, walked.ends[at].0
+                "the library's range of identifier {at} is {}..{}, that made here {}..{}",
+                after.start.0, after.end.0, here.start.0, here.end.0
             ));
         }
         let by = match walked.movers[at] {
@@ -45,7 +52,8 @@ pub fn explain(sheet: &Sheet, answer: &Answer) -> Result<Vec<Moved>, String> {
                 Some((mutation, chain))
             }
         };
-        all.push(Moved { before: sheet.identifiers()[at].range, after, by });
+        let (start, end) = (passed[at].start, passed[at].end);
+        all.push(Moved { before: sheet.identifiers()[at].range, after, by, start, end });
     }
     Ok(all)
 }
@@ -103,6 +111,24 @@ fn way(step: &Step, here: &str, there: &str) -> String {
     }
 }
 
+/// Why the pass over operands set a start or an end.
+fn reason(set: &Set, names: &Names) -> String {
+    let instruction = format!("the instruction at {} in block {}", set.order.0, set.block.0);
+    match set.by {
+        Use::Lvalue => format!("it was 0, and {instruction} has it as an lvalue"),
+        Use::Operand => format!("it was 0, and {instruction} has it as an operand"),
+        Use::Context(id) => {
+            let function = names.function(id);
+            format!("it was 0, and {instruction} makes {function}, which has it in its context")
+        }
+        Use::StoreContext => format!("{instruction} stores it by StoreContext"),
+        Use::Phi => format!(
+            "it was 0, and it is a phi of block {}, which begins at {}",
+            set.block.0, set.order.0
+        ),
+    }
+}
+
 /// The explanation as text.
 pub fn write(all: &[Moved], names: &Names) -> String {
     let name = |id: IdentifierId| names.identifier(id);
@@ -111,10 +137,10 @@ pub fn write(all: &[Moved], names: &Names) -> String {
         let (before, after) = (moved.before, moved.after);
         let id = IdentifierId(i as u32);
         let mut put = |line: String| writeln!(text, "{line}").expect("a string takes every line");
-        let Some((mutation, chain)) = &moved.by else {
+        if before == after {
             put(format!("{}  {}..{}, not moved", name(id), before.start.0, before.end.0));
             continue;
-        };
+        }
         put(format!(
             "{}  {}..{} -> {}..{}",
             name(id),
@@ -123,22 +149,30 @@ pub fn write(all: &[Moved], names: &Names) -> String {
             after.start.0,
             after.end.0
         ));
-        let mut here = name(mutation.identifier);
-        put(format!(
-            "    {} (index {}) {}",
-            origin(&mutation.origin, names),
-            mutation.index,
-            deed(mutation, here)
-        ));
-        for step in chain {
-            let there = name(step.to.identifier);
+        if let Some((mutation, chain)) = &moved.by {
+            let mut here = name(mutation.identifier);
             put(format!(
-                "    -> {}: {} (index {})",
-                way(step, here, there),
-                origin(&step.origin, names),
-                step.index
+                "    {} (index {}) {}",
+                origin(&mutation.origin, names),
+                mutation.index,
+                deed(mutation, here)
             ));
-            here = there;
+            for step in chain {
+                let there = name(step.to.identifier);
+                put(format!(
+                    "    -> {}: {} (index {})",
+                    way(step, here, there),
+                    origin(&step.origin, names),
+                    step.index
+                ));
+                here = there;
+            }
+        }
+        if let Some(set) = &moved.end {
+            put(format!("    end {}: {}", after.end.0, reason(set, names)));
+        }
+        if let Some(set) = &moved.start {
+            put(format!("    start {}: {}", after.start.0, reason(set, names)));
         }
     }
     text
@@ -151,7 +185,7 @@ mod tests {
     use oracle::generate;
     use oracle::plain;
     use oracle::random::Random;
-    use service_host::{EffectKind, EvaluationOrder, Service, text};
+    use service_host::{EffectKind, Service, text};
 
     use super::*;
     use crate::walks;
@@ -166,9 +200,10 @@ mod tests {
     #[test]
     fn case_1() {
         let expected = "\
-props  0..0 -> 0..3
+props  0..0 -> 1..3
     MutateTransitive list span 7, instruction at 2 in block 0 (index 1) changes list and all that it has captured
     -> props, which list has captured: Capture props into list, instruction at 1 in block 0 (index 0)
+    start 1: it was 0, and the instruction at 1 in block 0 has it as an lvalue
 list  0..0 -> 0..3
     MutateTransitive list span 7, instruction at 2 in block 0 (index 1) changes list and all that it has captured
 result  0..0, not moved
@@ -197,6 +232,37 @@ a  1..2 -> 1..4
 ";
         assert!(text.starts_with(expected), "{text}");
         assert!(text.contains("-> d, of which c may be an alias, so perhaps: MaybeAlias d into c"));
+    }
+
+    /// Each use that can set a start or an end in the pass over operands.
+    #[test]
+    fn every_kind_of_use() {
+        let text = explained(
+            "identifier a\nidentifier b range 0 9\nidentifier c range 0 9\n\
+             identifier p range 0 9\nidentifier s range 1 3\nidentifier t\n\
+             function f context c\nreturns a\n\
+             block 4\nphi p\n\
+             instruction at 2 function f\noperand b\n\
+             instruction at 3 StoreContext s\nlvalue t\noperand t\noperand s\n\
+             terminal Other at 4\n",
+        );
+        let expected = "\
+a  0..0 -> 2..3
+    end 3: it was 0, and the instruction at 2 in block 4 has it as an lvalue
+    start 2: it was 0, and the instruction at 2 in block 4 has it as an lvalue
+b  0..9 -> 2..9
+    start 2: it was 0, and the instruction at 2 in block 4 has it as an operand
+c  0..9 -> 2..9
+    start 2: it was 0, and the instruction at 2 in block 4 makes f, which has it in its context
+p  0..9 -> 1..9
+    start 1: it was 0, and it is a phi of block 4, which begins at 2
+s  1..3 -> 1..4
+    end 4: the instruction at 3 in block 4 stores it by StoreContext
+t  0..0 -> 3..4
+    end 4: it was 0, and the instruction at 3 in block 4 has it as an lvalue
+    start 3: it was 0, and the instruction at 3 in block 4 has it as an lvalue
+";
+        assert_eq!(text, expected);
     }
 
     /// The rules of an allowed chain, read off the plain implementation's graph.
@@ -275,13 +341,14 @@ a  1..2 -> 1..4
         unreachable!("the caller has a chain")
     }
 
-    /// Every end that moved has a mutation whose order is right before it and an allowed chain,
-    /// and no shorter one exists.
+    /// Every end that a walk moved has a mutation whose order is right before it and an allowed
+    /// chain, and no shorter one exists; every end that the pass over operands moved was 0 or is
+    /// stored, and is right behind the order that is named.
     #[test]
     fn every_moved_end_has_a_chain() {
         let mut random = Random::new(6);
         let mut service = Service::new();
-        let (mut moved, mut steps, mut longest) = (0, 0, 0);
+        let (mut moved, mut passed, mut steps, mut longest) = (0, 0, 0, 0);
         for _ in 0..3_000 {
             let plain_sheet = generate::sheet(&mut random);
             let sheet = Sheet::read(&plain_sheet.words()).unwrap();
@@ -289,11 +356,19 @@ a  1..2 -> 1..4
             let all = explain(&sheet, &answer).unwrap();
             let built = plain::building::build(&plain_sheet);
             let graph = Graph::build(&sheet);
+            let ends = plain::walks::trace(&plain_sheet, built.clone()).ends;
             for (id, m) in sheet.identifier_ids().zip(&all) {
-                assert_eq!(m.before.start, m.after.start);
-                assert_eq!(m.by.is_some(), m.before.end < m.after.end);
+                let before_pass = ends[id.0 as usize];
+                assert_eq!(m.start.is_some(), m.before.start != m.after.start);
+                assert_eq!(m.end.is_some(), before_pass != m.after.end.0);
+                if let Some(set) = m.end {
+                    assert_eq!(m.after.end.0, set.order.0 + 1);
+                    assert!(before_pass == 0 || set.by == Use::StoreContext);
+                    passed += 1;
+                }
+                assert_eq!(m.by.is_some(), m.before.end.0 < before_pass);
                 let Some((mutation, chain)) = &m.by else { continue };
-                assert_eq!(m.after.end, EvaluationOrder(mutation.order.0 + 1));
+                assert_eq!(before_pass, mutation.order.0 + 1);
                 let last = chain.last().map_or(mutation.identifier, |s| s.to.identifier);
                 assert_eq!(last, id);
                 assert!(is_allowed(&built, mutation, chain), "{chain:?}");
@@ -306,7 +381,8 @@ a  1..2 -> 1..4
             }
             write(&all, &Names::numbered(&sheet));
         }
-        assert!(moved > 5_000 && steps > 5_000 && longest > 5, "{moved} {steps} {longest}");
+        assert!(moved > 5_000 && passed > 2_000, "{moved} {passed}");
+        assert!(steps > 5_000 && longest > 5, "{steps} {longest}");
     }
 
     /// The graph as built here is that of the plain implementation.

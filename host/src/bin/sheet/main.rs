@@ -5,6 +5,7 @@ mod class_load;
 mod explain;
 mod graph;
 mod load;
+mod operands;
 mod walks;
 
 use std::ffi::OsString;
@@ -173,10 +174,12 @@ fn explained(file: &Path) -> Result<Vec<u8>, String> {
     let mut service = Service::new();
     let answer = service.infer(&sheet.words()).map_err(|refusal| why(&sheet, refusal))?;
     let all = explain::explain(&sheet, &answer)?;
-    let moved = all.iter().filter(|m| m.by.is_some()).count();
+    let moved = all.iter().filter(|m| m.before.end != m.after.end).count();
+    let passed = all.iter().filter(|m| m.end.is_some()).count();
     let mut text = explain::write(&all, &names);
     text += &format!(
-        "{moved} of {} ends moved. Ends and walks made here agree with the library's answer.\n",
+        "{moved} of {} ends moved, {passed} of them by the pass over operands. Ranges and walks \
+         made here agree with the library's answer.\n",
         all.len()
     );
     Ok(text.into_bytes())
@@ -203,6 +206,12 @@ fn why(sheet: &Sheet, refusal: Refusal) -> String {
         Refusal::Totals => {
             let over = sheet.totals().over();
             over.map(|(what, total, most)| format!("{total} {what}, at most {most}")).collect()
+        }
+        Refusal::Apply => {
+            let applies = sheet.applies().take(1);
+            applies
+                .map(|(b, o)| format!("Apply, instruction at {} in block {}", o.0, b.0))
+                .collect()
         }
         _ => return refusal.to_string(),
     };

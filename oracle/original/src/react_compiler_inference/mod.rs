@@ -1,3 +1,3 @@
-//! Stand-in: the one pass, cut by `cut.rs`.
+//! Stand-in: the one pass.
 
-include!(concat!(env!("OUT_DIR"), "/cut.rs"));
+pub mod infer_mutation_aliasing_ranges;

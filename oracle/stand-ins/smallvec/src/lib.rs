@@ -1,4 +1,4 @@
-//! Stand-in for `smallvec`: a plain vector. Not used by the pass.
+//! Stand-in for `smallvec`: a plain vector.
 
 use std::ops::Deref;
 

@@ -1,17 +1,16 @@
 use native.Mathlib.Omega.{arith}
-use Rattle.hir.proofs.Widths.{instruction-rises}
-use Rattle.copies.proofs.Blocks.{effects-inside, copies-instruction}
+use Rattle.copies.proofs.Blocks.{effects-inside, after-order, copies-instruction}
 use borrow.Author.Needs.{needs}
 use Rattle.copies.proofs.effect_lists.copy_instruction.Statement.{statement}
 use Rattle.copies.proofs.effect_lists.copy_instruction.Tie as tie
 
 instruction-at-requires : tie.Need-instruction-at-requires
-instruction-at-requires c κs = omega (arith, instruction-rises (c .before .before .args .sheet .now) (c .before .before .args .from), c .before .before .pre .0)
+instruction-at-requires c κs = c .before .before .pre .0
 
 copy-list-requires : tie.Need-copy-list-requires
 copy-list-requires c κs =
     let b4 = c .before .before .before .before in
-    (effects-inside (c .before .instruction-at .ensures) (b4 .pre .0), omega (arith, c .before .instruction-at .ensures .effects .first, b4 .pre .1))
+    (effects-inside (c .before .instruction-at .ensures) (b4 .pre .0), omega (arith, after-order (c .before .instruction-at .ensures), b4 .pre .1))
 
 same-length : tie.Need-same-length
 same-length c = search needs

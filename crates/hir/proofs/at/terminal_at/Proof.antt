@@ -1,8 +1,5 @@
-use Prim.Native.Nat.{ℕ, _≤_}
-use mathlib.Core.Path.{_≡_}
-use Rattle.hir.specs.Words.{wordAt}
 use native.Mathlib.Omega.{arith}
-use Rattle.hir.proofs.Widths.{terminal-rises, return-rises, throw-rises}
+use Rattle.hir.proofs.Widths.{terminal-rises, return-rises}
 use borrow.Author.Needs.{needs}
 use Rattle.hir.proofs.at.terminal_at.Statement.{statement}
 use Rattle.hir.proofs.at.terminal_at.Tie as tie
@@ -14,7 +11,10 @@ mul-match : tie.Need-mul-match
 mul-match c = omega (arith, terminal-rises (c .before .args .s .now) (c .before .args .at), c .before .pre)
 
 shared-slice-read-match : tie.Need-shared-slice-read-match
-shared-slice-read-match c = omega (arith, terminal-rises (c .before .before .args .s .now) (c .before .before .args .at), c .before .before .pre)
+shared-slice-read-match c = let b = c .before .before in omega (arith, terminal-rises (b .args .s .now) (b .args .at), b .pre)
+
+list-at-requires : tie.Need-list-at-requires
+list-at-requires c κs = let b = c .before .before .before in omega (arith, terminal-rises (b .args .s .now) (b .args .at), b .pre)
 
 place-at-requires : tie.Need-place-at-requires
 place-at-requires c κs = let b = c .before .before .before in omega (arith, return-rises (b .args .s .now) (b .args .at) (c .match .keys2), b .pre)
@@ -22,14 +22,11 @@ place-at-requires c κs = let b = c .before .before .before in omega (arith, ret
 add-list-at : tie.Need-add-list-at
 add-list-at c = let b = c .before .before .before .before in omega (arith, return-rises (b .args .s .now) (b .args .at) (c .before .match .keys2), b .pre)
 
-list-at-requires : tie.Need-list-at-requires
-list-at-requires c κs = let b = c .before .before .before .before in omega (arith, return-rises (b .args .s .now) (b .args .at) (c .before .match .keys2), b .pre)
-
-two-up : (w : ℕ) → (Unit {0} × ¬ (w ≡ 0)) × ¬ (w ≡ 1) → 2 ≤ w
-two-up w h = omega (arith, h .0 .1, h .1)
-
 list-at-requires-2 : tie.Need-list-at-requires-2
-list-at-requires-2 c κs = let b = c .before .before .before in omega (arith, throw-rises (b .args .s .now) (b .args .at) (two-up (wordAt (b .args .s .now) (b .args .at)) (c .match .rest)), b .pre)
+list-at-requires-2 c κs = let b = c .before .before .before .before in omega (arith, return-rises (b .args .s .now) (b .args .at) (c .before .match .keys2), b .pre)
+
+list-at-requires-3 : tie.Need-list-at-requires-3
+list-at-requires-3 c κs = let b = c .before .before .before in omega (arith, terminal-rises (b .args .s .now) (b .args .at), b .pre)
 
 returns : tie.Need-returns
 returns c = search needs
@@ -47,10 +44,11 @@ terminal-at-spec =
     add-inside
     mul-match
     shared-slice-read-match
+    list-at-requires
     place-at-requires
     add-list-at
-    list-at-requires
     list-at-requires-2
+    list-at-requires-3
     returns
     returns-2
     returns-3)

@@ -2,15 +2,21 @@ use mathlib.Core.List.{[]}
 use mathlib.Core.Path.{_∙_}
 use borrow.Author.Needs.{needs}
 use Rattle.hir.specs.Says.{placeIs}
-use Rattle.instructions.proofs.Terminal.{other-builds, throw-ready, throw-builds, value-fits, value-known, return-ready, return-builds}
+use Rattle.instructions.proofs.Terminal.{other-inside, other-builds, throw-ready, throw-builds, value-fits, value-known, return-ready, return-builds}
 use Rattle.instructions.proofs.terminals.build_terminal.Statement.{statement}
 use Rattle.instructions.proofs.terminals.build_terminal.Tie as tie
 
 terminal-at-requires : tie.Need-terminal-at-requires
 terminal-at-requires c κs = c .before .before .pre .1 .inside
 
-enum-known-next : tie.Need-enum-known-next
-enum-known-next c = search needs
+enum-known-operands : tie.Need-enum-known-operands
+enum-known-operands c = search needs
+
+past-places-requires : tie.Need-past-places-requires
+past-places-requires c κs =
+    let b3 = c .before .before .before in
+    let b6 = b3 .before .before .before in
+    other-inside _ _ (b6 .pre .1) (c .before .operands .given .1) (b3 .terminal-at .ensures)
 
 enum-known-value : tie.Need-enum-known-value
 enum-known-value c = search needs
@@ -43,9 +49,9 @@ build-terminal-effects-requires-2 c κs =
 
 returns : tie.Need-returns
 returns c =
-    let b3 = c .before .before .before in
-    let b6 = b3 .before .before .before in
-    other-builds _ _ (b6 .pre .1) (placeIs (b6 .args .returns)) (c .before .next .given .1) (b3 .terminal-at .ensures)
+    let b4 = c .before .before .before .before in
+    let b7 = b4 .before .before .before in
+    other-builds _ _ (b7 .pre .1) (c .before .before .operands .given .1) (b4 .terminal-at .ensures) (placeIs (b7 .args .returns)) (c .past-places .ensures)
 
 same-length : tie.Need-same-length
 same-length c = c .before .before .build-terminal-effects .ensures .spends .same ∙ c .before .before .before .before .before .before .assign .ensures [] .same
@@ -73,7 +79,8 @@ build-terminal-spec =
     tie.close
     (tie.spec
     terminal-at-requires
-    enum-known-next
+    enum-known-operands
+    past-places-requires
     enum-known-value
     assign-requires
     build-terminal-effects-requires

@@ -5,7 +5,7 @@ use Rattle.model.specs.Limits.{effectWidth}
 use Rattle.hir.proofs.Widths.{wide-rises}
 use Rattle.instructions.specs.Cost.{terminalEffectCost}
 use Rattle.instructions.specs.Ranges.{InRange}
-use Rattle.instructions.proofs.Building.{value-ready, value-builds, Looping, loop-start, loop-done, loop-ready, loop-turn}
+use Rattle.instructions.proofs.Building.{value-ready, value-builds, without-count, with-count, Looping, loop-start, loop-done, loop-ready, loop-turn}
 use Rattle.instructions.proofs.Instruction.{oneEffect}
 use Rattle.instructions.proofs.terminals.build_terminal_effects.Statement.{statement}
 use Rattle.instructions.proofs.terminals.build_terminal_effects.Tie as tie
@@ -17,7 +17,7 @@ abbrev μ-loop : tie.MeasureT-loop
 μ-loop s ws₀ left₀ next₀ building₀ ws left next building = left
 
 loop-holds : tie.Need-loop-holds Inv-loop μ-loop
-loop-holds c = loop-start (c .before .before .pre)
+loop-holds c = loop-start (without-count (c .before .before .pre))
 
 effect-at-requires : tie.Need-effect-at-requires Inv-loop μ-loop
 effect-at-requires c κs = loop-ready (c .before .loop .inv) (c .loop-test .taken) (wide-rises effectWidth effectAt) .inside
@@ -41,11 +41,16 @@ loop-again c =
     let b4 = c .before .before .before .before in
     loop-turn (b4 .before .before .loop .inv) (b4 .before .loop-test .taken) (value-builds (b4 .effect-at .ensures) (c .before .before .build-terminal-effect .ensures))
 
+add-t12 : tie.Need-add-t12 Inv-loop μ-loop
+add-t12 c =
+    let b4 = c .before .before .before .before in
+    omega (arith, loop-done (c .before .loop .inv) (c .loop-test .left) .next, b4 .pre .inside)
+
 same-length : tie.Need-same-length Inv-loop μ-loop
 same-length c = c .before .loop .inv .same
 
 returns : tie.Need-returns Inv-loop μ-loop
-returns c = loop-done (c .before .loop .inv) (c .loop-test .left)
+returns c = with-count (loop-done (c .before .loop .inv) (c .loop-test .left))
 
 pub build-terminal-effects-spec : {M : Type 1} → statement M
 build-terminal-effects-spec =
@@ -60,5 +65,6 @@ build-terminal-effects-spec =
     sub-left
     loop-less
     loop-again
+    add-t12
     same-length
     returns)

@@ -1,6 +1,6 @@
-use Rattle.reading.proofs.BlockLaws.{terminal-got, terminal-kind-refused, terminal-order-refused, other-got, return-got, return-refused, throw-got}
-use Rattle.hir.specs.Says.{kindStepSays, orderSays, placeSays}
-use mathlib.Core.Path.{_∙_, sym}
+use Rattle.reading.proofs.BlockLaws.{terminal-got, terminal-kind-refused, terminal-order-refused, other-judged, return-judged, throw-judged}
+use Rattle.hir.specs.Says.{wordSays, kindStepSays, orderSays, placeSays}
+use mathlib.Core.Path.{sym}
 use Rattle.hir.proofs.Answers.{says}
 use borrow.Author.Needs.{needs}
 use Rattle.reading.proofs.blocks.terminal.Statement.{statement}
@@ -39,41 +39,69 @@ returns-2 c =
 enum-told : tie.Need-enum-told
 enum-told c = search needs
 
+places-requires : tie.Need-places-requires
+places-requires c κs = search needs
+
+enum-known-c3 : tie.Need-enum-known-c3
+enum-known-c3 c = search needs
+
+enum-known-k3 : tie.Need-enum-known-k3
+enum-known-k3 c = search needs
+
 enum-told-2 : tie.Need-enum-told-2
 enum-told-2 c = search needs
 
 place-requires : tie.Need-place-requires
 place-requires c κs = search needs
 
-enum-known-c3 : tie.Need-enum-known-c3
-enum-known-c3 c = search needs
+enum-known-c4 : tie.Need-enum-known-c4
+enum-known-c4 c = search needs
 
 relation-requires : tie.Need-relation-requires
 relation-requires c κs = search needs
 
-effects-requires : tie.Need-effects-requires
-effects-requires c κs = search needs
+terminal-effects-requires : tie.Need-terminal-effects-requires
+terminal-effects-requires c κs = search needs
 
-enum-known-k3 : tie.Need-enum-known-k3
-enum-known-k3 c = search needs
+enum-known-k4 : tie.Need-enum-known-k4
+enum-known-k4 c = search needs
 
 enum-told-3 : tie.Need-enum-told-3
 enum-told-3 c = search needs
 
-effects-requires-2 : tie.Need-effects-requires-2
-effects-requires-2 c κs = search needs
+terminal-effects-requires-2 : tie.Need-terminal-effects-requires-2
+terminal-effects-requires-2 c κs = search needs
 
 returns-3 : tie.Need-returns-3
 returns-3 c =
     let b3 = c .before .before .before in
-    let b5 = b3 .before .before in
-    let b7 = b5 .before .before in
+    let b4 = b3 .before in
+    let b7 = b4 .before .before .before in
     let b9 = b7 .before .before in
-    sym (terminal-got _ _ _ _ _ _ _ _ _ (rw (c .enum-told .given .1) at (says kindStepSays (b7 .t .given .1) (b9 .terminal-kind .ensures))) (says orderSays (b3 .d2 .given .1) (b5 .order .ensures))
-    ∙ other-got _ _ _ _ _ _)
+    let b11 = b9 .before .before in
+    let b13 = b11 .before .before in
+    rw (
+      terminal-got _ _ _ _ _ _ _ _ _ (rw (b4 .enum-told .given .1) at (says kindStepSays (b11 .t .given .1) (b13 .terminal-kind .ensures))) (says orderSays (b7 .d2 .given .1) (b9 .order .ensures)),
+      other-judged _ _ _ _ _ _,
+      says wordSays (c .before .c3 .given .1) (b3 .places .ensures),
+    )
 
 returns-4 : tie.Need-returns-4
 returns-4 c =
+    let b3 = c .before .before .before in
+    let b4 = b3 .before in
+    let b7 = b4 .before .before .before in
+    let b9 = b7 .before .before in
+    let b11 = b9 .before .before in
+    let b13 = b11 .before .before in
+    rw (
+      terminal-got _ _ _ _ _ _ _ _ _ (rw (b4 .enum-told .given .1) at (says kindStepSays (b11 .t .given .1) (b13 .terminal-kind .ensures))) (says orderSays (b7 .d2 .given .1) (b9 .order .ensures)),
+      other-judged _ _ _ _ _ _,
+      says wordSays (c .before .k3 .given .1) (b3 .places .ensures),
+    )
+
+returns-5 : tie.Need-returns-5
+returns-5 c =
     let b3 = c .before .before .before in
     let b5 = b3 .before .before in
     let b6 = b5 .before in
@@ -81,30 +109,34 @@ returns-4 c =
     let b11 = b9 .before .before in
     let b13 = b11 .before .before in
     let b15 = b13 .before .before in
-    rw (c .before .relation .ensures) at (c .effects .ensures)
-    ∙ sym (terminal-got _ _ _ _ _ _ _ _ _ (rw (b6 .enum-told2 .given .1) at (says kindStepSays (b13 .t .given .1) (b15 .terminal-kind .ensures))) (says orderSays (b9 .d2 .given .1) (b11 .order .ensures))
-    ∙ return-got _ _ _ _ _ _ _ _ (says placeSays (b3 .c3 .given .1) (b5 .place .ensures)))
+    rw (
+      terminal-got _ _ _ _ _ _ _ _ _ (rw (b6 .enum-told2 .given .1) at (says kindStepSays (b13 .t .given .1) (b15 .terminal-kind .ensures))) (says orderSays (b9 .d2 .given .1) (b11 .order .ensures)),
+      return-judged _ _ _ _ _ _,
+      says placeSays (b3 .c4 .given .1) (b5 .place .ensures),
+      ← c .before .relation .ensures,
+    ) (c .terminal-effects .ensures)
 
-returns-5 : tie.Need-returns-5
-returns-5 c =
+returns-6 : tie.Need-returns-6
+returns-6 c =
     let b3 = c .before .before .before in
     let b4 = b3 .before in
     let b7 = b4 .before .before .before in
     let b9 = b7 .before .before in
     let b11 = b9 .before .before in
     let b13 = b11 .before .before in
-    sym (terminal-got _ _ _ _ _ _ _ _ _ (rw (b4 .enum-told2 .given .1) at (says kindStepSays (b11 .t .given .1) (b13 .terminal-kind .ensures))) (says orderSays (b7 .d2 .given .1) (b9 .order .ensures))
-    ∙ return-refused _ _ _ _ _ _ _ (says placeSays (c .before .k3 .given .1) (b3 .place .ensures)))
+    rw (
+      terminal-got _ _ _ _ _ _ _ _ _ (rw (b4 .enum-told2 .given .1) at (says kindStepSays (b11 .t .given .1) (b13 .terminal-kind .ensures))) (says orderSays (b7 .d2 .given .1) (b9 .order .ensures)),
+      return-judged _ _ _ _ _ _,
+      says placeSays (c .before .k4 .given .1) (b3 .place .ensures),
+    )
 
-returns-6 : tie.Need-returns-6
-returns-6 c =
+returns-7 : tie.Need-returns-7
+returns-7 c =
     let b4 = c .before .before .before .before in
     let b6 = b4 .before .before in
     let b8 = b6 .before .before in
     let b10 = b8 .before .before in
-    c .effects2 .ensures
-    ∙ sym (terminal-got _ _ _ _ _ _ _ _ _ (rw (c .before .enum-told3 .given .1) at (says kindStepSays (b8 .t .given .1) (b10 .terminal-kind .ensures))) (says orderSays (b4 .d2 .given .1) (b6 .order .ensures))
-    ∙ throw-got _ _ _ _ _ _)
+    rw (terminal-got _ _ _ _ _ _ _ _ _ (rw (c .before .enum-told3 .given .1) at (says kindStepSays (b8 .t .given .1) (b10 .terminal-kind .ensures))) (says orderSays (b4 .d2 .given .1) (b6 .order .ensures)), throw-judged _ _ _ _ _ _) (c .terminal-effects2 .ensures)
 
 pub terminal-spec : {M : Type 1} → statement M
 terminal-spec =
@@ -119,15 +151,19 @@ terminal-spec =
     enum-known-k2
     returns-2
     enum-told
+    places-requires
+    enum-known-c3
+    enum-known-k3
     enum-told-2
     place-requires
-    enum-known-c3
+    enum-known-c4
     relation-requires
-    effects-requires
-    enum-known-k3
+    terminal-effects-requires
+    enum-known-k4
     enum-told-3
-    effects-requires-2
+    terminal-effects-requires-2
     returns-3
     returns-4
     returns-5
-    returns-6)
+    returns-6
+    returns-7)

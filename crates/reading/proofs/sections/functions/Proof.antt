@@ -12,10 +12,10 @@ use Rattle.reading.proofs.sections.functions.Statement.{statement}
 use Rattle.reading.proofs.sections.functions.Tie as tie
 
 abbrev Inv-loop : tie.InvT-loop
-Inv-loop s count c₀ left₀ c left = passing left₀ innerFunction s (c₀ .at) ≡ passing left innerFunction s (c .at)
+Inv-loop s n count c₀ left₀ c left = passing left₀ (innerFunction n) s (c₀ .at) ≡ passing left (innerFunction n) s (c .at)
 
 abbrev μ-loop : tie.MeasureT-loop
-μ-loop s count c₀ left₀ c left = left
+μ-loop s n count c₀ left₀ c left = left
 
 count-requires : tie.Need-count-requires Inv-loop μ-loop
 count-requires c κs = tt

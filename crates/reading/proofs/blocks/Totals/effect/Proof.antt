@@ -55,16 +55,26 @@ diagnosis-requires c κs = search needs
 enum-told-5 : tie.Need-enum-told-5
 enum-told-5 c = search needs
 
+is-requires-2 : tie.Need-is-requires-2
+is-requires-2 c κs = search needs
+
+apply-requires : tie.Need-apply-requires
+apply-requires c κs = search needs
+
 returns-3 : tie.Need-returns-3
 unfolding tellKind
 returns-3 c =
     let b3 = c .before .before .before in
-    let b4 = b3 .before in
+    let b5 = b3 .before .before in
+    let b6 = b5 .before in
     rw (
-      b4 .if1 .left,
-      ← b3 .role-of .ensures,
-      c .before .enum-told .given .1,
-    ) (c .relation2 .ensures)
+      b6 .if1 .left,
+      ← b5 .role-of .ensures,
+      b3 .enum-told5 .given .1,
+      number-same,
+      ← c .before .before .is2 .ensures,
+      c .before .if3 .taken,
+    ) (c .apply .ensures)
 
 returns-4 : tie.Need-returns-4
 unfolding tellKind
@@ -74,8 +84,8 @@ returns-4 c =
     rw (
       b4 .if1 .left,
       ← b3 .role-of .ensures,
-      c .before .enum-told2 .given .1,
-    ) (c .mutation .ensures)
+      c .before .enum-told .given .1,
+    ) (c .relation2 .ensures)
 
 returns-5 : tie.Need-returns-5
 unfolding tellKind
@@ -85,8 +95,8 @@ returns-5 c =
     rw (
       b4 .if1 .left,
       ← b3 .role-of .ensures,
-      c .before .enum-told3 .given .1,
-    ) (c .render .ensures)
+      c .before .enum-told2 .given .1,
+    ) (c .mutation .ensures)
 
 returns-6 : tie.Need-returns-6
 unfolding tellKind
@@ -96,17 +106,32 @@ returns-6 c =
     rw (
       b4 .if1 .left,
       ← b3 .role-of .ensures,
-      c .before .enum-told4 .given .1,
-    ) (c .diagnosis .ensures)
+      c .before .enum-told3 .given .1,
+    ) (c .render .ensures)
 
 returns-7 : tie.Need-returns-7
 unfolding tellKind
 returns-7 c =
     let b3 = c .before .before .before in
+    let b4 = b3 .before in
     rw (
-      b3 .if1 .left,
-      ← c .before .before .role-of .ensures,
-      c .enum-told5 .given .1,
+      b4 .if1 .left,
+      ← b3 .role-of .ensures,
+      c .before .enum-told4 .given .1,
+    ) (c .diagnosis .ensures)
+
+returns-8 : tie.Need-returns-8
+unfolding tellKind
+returns-8 c =
+    let b4 = c .before .before .before .before in
+    let b5 = b4 .before in
+    rw (
+      b5 .if1 .left,
+      ← b4 .role-of .ensures,
+      c .before .before .enum-told5 .given .1,
+      number-same,
+      ← c .before .is2 .ensures,
+      c .if3 .left,
     )
 
 pub effect-spec : {M : Type 1} → statement M
@@ -127,8 +152,11 @@ effect-spec =
     enum-told-4
     diagnosis-requires
     enum-told-5
+    is-requires-2
+    apply-requires
     returns-3
     returns-4
     returns-5
     returns-6
-    returns-7)
+    returns-7
+    returns-8)

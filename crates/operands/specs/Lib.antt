@@ -1,0 +1,10 @@
+pub mod Ranges
+pub mod Given
+pub mod Contexts
+pub mod Known
+pub mod Marking
+pub mod Phis
+pub mod Instruction
+pub mod Passes
+pub mod Begun
+pub mod Whole
