@@ -78,6 +78,7 @@ CREATE = said_once(r"\| ([\d,]+) × reason \+ value kind")
 ASSIGN_CURRENT_PROPERTY = said_once(r"\| ([\d,]+) is AssignCurrentProperty")
 FUNCTION_DIAGNOSTICS = said_once(r"a count, at most ([\d,]+), and so many diagnostics")
 LIST = said_once(r"A \*\*list of effects\*\* is a count, at most ([\d,]+),")
+ABSENT = said_once(r"the count is then ([\d,]+), and no effects follow")
 PLACE_LIST = said_once(r"A \*\*list of places\*\* is a count, at most ([\d,]+),")
 for part in ("phis", "operands", "instructions"):
     assert LIST == said_once(rf"[Aa] count of {part}, at most ([\d,]+),"), part
@@ -121,13 +122,15 @@ def inner(diagnostics=(), context=()):
     return counted(diagnostics) + counted(context)
 
 
-def instruction(order, *effects, lvalue=(0, 0, 0), lvalues=(), operands=(), function=None, stores=None):
+def instruction(order, *effects, lvalue=(0, 0, 0), lvalues=(), operands=(), function=None, stores=None, absent=False):
+    """With `absent` it has no list of effects."""
     value = [INSTRUCTION["Plain"]]
     if function is not None:
         value = [INSTRUCTION["Function"], function]
     if stores is not None:
         value = [INSTRUCTION["StoreContext"], stores]
-    return [order] + list(lvalue) + counted(lvalues) + counted(operands) + value + counted(effects)
+    listed = [ABSENT] if absent else counted(effects)
+    return [order] + list(lvalue) + counted(lvalues) + counted(operands) + value + listed
 
 
 def other(order, *operands):
@@ -291,6 +294,14 @@ EVERY_PART = sheet(
             [],
             [
                 instruction(
+                    7,
+                    lvalue=place(SHOWN, span=51),
+                    operands=[place(REST, "Mutate", reactive=True, span=52), place(SHOWN)],
+                    stores=SHOWN,
+                    absent=True,
+                ),
+                instruction(7, lvalue=place(LIST_), function=F1, absent=True),
+                instruction(
                     8,
                     effect("Render", place(SHOWN, "Read", reactive=True, span=88)),  # 8
                     effect("Mutate", place(REST, "Mutate", span=99), extra=ASSIGN_CURRENT_PROPERTY),  # 9
@@ -359,9 +370,10 @@ EVERY_PART = sheet(
 #   at 4.
 # - At 6: result is 6..7; changed, a value lvalue, starts at 6. Both operands are Read: item's end is
 #   not above 6. Then item is stored, and its end, 4, becomes 7.
+# - At 7, twice, there is no list: lvalues are ConditionallyMutate and operands Read. rest does not
+#   start, shown is not stored and ends at 3, and what the second inner function uses stays as it is.
 # - At 8: rest starts at 8 and is Store; shown, whose end is 3, is Read.
 # - The value of Return is Freeze; the other terminal's operand Read, still reactive.
-# - The second inner function is made by no instruction.
 EVERY_PART_ANSWER = [
     "ranges 10 1 7 2 4 1 7 2 3 4 7 5 6 6 7 6 7 3 7 8 1000000",
     # Capture is 3: props stays reactive (8 more).
@@ -386,12 +398,14 @@ EVERY_PART_ANSWER = [
     "phis 3 4 7 4294967295 0 11 0 2 3 0",
     " ".join(
         [
-            "instructions 14",
+            "instructions 18",
             "2 7 31 0 11 32",  # at 1
             "3 5 0",  # at 2
             "8 5 0 5 5 0 1 3 0",  # at 3
             "5 5 0",  # at 5
             "6 5 0 7 5 41 7 2 42 8 2 0",  # at 6
+            "3 5 51 9 10 52 3 2 0",  # at 7
+            "2 5 0",  # at 7
             "9 7 0 3 2 0 9 7 0",  # at 8
         ]
     ),
@@ -456,6 +470,7 @@ def names():
         instruction(5, lvalue=place(1), lvalues=[place(0, "Store")], operands=[place(2, span=9)]),
         instruction(6, function=0),
         instruction(7, lvalue=place(0, "Read"), stores=2),
+        instruction(9, operands=[place(1)], absent=True),
     ]
     blocks.append(block(4, [], values, other(8)))
     functions = [inner([], [place(1, "Capture"), place(0)])]
@@ -471,6 +486,7 @@ def names():
     expected += ["block 2", "terminal Return x0 at 3", "block 3", "terminal MaybeThrow at 4", "Apply"]
     expected += ["block 4", "instruction at 5 lvalue x1", "lvalue x0 Store", "operand x2 span 9"]
     expected += ["instruction at 6 function f0", "instruction at 7 lvalue x0 Read StoreContext x2"]
+    expected += ["instruction at 9", "operand x1", "no effects"]
     expected += ["terminal Other at 8"]
     check(text, expected, "the names of a sheet's parts")
 
@@ -546,6 +562,9 @@ def limits():
     word("a stored identifier", plain + [0, 0, INSTRUCTION["StoreContext"]], 1, 5)
     plain += [0, 0, INSTRUCTION["Plain"]]
     word("effects", plain, LIST, 4)
+    check(answer(plain + [ABSENT]), 3, "an absent list of effects")
+    check(answer(plain + [ABSENT - 1]), 4, "a count of effects one below that of an absent list")
+    check(isinstance(answer(plain + [ABSENT] + other(0)), list), True, "an instruction without a list")
     word("effect kind", plain + [1], most("effect kind"), 5)
     check(most("effect kind"), len(KIND) - 1, "effect kinds")
     for kind in KIND:
@@ -567,6 +586,7 @@ def limits():
     word("an operand of a terminal", head + [0, 0, 1], 1, 5)
     for what, before in (("Return", [1, 0, 0, 0, 0]), ("MaybeThrow", [2, 0])):
         word(f"effects of {what}", head + before, LIST, 4)
+        check(answer(head + before + [ABSENT]), 4, f"an absent list of effects of {what}")
         check(isinstance(answer(head + before + [0, 0]), list), True, f"{what} without operands")
         check(answer(head + before + [0, 1]), 4, f"{what} with an operand")
 

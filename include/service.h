@@ -149,6 +149,11 @@ enum ServiceInstruction {
     SERVICE_INSTRUCTION_STORE_CONTEXT = 2 /* the identifier that is stored */
 };
 
+/* An instruction's count of effects if its list is absent, which is not the empty list of count 0:
+ * no effects follow, and the pass over operands leaves the instruction after its lvalues and the
+ * Read marks. A terminal's list is never absent. */
+#define SERVICE_ABSENT_EFFECTS 4294967295
+
 /* How a block ends. */
 enum ServiceTerminal {
     SERVICE_TERMINAL_OTHER = 0,      /* an order, a count of operands and the operands */

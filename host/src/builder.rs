@@ -257,7 +257,8 @@ impl SheetBuilder {
     }
 
     /// Adds an instruction to the block. Unless it is given another one, its lvalue is a place of
-    /// the first identifier with nothing else said; its value is plain.
+    /// the first identifier with nothing else said; its value is plain, and its list of effects
+    /// empty.
     pub fn instruction(&mut self, order: EvaluationOrder) -> Taken {
         let open = [Open::Block, Open::Phi, Open::Instruction];
         let block = self.within(&open, "an instruction", "a block without a terminal")?;
@@ -271,7 +272,7 @@ impl SheetBuilder {
             lvalues: Vec::new(),
             operands: Vec::new(),
             value: InstructionValue::Plain,
-            effects: Vec::new(),
+            effects: Some(Vec::new()),
         });
         self.open = Open::Instruction;
         Ok(())
@@ -323,19 +324,33 @@ impl SheetBuilder {
         Ok(())
     }
 
-    /// Adds an effect to the instruction or to the terminal.
+    /// Adds an effect to the instruction, unless its list is absent, or to the terminal.
     pub fn effect(&mut self, effect: AliasingEffect) -> Taken {
-        let follows = "an instruction, or a terminal Return or MaybeThrow";
-        self.within(&[Open::Instruction, Open::Terminal], "an effect", follows)?;
+        let what = "an effect";
+        let follows = "an instruction with a list, or a terminal Return or MaybeThrow";
+        self.within(&[Open::Instruction, Open::Terminal], what, follows)?;
         self.known_effect(&effect)?;
         let terminal = self.open == Open::Terminal;
         let block = self.last_block();
         let effects = match block.instructions.last_mut() {
-            Some(instruction) if !terminal => &mut instruction.effects,
-            _ => &mut block.terminal_effects,
+            Some(instruction) if !terminal => instruction.effects.as_mut(),
+            _ => Some(&mut block.terminal_effects),
         };
+        let effects = effects.ok_or(PartError::OutOfPlace { what, follows })?;
         room(effects, "effects of one list", limits::COUNT)?;
         effects.push(effect);
+        Ok(())
+    }
+
+    /// Leaves the instruction's list of effects out, which is not the same as an empty one: see
+    /// [`Instruction::effects`].
+    pub fn no_effects(&mut self) -> Taken {
+        let (what, follows) = ("an absent list of effects", "an instruction without effects");
+        let block = self.within(&[Open::Instruction], what, follows)?;
+        if block.instructions.last().is_some_and(|i| !i.listed_effects().is_empty()) {
+            return Err(PartError::OutOfPlace { what, follows });
+        }
+        self.last_instruction().effects = None;
         Ok(())
     }
 

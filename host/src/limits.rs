@@ -19,6 +19,8 @@ pub const PLACES: usize = 64;
 pub const BLOCKS: usize = 256;
 /// Of phis in a block, operands in a phi, instructions in a block, and effects in a list.
 pub const COUNT: usize = 1_024;
+/// The count of an instruction's effects that stands for an absent list, which is not an empty one.
+pub const ABSENT_EFFECTS: u32 = 4_294_967_295;
 
 /// Of a range's start and of its end.
 pub const RANGE: u32 = 1_000_000;

@@ -206,9 +206,18 @@ impl Reader<'_> {
         Ok(AliasingEffect::of(kind, first, second, extra).expect("the extra word is in range"))
     }
 
-    fn effects(&mut self) -> Read<Vec<AliasingEffect>> {
-        let count = self.count("effects", limits::COUNT)?;
+    fn effects(&mut self, what: &str) -> Read<Vec<AliasingEffect>> {
+        let count = self.count(what, limits::COUNT)?;
         self.times("effect", count, Self::effect)
+    }
+
+    /// The effects of an instruction, whose list can be absent.
+    fn instruction_effects(&mut self) -> Read<Option<Vec<AliasingEffect>>> {
+        if self.words.get(self.at) == Some(&limits::ABSENT_EFFECTS) {
+            self.at += 1;
+            return Ok(None);
+        }
+        self.effects("effects (4294967295 if the list is absent)").map(Some)
     }
 
     /// A block number that is not among those before it.
@@ -239,7 +248,7 @@ impl Reader<'_> {
         let lvalues = self.places("an instruction's value lvalues", "value lvalue")?;
         let operands = self.places("an instruction's operands", "operand")?;
         let value = self.value()?;
-        let effects = self.effects()?;
+        let effects = self.instruction_effects()?;
         Ok(Instruction { order, lvalue, lvalues, operands, value, effects })
     }
 
@@ -270,7 +279,7 @@ impl Reader<'_> {
             1 => Terminal::Return { order, value: self.place()? },
             _ => Terminal::MaybeThrow { order },
         };
-        let effects = self.effects()?;
+        let effects = self.effects("a terminal's effects")?;
         let what = if kind == 1 { "a Return's operands" } else { "a MaybeThrow's operands" };
         self.fixed_count(what, 0)?;
         Ok((terminal, effects, Vec::new()))

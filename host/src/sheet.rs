@@ -80,8 +80,17 @@ pub struct Instruction {
     pub operands: Vec<Place>,
     /// What its value is.
     pub value: InstructionValue,
-    /// What it does to values, in order.
-    pub effects: Vec<AliasingEffect>,
+    /// What it does to values, in order; none if the list is absent, which is not an empty one:
+    /// the pass over operands then sets no start of an operand, leaves the context of an inner
+    /// function as it is, and stores nothing.
+    pub effects: Option<Vec<AliasingEffect>>,
+}
+
+impl Instruction {
+    /// What it does to values, in order: nothing if the list is absent.
+    pub fn listed_effects(&self) -> &[AliasingEffect] {
+        self.effects.as_deref().unwrap_or_default()
+    }
 }
 
 /// How a block ends. Only `Return` and `MaybeThrow` can have effects, and only `Other` operands.
@@ -200,7 +209,7 @@ impl Sheet {
         let mut totals = Totals::default();
         for block in &self.blocks {
             totals.relations += block.phis.iter().map(|phi| phi.operands.len()).sum::<usize>();
-            for effect in block.instructions.iter().flat_map(|i| &i.effects) {
+            for effect in block.instructions.iter().flat_map(Instruction::listed_effects) {
                 totals.relations += effect.kind().is_relation() as usize;
                 totals.mutations += effect.kind().is_mutation() as usize;
                 totals.renders += (effect.kind() == EffectKind::Render) as usize;
@@ -216,7 +225,8 @@ impl Sheet {
     pub fn applies(&self) -> impl Iterator<Item = (BlockId, EvaluationOrder)> {
         let apply = |effect: &AliasingEffect| effect.kind() == EffectKind::Apply;
         self.blocks.iter().flat_map(move |block| {
-            let applies = block.instructions.iter().filter(move |i| i.effects.iter().any(apply));
+            let applies =
+                block.instructions.iter().filter(move |i| i.listed_effects().iter().any(apply));
             applies.map(|instruction| (block.number, instruction.order))
         })
     }
@@ -286,7 +296,10 @@ fn put_block(words: &mut Vec<u32>, block: &Block) {
             InstructionValue::Function(function) => words.extend([1, function.0]),
             InstructionValue::StoreContext(identifier) => words.extend([2, identifier.0]),
         }
-        put_effects(words, &instruction.effects);
+        match &instruction.effects {
+            Some(effects) => put_effects(words, effects),
+            None => words.push(limits::ABSENT_EFFECTS),
+        }
     }
     match block.terminal {
         Terminal::Other { order } => words.extend([0, order.0]),

@@ -203,7 +203,10 @@ fn put_instruction(text: &mut String, instruction: &Instruction, names: &Names) 
     writeln!(text)?;
     put_places(text, "lvalue", &instruction.lvalues, names)?;
     put_places(text, "operand", &instruction.operands, names)?;
-    put_effects(text, &instruction.effects, names)
+    match &instruction.effects {
+        Some(effects) => put_effects(text, effects, names),
+        None => writeln!(text, "    no effects"),
+    }
 }
 
 fn put_places(text: &mut String, word: &str, places: &[Place], names: &Names) -> fmt::Result {
@@ -401,7 +404,7 @@ fn more_of_place<'n>(or: &[&'n str]) -> impl Iterator<Item = &'n str> {
 }
 
 /// What a line can begin with, effects aside.
-const LINES: [&str; 12] = [
+const LINES: [&str; 13] = [
     "flags",
     "identifier",
     "function",
@@ -413,6 +416,7 @@ const LINES: [&str; 12] = [
     "operand",
     "instruction",
     "lvalue",
+    "no",
     "terminal",
 ];
 
@@ -446,6 +450,7 @@ impl Parser {
             "operand" => Parser::operand,
             "instruction" => Parser::instruction,
             "lvalue" => Parser::lvalue,
+            "no" => Parser::no_effects,
             "terminal" => Parser::terminal,
             _ => {
                 let (lines, effects) = (LINES.join(", "), EffectKind::NAMES.join(", "));
@@ -644,6 +649,15 @@ impl Parser {
     fn lvalue(&mut self, words: &mut Words) -> Parsed {
         let place = self.last_place(words)?;
         self.builder.value_lvalue(place).map_err(|e| e.to_string())
+    }
+
+    /// The list of the instruction's effects is absent.
+    fn no_effects(&mut self, words: &mut Words) -> Parsed {
+        if !words.take("effects") {
+            return words.expected_name("`effects`", ["effects"]);
+        }
+        words.end()?;
+        self.builder.no_effects().map_err(|e| e.to_string())
     }
 
     fn terminal(&mut self, words: &mut Words) -> Parsed {

@@ -9,8 +9,8 @@ use oracle::plain::{self as oracle_plain, Outcome};
 use oracle::random::Random;
 use service_host::ffi::{self, Reply, ServiceState};
 use service_host::{
-    AliasingDiagnostic, AliasingEffect, Effect, EvaluationOrder, Identifier, IdentifierId,
-    MutableRange, Place, Refusal, Service, SheetBuilder, limits,
+    AliasingDiagnostic, AliasingEffect, BlockId, Effect, EvaluationOrder, Identifier, IdentifierId,
+    InstructionValue, MutableRange, Place, Refusal, Service, SheetBuilder, Terminal, limits,
 };
 
 fn place(identifier: u32) -> Place {
@@ -131,6 +131,58 @@ block 1
     assert_eq!(terminals, [(0, Read, true, 0), (1, Read, false, 0)]);
     let inner = places(answer.inner().collect());
     assert_eq!(inner, [(0, Capture, true, 3), (1, Store, false, 0)]);
+}
+
+/// An absent list is not an empty one: without a list no start of an operand is set, the context of
+/// an inner function stays as it is, and nothing is stored.
+#[test]
+fn absent_lists() {
+    let answered = |absent: bool| {
+        let mut sheet = SheetBuilder::new();
+        for end in [0, 9, 0, 0] {
+            let range = MutableRange { start: EvaluationOrder(0), end: EvaluationOrder(end) };
+            sheet.identifier(Identifier { range, ..Identifier::default() }).unwrap();
+        }
+        let inner = Place { effect: Effect::Mutate, ..place(1) };
+        let function = sheet.function(&[], &[inner]).unwrap();
+        sheet.block(BlockId(0)).unwrap();
+        // It makes the function, and uses what is in its context.
+        sheet.instruction(EvaluationOrder(5)).unwrap();
+        sheet.value(InstructionValue::Function(function)).unwrap();
+        sheet.value_operand(place(1)).unwrap();
+        if absent {
+            sheet.no_effects().unwrap();
+        }
+        // It stores 3 in 2.
+        sheet.instruction(EvaluationOrder(6)).unwrap();
+        sheet.value(InstructionValue::StoreContext(IdentifierId(3))).unwrap();
+        sheet.value_lvalue(place(2)).unwrap();
+        sheet.value_operand(place(2)).unwrap();
+        sheet.value_operand(place(3)).unwrap();
+        if absent {
+            sheet.no_effects().unwrap();
+        }
+        sheet.terminal(Terminal::Other { order: EvaluationOrder(7) }).unwrap();
+        let words = sheet.finish(place(0)).unwrap().words();
+        let mut service = Service::new();
+        let answer = service.infer(&words).unwrap();
+        let ranges: Vec<_> = answer.ranges().map(|r| (r.start.0, r.end.0)).collect();
+        let marks: Vec<_> = answer.instructions().map(|p| (p.identifier.0, p.effect)).collect();
+        let inner: Vec<_> = answer.inner().map(|p| p.effect).collect();
+        (ranges, marks, inner)
+    };
+    let marks = vec![
+        (0, Effect::ConditionallyMutate),
+        (1, Effect::Read),
+        (0, Effect::ConditionallyMutate),
+        (2, Effect::ConditionallyMutate),
+        (2, Effect::Read),
+        (3, Effect::Read),
+    ];
+    let ranges = vec![(5, 6), (5, 9), (6, 7), (0, 7)];
+    assert_eq!(answered(false), (ranges, marks.clone(), vec![Effect::Read]));
+    let ranges = vec![(5, 6), (0, 9), (6, 7), (0, 0)];
+    assert_eq!(answered(true), (ranges, marks, vec![Effect::Mutate]));
 }
 
 #[test]

@@ -51,8 +51,9 @@ fn rebuilt(sheet: &Sheet) -> Result<Sheet, PartError> {
                 builder.value_operand(*place)?;
             }
             builder.value(instruction.value)?;
-            for effect in &instruction.effects {
-                builder.effect(*effect)?;
+            match &instruction.effects {
+                Some(effects) => effects.iter().try_for_each(|effect| builder.effect(*effect))?,
+                None => builder.no_effects()?,
             }
         }
         builder.terminal(block.terminal)?;
@@ -351,6 +352,7 @@ fn parts_out_of_place() {
     misplaced(b.value_lvalue(place(0)));
     misplaced(b.value_operand(place(0)));
     misplaced(b.value(InstructionValue::Plain));
+    misplaced(b.no_effects());
     b.instruction(order(0)).unwrap();
     misplaced(b.phi(place(0)));
     misplaced(b.operand(BlockId(0), place(0)));
@@ -362,6 +364,79 @@ fn parts_out_of_place() {
     b.block(BlockId(1)).unwrap();
     b.terminal(Terminal::Return { order: order(0), value: place(0) }).unwrap();
     misplaced(b.value_operand(place(0)));
+    misplaced(b.no_effects());
+}
+
+/// A list left out is not an empty one: in parts, in words and in text.
+#[test]
+fn no_list_of_effects() {
+    let mut b = builder(1);
+    b.block(BlockId(0)).unwrap();
+    b.instruction(order(1)).unwrap();
+    let empty = b.clone();
+    b.no_effects().unwrap();
+    let absent = b.clone();
+    let render = AliasingEffect::Render { place: place(0) };
+    assert_eq!(
+        b.effect(render).unwrap_err().to_string(),
+        "an effect follows an instruction with a list, or a terminal Return or MaybeThrow"
+    );
+    assert_eq!(format!("{b:?}"), format!("{absent:?}"));
+    // What follows such an instruction has a list again.
+    b.instruction(order(2)).unwrap();
+    b.effect(render).unwrap();
+    assert_eq!(
+        b.no_effects().unwrap_err().to_string(),
+        "an absent list of effects follows an instruction without effects"
+    );
+    let finished = |mut b: SheetBuilder| {
+        b.terminal(Terminal::MaybeThrow { order: order(3) }).unwrap();
+        b.finish(place(0)).unwrap()
+    };
+    let (empty, absent) = (finished(empty), finished(absent));
+    assert_eq!(empty.blocks()[0].instructions[0].effects, Some(Vec::new()));
+    assert_eq!(absent.blocks()[0].instructions[0].effects, None);
+    let head = [2, 0, 0, 1, 0, 0, 0, 0, 0, 0, 1, 0, 0, 0, 1, 0, 0, 1, 1, 0, 0, 0, 0, 0, 0];
+    assert_eq!(empty.words(), [&head[..], &[0, 2, 3, 0, 0]].concat());
+    assert_eq!(absent.words(), [&head[..], &[4_294_967_295, 2, 3, 0, 0]].concat());
+    for sheet in [&empty, &absent] {
+        assert_eq!(Sheet::read(&sheet.words()).as_ref(), Ok(sheet));
+        assert_eq!(sheet.refusal(), None);
+    }
+    let text = |sheet: &Sheet| text::write(sheet, &Names::numbered(sheet));
+    let lines = "block 0\n  instruction at 1\n";
+    let terminal = "  terminal MaybeThrow at 3\n";
+    assert!(text(&empty).ends_with(&format!("{lines}{terminal}")));
+    assert!(text(&absent).ends_with(&format!("{lines}    no effects\n{terminal}")));
+    assert_eq!(text::parse(&text(&absent)).unwrap().0, absent);
+}
+
+/// Of the counts above 1,024 one alone stands for an absent list, in an instruction alone.
+#[test]
+fn counts_of_effects() {
+    let head = [2, 0, 1, 1, 0, 0, 0, 0, 0, 0, 1, 0, 0, 0, 1, 7, 0];
+    let with = |rest: &[u32]| Sheet::read(&[&head[..], rest].concat());
+    let instruction = |count| with(&[1, 1, 0, 0, 0, 0, 0, 0, count, 0, 2, 0]);
+    assert!(instruction(limits::ABSENT_EFFECTS).is_ok());
+    for count in [1_025, 4_294_967_294] {
+        assert_eq!(
+            instruction(count).unwrap_err().to_string(),
+            format!(
+                "refused 4: word 25 (block 1 of 1, instruction 1 of 1): expected a count of \
+                 effects (4294967295 if the list is absent), at most 1024, found {count}"
+            )
+        );
+    }
+    assert_eq!(
+        with(&[0, 2, 1, 4_294_967_295, 0]).unwrap_err().to_string(),
+        "refused 4: word 20 (block 1 of 1): expected a count of a terminal's effects, at most \
+         1024, found 4294967295"
+    );
+    assert_eq!(
+        with(&[1, 1, 0, 0, 0, 0, 0, 0, limits::ABSENT_EFFECTS]).unwrap_err().to_string(),
+        "refused 3: word 26 (block 1 of 1): expected a terminal kind (0 other, 1 Return, 2 \
+         MaybeThrow), but the sheet ends here"
+    );
 }
 
 /// Parts drawn at random, many of them faulty: what the builder makes is never refused 3 to 7.
@@ -382,7 +457,7 @@ fn no_sheet_that_is_refused_3_to_7() {
             let near = random.choose(&[0, 1, 2, 65_535, 65_536, 999_999, 1_000_000, 1_000_001]);
             let effect = std::array::from_fn(|_| random.below(18) as u32);
             // Faults are what is tried here.
-            _ = match random.below(15) {
+            _ = match random.below(16) {
                 0 => b
                     .identifier(Identifier {
                         range: MutableRange { start: order(near), end: order(near) },
@@ -409,6 +484,7 @@ fn no_sheet_that_is_refused_3_to_7() {
                     1 => InstructionValue::Function(FunctionId(near)),
                     _ => InstructionValue::StoreContext(p.identifier),
                 }),
+                14 => b.no_effects(),
                 _ => b.terminal(match random.below(3) {
                     0 => Terminal::Other { order: order(near) },
                     1 => Terminal::Return { order: order(near), value: p },
@@ -533,6 +609,19 @@ fn faults_in_text_name_the_line_and_what_was_expected() {
         "line 7: expected an effect, `reactive`, `span NUMBER` or the end of the line, \
          found `from`"
     );
+    assert_eq!(block("instruction at 1\nno list"), "line 7: expected `effects`, found `list`");
+    assert_eq!(
+        block("instruction at 1\nno effects\nRender a"),
+        "line 8: an effect follows an instruction with a list, or a terminal Return or MaybeThrow"
+    );
+    assert_eq!(
+        block("instruction at 1\nRender a\nno effects"),
+        "line 8: an absent list of effects follows an instruction without effects"
+    );
+    assert_eq!(
+        block("terminal MaybeThrow at 1\nno effects"),
+        "line 7: an absent list of effects follows an instruction without effects"
+    );
     assert_eq!(
         block("terminal MaybeThrow at 1\noperand a"),
         "line 7: an operand follows a phi, an instruction or a terminal Other"
@@ -610,6 +699,7 @@ fn misspelt_words() {
     assert_eq!(meant("terminal return b at 1").as_deref(), Some("Return"));
     assert_eq!(meant("parm b").as_deref(), Some("param"));
     assert_eq!(meant("phi prop").as_deref(), Some("props"));
+    assert_eq!(meant("instruction at 1\nno efects").as_deref(), Some("effects"));
     assert_eq!(meant("phi props\noperand b frm 1").as_deref(), Some("from"));
     assert_eq!(effect("MutateTransitve b").as_deref(), Some("MutateTransitive"));
     assert_eq!(effect("Cpature b into props").as_deref(), Some("Capture"));

@@ -1,5 +1,5 @@
 //! Every word of a sheet at the end of its range and one past it: small sheets, each with the
-//! refusal that document 01 gives it. The limits stand here a second time, from the document's
+//! refusal that documents 01 and 02 give it. The limits stand here a second time, from the document's
 //! text, so that the plain reader's are held to them.
 
 /// A sheet with its refusal, 0 for none.
@@ -15,6 +15,8 @@ pub struct Boundary {
 enum Held {
     /// A count, and its limit.
     Count(u32),
+    /// The same of an instruction's effects, whose list can be absent.
+    Listed(u32),
     /// A fixed count.
     Fixed,
     /// The largest of its range.
@@ -24,7 +26,7 @@ enum Held {
     Nothing,
 }
 
-use Held::{Count, Fixed, Kind, Nothing, Range};
+use Held::{Count, Fixed, Kind, Listed, Nothing, Range};
 
 /// The words of a sheet, each with a name and what it is held to.
 #[derive(Default)]
@@ -35,6 +37,9 @@ struct Described {
 
 const IDENTIFIERS: u32 = 3;
 const FUNCTIONS: u32 = 2;
+
+/// An instruction's effect count that means that the list is absent.
+const ABSENT: u32 = u32::MAX;
 
 /// The table of document 01: kinds, places, largest extra word; and largest first word of an
 /// unused second place, which for kinds 14 to 16 is the instance.
@@ -92,8 +97,8 @@ impl Described {
     }
 
     /// An effect count and the effects.
-    fn effects(&mut self, of: &str, kinds: &[u32]) {
-        self.put(&format!("effects of {of}"), kinds.len() as u32, Count(1_024));
+    fn effects(&mut self, of: &str, kinds: &[u32], held: Held) {
+        self.put(&format!("effects of {of}"), kinds.len() as u32, held);
         for kind in kinds {
             self.effect(&format!("kind {kind} in {of}"), *kind);
         }
@@ -168,7 +173,12 @@ impl Described {
     fn instruction(&mut self, order: u32, kinds: &[u32]) {
         self.lists(order, &[], &[]);
         self.value(0);
-        self.effects(&format!("instruction {order}"), kinds);
+        self.instruction_effects(order, kinds);
+    }
+
+    /// The end of an instruction.
+    fn instruction_effects(&mut self, order: u32, kinds: &[u32]) {
+        self.effects(&format!("instruction {order}"), kinds, Listed(1_024));
     }
 
     fn other(&mut self, order: u32, operands: &[u32]) {
@@ -181,21 +191,21 @@ impl Described {
         self.put("terminal kind, Return", 1, Kind(2));
         self.put("order of a Return", order, Range(999_999));
         self.place("value of a Return", 0);
-        self.effects("a Return", kinds);
+        self.effects("a Return", kinds, Count(1_024));
         self.put("operands of a Return", 0, Fixed);
     }
 
     fn maybe_throw(&mut self, order: u32, kinds: &[u32]) {
         self.put("terminal kind, MaybeThrow", 2, Kind(2));
         self.put("order of a MaybeThrow", order, Range(999_999));
-        self.effects("a MaybeThrow", kinds);
+        self.effects("a MaybeThrow", kinds, Count(1_024));
         self.put("operands of a MaybeThrow", 0, Fixed);
     }
 
     /// The word at its largest, and the refusal one past it.
     fn most(&self, at: usize) -> (u32, Option<u32>) {
         match self.held[at].1 {
-            Count(most) => (most, Some(4)),
+            Count(most) | Listed(most) => (most, Some(4)),
             Fixed => (self.words[at], Some(4)),
             Range(most) | Kind(most) => (most, Some(5)),
             Nothing => (u32::MAX, None),
@@ -254,17 +264,17 @@ fn every_section() -> Described {
     // Destructure and FunctionExpression; StoreContext follows.
     sheet.lists(7, &[1, 2], &[0]);
     sheet.value(0);
-    sheet.effects("instruction 7", &[8]);
+    sheet.instruction_effects(7, &[8]);
     sheet.lists(8, &[], &[]);
     sheet.value(1);
-    sheet.effects("instruction 8", &[13]);
+    sheet.instruction_effects(8, &[13]);
     sheet.returns(3, &[6]);
     sheet.block(10, 0);
     sheet.instructions(2);
     sheet.instruction(4, &[3, 17]);
     sheet.lists(9, &[2], &[2, 1]);
     sheet.value(2);
-    sheet.effects("instruction 9", &[]);
+    sheet.instruction_effects(9, &[]);
     sheet.maybe_throw(5, &[9]);
     sheet.block(30, 0);
     sheet.instructions(0);
@@ -317,6 +327,60 @@ fn effects() -> Vec<Boundary> {
             sheets.extend(sheet.passed(at, whole));
         }
     }
+    sheets
+}
+
+/// A sheet whose lists of effects are all empty: every value, with an operand whose start may be
+/// set, and both terminals that have effects.
+fn empty_effects() -> Described {
+    let mut sheet = Described::default();
+    sheet.head();
+    sheet.put("blocks", 2, Count(256));
+    sheet.block(1, 0);
+    sheet.instructions(2);
+    sheet.lists(5, &[1], &[0]);
+    sheet.value(0);
+    sheet.instruction_effects(5, &[]);
+    sheet.lists(6, &[], &[]);
+    sheet.value(1);
+    sheet.instruction_effects(6, &[]);
+    sheet.maybe_throw(7, &[]);
+    sheet.block(2, 0);
+    sheet.instructions(1);
+    sheet.lists(8, &[2], &[2, 1]);
+    sheet.value(2);
+    sheet.instruction_effects(8, &[]);
+    sheet.returns(9, &[]);
+    sheet
+}
+
+/// Every effect count of that sheet, absent and one below that, with the rest of the sheet behind
+/// it and with its end. Only the list of an instruction can be absent.
+fn absent() -> Vec<Boundary> {
+    let mut sheet = empty_effects();
+    let whole = sheet.words.len();
+    let mut sheets = vec![sheet.whole("empty lists of effects", 0)];
+    let counts: Vec<usize> =
+        (0..whole).filter(|&at| sheet.held[at].0.starts_with("effects of")).collect();
+    for &at in &counts {
+        let instruction = matches!(sheet.held[at].1, Listed(_));
+        for length in [whole, at + 1] {
+            let refusal = match (instruction, length == whole) {
+                (true, true) => 0,
+                (true, false) => 3,
+                (false, _) => 4,
+            };
+            sheets.push(sheet.with(at, "absent", ABSENT, length, refusal));
+            sheets.push(sheet.with(at, "one below absent", ABSENT - 1, length, 4));
+            sheets.extend(sheet.passed(at, length));
+        }
+    }
+    for at in counts {
+        if matches!(sheet.held[at].1, Listed(_)) {
+            sheet.words[at] = ABSENT;
+        }
+    }
+    sheets.push(sheet.whole("absent lists of effects", 0));
     sheets
 }
 
@@ -431,9 +495,17 @@ fn numbers() -> Vec<Boundary> {
 /// How many instructions without lists and effects stand one after another.
 const RUN: u32 = 8;
 
-/// So many instructions, then one with a mutation. One of the first may have an effect, all of
-/// whose words could be those of an instruction.
-fn instructions(with_effect: Option<u32>) -> (Described, std::ops::Range<usize>) {
+/// What one of the instructions has that the others do not have.
+#[derive(Clone, Copy, PartialEq, Eq)]
+enum Odd {
+    /// An effect, all of whose words could be those of an instruction.
+    Effect,
+    /// No list.
+    Absent,
+}
+
+/// So many instructions, then one with a mutation. Of the first, these may be odd.
+fn instructions(odd: impl Fn(u32) -> Option<Odd>) -> (Described, std::ops::Range<usize>) {
     let mut sheet = Described::default();
     sheet.head();
     sheet.put("blocks", 1, Count(256));
@@ -441,10 +513,13 @@ fn instructions(with_effect: Option<u32>) -> (Described, std::ops::Range<usize>)
     sheet.instructions(RUN + 1);
     let start = sheet.words.len();
     for i in 0..RUN {
-        let kinds: &[u32] = if with_effect == Some(i) { &[0] } else { &[] };
+        let kinds: &[u32] = if odd(i) == Some(Odd::Effect) { &[0] } else { &[] };
         let order = sheet.words.len();
         sheet.instruction(i, kinds);
         sheet.words[order] = 999_999;
+        if odd(i) == Some(Odd::Absent) {
+            *sheet.words.last_mut().expect("the effect count") = ABSENT;
+        }
     }
     let run = start..sheet.words.len();
     sheet.instruction(RUN, &[3]);
@@ -453,19 +528,23 @@ fn instructions(with_effect: Option<u32>) -> (Described, std::ops::Range<usize>)
 }
 
 /// Instructions without lists and effects, one after another: each of their words passed; and an
-/// effect at each of them.
+/// effect at each of them, no list at each of them, and none at any.
 fn runs() -> Vec<Boundary> {
-    let (sheet, run) = instructions(None);
+    let (sheet, run) = instructions(|_| None);
     let whole = sheet.words.len();
     let mut sheets = vec![sheet.whole("the largest orders", 0)];
     sheets.extend(run.flat_map(|at| sheet.passed(at, whole)));
     for i in 0..RUN {
-        let (sheet, _) = instructions(Some(i));
+        let (sheet, _) = instructions(|at| (at == i).then_some(Odd::Effect));
         sheets.push(sheet.whole(&format!("an effect of instruction {i} alone"), 0));
+        let (sheet, _) = instructions(|at| (at == i).then_some(Odd::Absent));
+        sheets.push(sheet.whole(&format!("no list of instruction {i} alone"), 0));
     }
+    let (sheet, _) = instructions(|_| Some(Odd::Absent));
+    sheets.push(sheet.whole("no list of any", 0));
     sheets
 }
 
 pub fn all() -> Vec<Boundary> {
-    [words(), effects(), functions(), long_lists(), numbers(), runs()].concat()
+    [words(), effects(), absent(), functions(), long_lists(), numbers(), runs()].concat()
 }

@@ -271,7 +271,7 @@ fn ordered_sheets() -> Vec<(&'static str, Vec<u32>, u32)> {
     let apply = Effect { kind: APPLY, ..Effect::default() };
     let applied = sheet(1, &[], 0, vec![block(0, &[one(1, 0)]), block(1, &[apply])]).words();
     let mut applied_past = generate::past_limit(&mut Random::new(1), Limit::Renders);
-    applied_past.blocks[0].instructions[0].effects.push(apply);
+    applied_past.blocks[0].instructions[0].effects.get_or_insert_default().push(apply);
     let mut in_terminal = sheet(1, &[], 0, vec![block(0, &[])]);
     in_terminal.blocks[0].terminal = Terminal::MaybeThrow { order: 2, effects: vec![apply] };
     let applied_longer = applied.iter().copied().chain([0]).collect();

@@ -238,8 +238,11 @@ fn smaller(sheet: &sheet::Sheet) -> Vec<sheet::Sheet> {
         }
         with(&|s| s.blocks[b].terminal = Terminal::Other { order: 0, operands: Vec::new() });
         for (i, instruction) in block.instructions.iter().enumerate() {
-            for e in 0..instruction.effects.len() {
-                with(&|s| _ = s.blocks[b].instructions[i].effects.remove(e));
+            for e in 0..instruction.listed().len() {
+                with(&|s| {
+                    let effects = &mut s.blocks[b].instructions[i].effects;
+                    effects.as_mut().map(|effects| effects.remove(e));
+                });
             }
             for l in 0..instruction.lvalues.len() {
                 with(&|s| _ = s.blocks[b].instructions[i].lvalues.remove(l));

@@ -2,8 +2,8 @@
 
 use crate::generate::{self, Limit, PASSABLE};
 use crate::plain::sheet::{
-    APPLY, Diagnostic, EFFECTS, Effect, MAX_BLOCK_NUMBER, MAX_DIAGNOSTIC, MAX_ORDER, MAX_RANGE,
-    MAX_TRAITS, MAX_TYPE, SHEET_WORDS, Sheet, Terminal, Value, WORKSPACE_WORDS,
+    ABSENT, APPLY, Diagnostic, EFFECTS, Effect, MAX_BLOCK_NUMBER, MAX_DIAGNOSTIC, MAX_ORDER,
+    MAX_RANGE, MAX_TRAITS, MAX_TYPE, SHEET_WORDS, Sheet, Terminal, Value, WORKSPACE_WORDS,
 };
 use crate::random::Random;
 
@@ -221,9 +221,59 @@ fn to_edge(sheet: &mut Sheet, random: &mut Random) {
 fn apply(sheet: &mut Sheet, random: &mut Random) {
     let all = sheet.blocks.iter_mut().flat_map(|b| &mut b.instructions).collect();
     if let Some(instruction) = pick(all, random) {
-        let at = random.below(instruction.effects.len() + 1);
-        instruction.effects.insert(at, Effect { kind: APPLY, ..Effect::default() });
+        let effects = instruction.effects.get_or_insert_default();
+        let at = random.below(effects.len() + 1);
+        effects.insert(at, Effect { kind: APPLY, ..Effect::default() });
     }
+}
+
+/// The positions of all effect counts, each with how many effects follow it.
+fn effect_counts(sheet: &Sheet) -> Vec<(usize, usize)> {
+    // Where two sheets whose words differ from a count on first differ.
+    let at = |one: &Sheet, other: &Sheet| {
+        let (one, other) = (one.words(), other.words());
+        one.iter().zip(&other).take_while(|(one, other)| one == other).count()
+    };
+    let mut counts = Vec::new();
+    for (b, block) in sheet.blocks.iter().enumerate() {
+        for (i, instruction) in block.instructions.iter().enumerate() {
+            let with = |effects| {
+                let mut sheet = sheet.clone();
+                sheet.blocks[b].instructions[i].effects = effects;
+                sheet
+            };
+            counts.push((at(&with(None), &with(Some(Vec::new()))), instruction.listed().len()));
+        }
+        let with = |list: Vec<Effect>| {
+            let mut sheet = sheet.clone();
+            match &mut sheet.blocks[b].terminal {
+                Terminal::Other { .. } => return None,
+                Terminal::Return { effects, .. } | Terminal::MaybeThrow { effects, .. } => {
+                    *effects = list;
+                }
+            }
+            Some(sheet)
+        };
+        if let (Some(none), Some(one)) = (with(Vec::new()), with(vec![Effect::default()])) {
+            counts.push((at(&none, &one), block.terminal.effects().len()));
+        }
+    }
+    counts
+}
+
+/// Set an effect count to the absent one or to one past its range, with the effects behind it or
+/// without; at times the sheet then ends.
+fn change_effect_count(sheet: &Sheet, random: &mut Random) -> Vec<u32> {
+    let mut words = sheet.words();
+    if let Some((at, effects)) = pick(effect_counts(sheet), random) {
+        words[at] = random.choose(&[ABSENT, ABSENT, ABSENT, ABSENT - 1, 1_025, 1_024, 0]);
+        match random.below(5) {
+            0 => {}
+            1 => words.truncate(at + 1),
+            _ => _ = words.drain(at + 1..at + 1 + 8 * effects),
+        }
+    }
+    words
 }
 
 /// Mostly small sheets: damage does not need large ones.
@@ -257,8 +307,13 @@ pub fn damaged(random: &mut Random) -> Call {
             to_edge(&mut sheet, random);
             call.sheet = sheet.words();
         }
+        // An effect count changed.
+        36..42 => {
+            sheet = generate::tiny(random);
+            call.sheet = change_effect_count(&sheet, random);
+        }
         // One word changed.
-        36..52 => {
+        42..52 => {
             call.sheet = sheet.words();
             change_word(&mut call.sheet, random);
         }

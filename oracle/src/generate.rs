@@ -91,6 +91,8 @@ pub struct Generator<'r> {
     near: bool,
     /// How many of 100 instructions have lists that no form need carry.
     free: usize,
+    /// How many of 100 instructions have no list of effects.
+    absent: usize,
     left: Left,
 }
 
@@ -216,6 +218,14 @@ impl Generator<'_> {
         (0..count).map_while(|_| self.effect(terminal)).collect()
     }
 
+    /// The effects of an instruction; the list is absent, empty or full.
+    fn instruction_effects(&mut self, most: usize) -> Option<Vec<Effect>> {
+        if self.random.percent(self.absent) {
+            return None;
+        }
+        Some(self.effects(most, false))
+    }
+
     /// So many places, or as many as still fit.
     fn list(&mut self, count: usize) -> Vec<Place> {
         let count = count.min(self.left.words / 3);
@@ -336,7 +346,7 @@ impl Generator<'_> {
         for _ in 0..self.random.below(size.instructions + 1) {
             let order = self.order();
             if let Some(mut instruction) = self.instruction(order, size.lists) {
-                instruction.effects = self.effects(size.effects, false);
+                instruction.effects = self.instruction_effects(size.effects);
                 instructions.push(instruction);
             }
         }
@@ -446,7 +456,7 @@ impl Generator<'_> {
                     created.push(effect);
                 }
             }
-            instruction.effects = created;
+            instruction.effects = Some(created);
             first.instructions.insert(0, instruction);
         }
         Sheet {
@@ -512,6 +522,7 @@ fn generator(random: &mut Random, identifiers: usize, functions: usize) -> Gener
     let weights = weights(random);
     let near = random.percent(50);
     let free = if random.percent(15) { 50 } else { 0 };
+    let absent = random.choose(&[0, 10, 30, 60]);
     Generator {
         random,
         identifiers,
@@ -520,6 +531,7 @@ fn generator(random: &mut Random, identifiers: usize, functions: usize) -> Gener
         weights,
         near,
         free,
+        absent,
         left: Left {
             words: SHEET_WORDS,
             relations: MAX_RELATIONS,
@@ -694,6 +706,9 @@ fn about_limit(random: &mut Random, limit: Limit, more: usize) -> Sheet {
                 let order = g.order();
                 let mut instruction = Instruction::plain(order, vec![g.effect_of(5)]);
                 instruction.value = Value::Function(number as u32);
+                if number % 4 == 1 {
+                    instruction.effects = None;
+                }
                 block.instructions.push(instruction);
             }
             sheet.functions[63].context.extend(g.list(more));
@@ -713,6 +728,9 @@ fn about_limit(random: &mut Random, limit: Limit, more: usize) -> Sheet {
                     }
                     Limit::InstructionOperands => instruction.operands = g.list(count),
                     _ => {}
+                }
+                if i % 4 == 1 {
+                    instruction.effects = None;
                 }
                 block.instructions.push(instruction);
             }
@@ -757,6 +775,9 @@ fn about_limit(random: &mut Random, limit: Limit, more: usize) -> Sheet {
                 let order = g.order();
                 let mut instruction = Instruction::plain(order, Vec::new());
                 instruction.lvalue = g.place();
+                if g.random.percent(40) {
+                    instruction.effects = None;
+                }
                 block.instructions.push(instruction);
             }
             sheet.blocks = vec![block];
@@ -833,7 +854,8 @@ fn about_limit(random: &mut Random, limit: Limit, more: usize) -> Sheet {
                 let mutation = g.effect_of(kind);
                 let relation = g.random.choose(&[5, 6, 7, 8, 10]);
                 let relation = g.effect_of(relation);
-                block.instructions[i / 8].effects.extend([relation, mutation]);
+                let effects = block.instructions[i / 8].effects.get_or_insert_default();
+                effects.extend([relation, mutation]);
             }
             sheet.blocks = vec![block];
         }

@@ -225,7 +225,7 @@ mod tests {
     #[test]
     fn first_draws() {
         for n in [2, 97, 512] {
-            let effect = Load { seed: 0, n, m: 1 }.sheet().blocks[0].instructions[0].effects[0];
+            let effect = Load { seed: 0, n, m: 1 }.sheet().blocks[0].instructions[0].listed()[0];
             assert_eq!(effect.kind, 10);
             assert_eq!(effect.first.identifier, 18_256 % n);
             assert_eq!(effect.second.identifier, 53_708 % n);

@@ -19,6 +19,7 @@ use oracle::compare::{Side, compare};
 use oracle::damage::{Call, Room, damaged};
 use oracle::generate;
 use oracle::load;
+use oracle::plain::sheet::ABSENT;
 use oracle::plain::{self, Outcome};
 use oracle::random::Random;
 use service_host::Service;
@@ -257,8 +258,8 @@ fn compared(sheet: &[u32], workspace: usize, room: usize, said: Said) -> Result<
     is("the original's answer", compare(&call, &mut []).1.is_none())
 }
 
-/// Words that tend to be at a limit.
-const EDGES: [u32; 20] = [
+/// Words that tend to be at a limit, and the effect count of an absent list.
+const EDGES: [u32; 21] = [
     0,
     1,
     2,
@@ -278,7 +279,8 @@ const EDGES: [u32; 20] = [
     1_025,
     65_536,
     1_000_001,
-    0xffff_ffff,
+    0xffff_fffe,
+    ABSENT,
 ];
 
 /// Makes a sheet in the host's own memory and gives its length.
@@ -294,10 +296,18 @@ fn hostile(memory: &mut [u32], good: &[u32], random: &mut Random) -> usize {
                     break;
                 }
                 let at = random.below(words.len());
-                words[at] = match random.below(4) {
+                words[at] = match random.below(5) {
                     0 => words[at].wrapping_add(1),
                     1 => words[at].wrapping_sub(1),
                     2 => random.below(16) as u32,
+                    // Where this is the count of an empty list, it then is absent.
+                    3 => {
+                        if words[at] == 0 {
+                            ABSENT
+                        } else {
+                            0
+                        }
+                    }
                     _ => random.choose(&EDGES),
                 };
             }

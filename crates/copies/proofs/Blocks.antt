@@ -1,26 +1,25 @@
 -- An effect, an instruction and a block, copied by their parts.
 use Prim.Native.Nat.{ℕ, _+_, _≤_}
 use native.Mathlib.Omega.{arith}
-use mathlib.Core.Path.{_≡_, refl, sym, ap, _∙_}
+use mathlib.Core.Path.{_≡_, refl, sym, ap, subst, _∙_}
 use mathlib.Core.Bool.{Bool, true, false, not, true≢false}
 use mathlib.Core.List.{List, []}
 use lib.ListN.{length}
 use Rattle.model.specs.Lists.{gather, listIf}
-use Rattle.model.specs.Sheet.{Effect}
+use Rattle.model.specs.Sheet.{Effect, EffectList}
 use Rattle.model.specs.Effects.{Role, rowOf}
 use Rattle.model.specs.Reading.{Position}
-use Rattle.hir.specs.Words.{wide, effectAt, several, phiFrom, phisFrom, effectsAt, instructionFrom, instructionsFrom, terminalFrom, blockFrom}
+use Rattle.hir.specs.Words.{Part, wide, effectAt, several, phiFrom, phisFrom, effectsAt, instructionFrom, instructionsFrom, terminalFrom, blockFrom}
 use Rattle.model.specs.Limits.{effectWidth}
 use Rattle.hir.specs.Parts.{InstructionAt}
 use Rattle.hir.specs.declared.at.Instruction.{Instruction}
 use Rattle.hir.proofs.Widths.{Rises, listed-rises, InstructionParts, instruction-parts, instruction-rises, terminal-rises, block-rises}
-use Rattle.hir.proofs.Several.{list-inside}
+use Rattle.hir.proofs.Absent.{present-list, effects-are}
 use Rattle.writing.specs.Wrote.{Wrote}
 use Rattle.writing.proofs.Writing.{wrote-none, wrote-as}
 use Rattle.copies.specs.Copies.{Copies}
 use Rattle.copies.specs.Words.{takes, takenWords, copyWords, instructionWords, blockWords}
 use Rattle.copies.specs.declared.effect_lists.Section.{Section}
-use Rattle.copies.proofs.Copying.{copies-listed}
 use Rattle.copies.proofs.Passing.{phi-follows}
 
 -- ---- an effect, whose role is r
@@ -53,7 +52,7 @@ instruction-follows ws c = omega (arith, instruction-rises ws c)
 module _ {sheet : List ℕ} {c : Position} {i : Instruction} (h : InstructionAt sheet c i) where
   pub effects-inside : instructionFrom sheet c .next ≤ length sheet → several (i .effects .count) (wide effectWidth effectAt) sheet (i .effects .first) .next ≤ length sheet
   unfolding instructionFrom
-  effects-inside k = list-inside (wide effectWidth effectAt) sheet (effectsAt sheet c) (h .effects) k
+  effects-inside k = subst (λ (p : Part EffectList). p .next ≤ length sheet) (effects-are sheet (effectsAt sheet c) (h .effects)) k
 
   before-effects : c ≤ effectsAt sheet c
   before-effects = let p : InstructionParts sheet c = instruction-parts sheet c in omega (arith, p .operands, p .value, p .effects)
@@ -64,7 +63,13 @@ module _ {sheet : List ℕ} {c : Position} {i : Instruction} (h : InstructionAt 
   pub copies-instruction : (s : Section) {a : List ℕ} {at : ℕ} {a′ : List ℕ} {at′ d : ℕ}
       → Copies (several (i .effects .count) (wide effectWidth effectAt)) (gather (copyWords s)) sheet (i .effects .first) a at a′ at′ d → Copies instructionFrom (instructionWords s) sheet c a at a′ at′ d
   unfolding instructionFrom instructionWords
-  copies-instruction s p = let q = copies-listed (wide effectWidth effectAt) (copyWords s) (h .effects) p in record { wrote = q .wrote; after = q .after; few = omega (arith, q .few, before-effects) }
+  copies-instruction s p =
+      let e = sym (effects-are sheet (effectsAt sheet c) (h .effects)) in
+      record {
+        wrote = wrote-as (p .wrote) (ap (λ (q : Part EffectList). gather (copyWords s) (q .what)) e ∙ sym (ap (gather (copyWords s)) (present-list sheet (effectsAt sheet c))));
+        after = p .after ∙ ap (λ (q : Part EffectList). q .next) e;
+        few = omega (arith, p .few, after-order);
+      }
 
 -- ---- a block: its phis and its terminal are passed over
 pub block-follows : Rises blockFrom

@@ -7,7 +7,7 @@ use mathlib.Core.List.{List, [], _∷_, map}
 use lib.ListN.{length, set}
 use Rattle.model.specs.Limits.{diagnosticWidth}
 use Rattle.model.specs.Lists.{gather, keep}
-use Rattle.model.specs.Sheet.{Effect, Diagnostic, Instruction, Block, Sheet}
+use Rattle.model.specs.Sheet.{Effect, Diagnostic, Instruction, listOf, Block, Sheet}
 use Rattle.model.specs.Effects.{rowOf, isRender, isDiagnosis, diagnosticOf}
 use Rattle.model.specs.Totals.{instructionEffects}
 use Rattle.model.specs.Summary.{errors, copied, recorded}
@@ -24,10 +24,10 @@ use Rattle.copies.proofs.Lengths.{gather-length}
 pub blocks-words : (t : Section) (s : Sheet) → gather (blockWords t) (s .blocks) ≡ gather (copyWords t) (instructionEffects s)
 unfolding instructionEffects blockWords instructionWords
 blocks-words t s =
-    gather-same (λ (b : Block). gather (λ (i : Instruction). gather (copyWords t) (i .effects)) (b .instructions))
-    (λ (b : Block). gather (copyWords t) (gather (λ (i : Instruction). i .effects) (b .instructions)))
-    (λ b. sym (gather-gather (copyWords t) (λ (i : Instruction). i .effects) (b .instructions))) (s .blocks)
-    ∙ sym (gather-gather (copyWords t) (λ (b : Block). gather (λ (i : Instruction). i .effects) (b .instructions)) (s .blocks))
+    gather-same (λ (b : Block). gather (λ (i : Instruction). gather (copyWords t) (listOf i)) (b .instructions))
+    (λ (b : Block). gather (copyWords t) (gather listOf (b .instructions)))
+    (λ b. sym (gather-gather (copyWords t) listOf (b .instructions))) (s .blocks)
+    ∙ sym (gather-gather (copyWords t) (λ (b : Block). gather listOf (b .instructions)) (s .blocks))
 
 -- "kinds 14 to 17 are copied to the effects"
 pub copied-words : (s : Sheet) → gather (blockWords Effects) (s .blocks) ≡ gather effectWords (copied s)

@@ -3,7 +3,7 @@ use Prim.Native.Nat.{ℕ}
 use mathlib.Core.Bool.{Bool, _||_}
 use mathlib.Core.List.{List}
 use Rattle.model.specs.Lists.{gather, listIf}
-use Rattle.model.specs.Sheet.{Effect, Instruction, Block}
+use Rattle.model.specs.Sheet.{Effect, Instruction, listOf, Block}
 use Rattle.model.specs.Effects.{Role, rowOf, isRender, isDiagnosis, diagnosticOf}
 use Rattle.model.specs.Answer.{diagnosticWords, effectWords}
 use Rattle.copies.specs.declared.effect_lists.Section.{Section}
@@ -25,7 +25,7 @@ copyWords s e = listIf (takes s (rowOf (e .kind) .role)) (takenWords s e)
 
 -- of an instruction
 unfoldable pub instructionWords : Section → Instruction → List ℕ
-instructionWords s i = gather (copyWords s) (i .effects)
+instructionWords s i = gather (copyWords s) (listOf i)
 
 -- of a block
 unfoldable pub blockWords : Section → Block → List ℕ

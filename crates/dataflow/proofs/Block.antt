@@ -6,7 +6,7 @@ use mathlib.Core.List.{List, [], _∷_}
 use lib.ListN.{length}
 use Rattle.model.specs.Limits.{mostBlocks}
 use Rattle.model.specs.Lists.{each, Every, tally}
-use Rattle.model.specs.Sheet.{BlockId, Place, Effect, Phi, Instruction, Terminal, Block}
+use Rattle.model.specs.Sheet.{BlockId, Place, Effect, Phi, Instruction, listOf, Terminal, Block}
 use Rattle.model.specs.Totals.{blockRelations}
 use Rattle.model.specs.Reading.{Position}
 use Rattle.model.specs.Built.{Built}
@@ -41,9 +41,9 @@ abbrev afterPhis : Block → Cost
 afterPhis k = sum (costs instructionCost (k .instructions)) (afterInstructions k)
 
 -- no block comes in the instructions
-no-block : (l : List Instruction) → tally (λ (i : Instruction). tally (λ (e : Effect). 0) (i .effects)) l ≡ 0
+no-block : (l : List Instruction) → tally (λ (i : Instruction). tally (λ (e : Effect). 0) (listOf i)) l ≡ 0
 no-block [] = refl
-no-block (i ∷ l) = omega (arith, tally-none (i .effects), no-block l)
+no-block (i ∷ l) = omega (arith, tally-none (listOf i), no-block l)
 
 block-cost : (k : Block) → blockCost k ≡ sum (costs phiCost (k .phis)) (afterPhis k)
 unfolding phiCost kindCost instructionCost terminalCost blockCost blockRelations

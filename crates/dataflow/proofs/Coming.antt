@@ -2,7 +2,7 @@
 use mathlib.Core.Path.{_≡_, refl, ap, _∙_}
 use mathlib.Core.List.{List, [], _∷_}
 use Rattle.model.specs.Lists.{each}
-use Rattle.model.specs.Sheet.{BlockId, EvaluationOrder, EffectKind, Freeze, Mutate, MutateConditionally, MutateTransitive, MutateTransitiveConditionally, Capture, Alias, MaybeAlias, Assign, Create, CreateFrom, ImmutableCapture, Apply, CreateFunction, MutateFrozen, MutateGlobal, Impure, Render, Effect, Instruction}
+use Rattle.model.specs.Sheet.{BlockId, EvaluationOrder, EffectKind, Freeze, Mutate, MutateConditionally, MutateTransitive, MutateTransitiveConditionally, Capture, Alias, MaybeAlias, Assign, Create, CreateFrom, ImmutableCapture, Apply, CreateFunction, MutateFrozen, MutateGlobal, Impure, Render, Effect, Instruction, listOf}
 use Rattle.model.specs.Built.{Built, comes}
 use Rattle.model.specs.Building.{instructionEffect, instruction}
 
@@ -34,7 +34,7 @@ module _ (n : BlockId) where
 
   instruction-comes : (i : Instruction) (b : Built) → instruction i (comes n b) ≡ comes n (instruction i b)
   unfolding instruction
-  instruction-comes i b = each-comes (λ (e : Effect). instructionEffect (e .kind) (i .order) e) (λ e. effect-comes (e .kind) (i .order) e) (i .effects) b
+  instruction-comes i b = each-comes (λ (e : Effect). instructionEffect (e .kind) (i .order) e) (λ e. effect-comes (e .kind) (i .order) e) (listOf i) b
 
   pub instructions-come : (l : List Instruction) (b : Built) → each instruction l (comes n b) ≡ comes n (each instruction l b)
   instructions-come = each-comes instruction instruction-comes

@@ -3,6 +3,7 @@ pub mod Answers
 pub mod EffectKinds
 pub mod Ranges
 pub mod EffectTable
+pub mod Absent
 pub mod Standing
 pub mod AtLaws
 pub mod Widths

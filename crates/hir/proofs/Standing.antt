@@ -2,22 +2,24 @@
 use Prim.Native.Nat.{ℕ, zero, suc, _+_, _≤_}
 use native.Mathlib.Omega.{arith}
 use mathlib.Core.Path.{_≡_, refl, sym, ap, _∙_}
-use mathlib.Core.Bool.{Bool, true, false}
+use mathlib.Core.Bool.{Bool, true, false, not}
 use mathlib.Core.List.{List, [], _∷_}
+use mathlib.Core.Option.{Option, none, some}
 use lib.ListN.{length, getD}
 use lib.Dec.{ltb, leb, eqb}
-use borrow.Author.Tests.{ltb-true}
-use Rattle.model.proofs.ReadLaws.{atMost-reads}
-use Rattle.model.specs.Limits.{flagCount, mostFlag, mostIdentifiers, mostFunctions, mostParams, mostContext, returnsCount, mostBlocks, mostRange, mostType, mostInnerDiagnostics, mostInnerContext, mostBlockNumber, mostCount, mostDiagnostic, mostKind, mostOrder, mostLvalues, mostOperands, noOperands, mostValue, mostTerminal, mostTraits, placeWidth, effectWidth, operandWidth, identifierWidth, diagnosticWidth, flagsWidth}
+use borrow.Author.Tests.{ltb-true, ne-eqb}
+use Rattle.model.proofs.ReadLaws.{atMost-reads, count-reads}
+use Rattle.model.specs.Limits.{flagCount, mostFlag, mostIdentifiers, mostFunctions, mostParams, mostContext, returnsCount, mostBlocks, mostRange, mostType, mostInnerDiagnostics, mostInnerContext, mostBlockNumber, mostCount, mostDiagnostic, mostKind, mostOrder, mostLvalues, mostOperands, noOperands, mostValue, mostTerminal, mostTraits, placeWidth, effectWidth, operandWidth, identifierWidth, diagnosticWidth, flagsWidth, absentCount}
 use Rattle.model.specs.Lists.{pick, among}
 use Rattle.model.specs.Sheet.{Diagnostic, Flags, Identifier, BlockId, Place, EffectKind, Effect, Operand, Phi, EffectList, Plain, Function, StoreContext, Instruction, Terminal, Other, Return, MaybeThrow, Block}
 use Rattle.model.specs.Traits.{effectOf, reactiveOf}
 use Rattle.model.specs.Effects.{kindOf, rowOf, isCreateFunction}
-use Rattle.model.specs.Reading.{Position, Result, got, refused, Read, andThen, _>>=_, pure, refuse, word, count, fixed, atMost, below, newNumber, times, numbered, counted}
+use Rattle.model.specs.Reading.{Position, Result, got, refused, Read, andThen, _>>=_, pure, refuse, word, count, fixed, atMost, below, newNumber, isAbsent, times, numbered, counted, optional}
 use Rattle.model.specs.Sections.{flag, flags, typeOf, identifier, diagnostic, innerFunction, place, unused, extra, effect, effects, operand, phi, valueBy, instructionValue, instruction, terminal, block, sheet}
 use Rattle.model.specs.Sections.{terminalOf as readTerminal}
 use Rattle.model.proofs.Got.{got-value, got-next, not-both}
-use Rattle.hir.specs.Words.{Part, Standing, wordAt, wide, placeOf, placeAt, effectAt, operandAt, identifierAt, diagnosticAt, several, listed, effectsFrom, placesFrom, diagnosticsFrom, functionFrom, phiFrom, valueOf, valueFrom, instructionFrom, terminalOf, terminalFrom, phisFrom, instructionsFrom, blockFrom, flagsAt, identifiersFrom, functionsFrom, sectionsFrom, sheetFrom}
+use Rattle.hir.specs.Words.{Part, Standing, wordAt, wide, placeOf, placeAt, effectAt, operandAt, identifierAt, diagnosticAt, several, listed, effectsFrom, counts, listFrom, placesFrom, diagnosticsFrom, functionFrom, phiFrom, valueOf, valueFrom, instructionFrom, terminalOf, terminalFrom, phisFrom, instructionsFrom, blockFrom, flagsAt, identifiersFrom, functionsFrom, sectionsFrom, sheetFrom}
+use Rattle.hir.proofs.Absent.{list-present, list-absent}
 
 abbrev pub part : {A : Type 0} → A → Position → Part A
 part a d = record { what = a; next = d }
@@ -355,6 +357,39 @@ pub effects-stands : (n m : ℕ) → StandsFor (effects n m) effectsFrom
 unfolding effects
 effects-stands n m = counted-stands mostCount (effect n m) (wide effectWidth effectAt) (effect-stands n m)
 
+-- a count that was read is none of an absent list
+count-counts : (ws : List ℕ) (c k : ℕ) → k ≤ mostCount → wordAt ws c ≡ k → counts (wordAt ws c) ≡ true
+count-counts ws c k h e = ap not (ne-eqb (wordAt ws c) absentCount (λ q. omega (arith, h, e, q)))
+
+-- a list, or that it is absent
+list-stands : (n m : ℕ) → StandsFor (optional (effects n m)) listFrom
+unfolding optional effects counted
+list-stands n m ws c a d e = go (isAbsent (word ws c)) refl e
+  where
+    go : (b : Bool) → isAbsent (word ws c) ≡ b → pick b (word >>= λ (w : ℕ). pure none) (effects n m >>= λ (l : EffectList). pure (some l)) ws c ≡ got a d → Stands listFrom ws c a d
+    go true h f =
+        let p = in-two (word ws c) _ f in
+        let s = word-stands ws c (p .value) (p .next) (p .first) in
+        let is : eqb (p .value) absentCount ≡ true = sym (ap isAbsent (p .first)) ∙ h in
+        let n : c + 1 ≡ d = next-is s ∙ got-next (p .second) in
+        record {
+          is = list-absent ws c (ap (λ (w : ℕ). counts w) (value-is s) ∙ ap not is) ∙ part-same (got-value (p .second)) n;
+          after = omega (arith, n);
+          inside = λ i. omega (arith, next-is s, n, s .inside i);
+        }
+    go false h f =
+        let p = in-two (effects n m ws c) _ f in
+        let k = in-two (count mostCount ws c) _ (p .first) in
+        let s = effects-stands n m ws c (p .value) (p .next) (p .first) in
+        let w = count-stands mostCount ws c (k .value) (k .next) (k .first) in
+        let n : p .next ≡ d = got-next (p .second) in
+        record {
+          is = list-present ws c (count-counts ws c (k .value) (count-reads mostCount ws c (k .value) (k .next) (k .first)) (value-is w))
+              ∙ ap (λ (x : Part EffectList). part (some (x .what)) (x .next)) (s .is) ∙ got-part (p .second);
+          after = omega (arith, n, s .after);
+          inside = λ i. omega (arith, n, s .inside i);
+        }
+
 operand-stands : (n : ℕ) (b : BlockId) (ws : List ℕ) (c : Position) (a : Operand) (d : Position) → wordAt ws c ≡ b → (c ≤ length ws → c + 1 ≤ length ws)
     → operand n b ws (c + 1) ≡ got a d → Stands (wide operandWidth operandAt) ws c a d
 unfolding operand
@@ -409,7 +444,7 @@ instruction-stands n m =
     (λ p. then-stands (counted mostLvalues (place n)) placesFrom _ _ (places-stand mostLvalues n)
     (λ ls. then-stands (counted mostOperands (place n)) placesFrom _ _ (places-stand mostOperands n)
     (λ ps. then-stands (instructionValue n m) valueFrom _ _ (value-stands n m)
-    (λ v. held-stands (effects n m) effectsFrom (λ (l : EffectList). record { order = o; lvalue = p; valueLvalues = ls; operands = ps; value = v; effects = l }) (effects-stands n m))))))
+    (λ v. held-stands (optional (effects n m)) listFrom (λ (l : Option EffectList). record { order = o; lvalue = p; valueLvalues = ls; operands = ps; value = v; effects = l }) (list-stands n m))))))
 
 -- effects, and a count behind them
 last-stands : {A : Type 0} (n m : ℕ) (f : EffectList → A) → StandsFor (effects n m >>= λ (l : EffectList). fixed noOperands >>= λ (k : ℕ). pure (f l)) (λ (ws : List ℕ) (c : Position). part (f (effectsFrom ws c .what)) (effectsFrom ws c .next + 1))

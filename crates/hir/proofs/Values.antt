@@ -2,13 +2,14 @@
 use Prim.Native.Nat.{ℕ, zero, suc, _+_, _*_, _≤_}
 use native.Mathlib.Omega.{arith}
 use mathlib.Core.Path.{_≡_, refl, subst}
+use mathlib.Core.Bool.{Bool}
 use mathlib.Core.List.{List}
 use lib.ListN.{length}
 use Rattle.model.specs.Limits.{placeWidth}
 use Rattle.model.specs.Sheet.{Plain, Function, StoreContext}
 use Rattle.model.specs.Reading.{Position}
 use Rattle.hir.specs.Words.{wordAt, placesFrom, valueOf, valueFrom, lvaluesAt, operandsAt, valueAt, effectsAt, instructionFrom}
-use Rattle.hir.specs.Parts.{ListAt, ValueAt}
+use Rattle.hir.specs.Parts.{ListAt, ValueAt, EffectsAt}
 use Rattle.hir.specs.declared.at.List.{List as Listed}
 use Rattle.hir.specs.declared.at.Value.{Value}
 use Rattle.hir.proofs.Standing.{part}
@@ -32,12 +33,15 @@ module _ (ws : List ℕ) (c : Position) where
       go (suc zero) a b = absurd (b refl)
       go (suc (suc w)) a b = refl
 
--- a list and a value by another name of their position
+-- a list, a value and effects by another name of their position
 pub list-as : {ws : List ℕ} {c d : Position} {l : Listed} → ListAt ws c l → c ≡ d → ListAt ws d l
 list-as {ws} {l = l} k e = subst (λ (x : Position). ListAt ws x l) e k
 
 pub value-as : {ws : List ℕ} {c d : Position} {v : Value} → ValueAt ws c v → c ≡ d → ValueAt ws d v
 value-as {ws} {v = v} k e = subst (λ (x : Position). ValueAt ws x v) e k
+
+pub effects-as : {ws : List ℕ} {c d : Position} {b : Bool} {l : Listed} → EffectsAt ws c b l → c ≡ d → EffectsAt ws d b l
+effects-as {ws} {b = b} {l} k e = subst (λ (x : Position). EffectsAt ws x b l) e k
 
 -- where the places of a list end
 pub list-end : (ws : List ℕ) (c : Position) {l : Listed} → ListAt ws c l → l .first + placeWidth * l .count ≡ placesFrom ws c .next

@@ -4,7 +4,7 @@ use native.Mathlib.Omega.{arith}
 use mathlib.Core.Path.{_≡_, refl}
 use mathlib.Core.List.{List}
 use Rattle.model.specs.Reading.{Position}
-use Rattle.hir.specs.Words.{Standing, wordAt, wide, placeAt, effectAt, operandAt, identifierAt, diagnosticAt, several, listed, effectsFrom, placesFrom, diagnosticsFrom, functionFrom, phiFrom, valueOf, valueFrom, lvaluesAt, operandsAt, valueAt, effectsAt, instructionFrom, terminalOf, terminalFrom, phisFrom, instructionsFrom, blockFrom, Sections, sectionsFrom}
+use Rattle.hir.specs.Words.{Standing, wordAt, wide, placeAt, effectAt, operandAt, identifierAt, diagnosticAt, several, listed, effectsFrom, presentCount, placesFrom, diagnosticsFrom, functionFrom, phiFrom, valueOf, valueFrom, lvaluesAt, operandsAt, valueAt, effectsAt, instructionFrom, terminalOf, terminalFrom, phisFrom, instructionsFrom, blockFrom, Sections, sectionsFrom}
 use Rattle.model.specs.Limits.{placeWidth, effectWidth, operandWidth, identifierWidth, diagnosticWidth, flagsWidth}
 
 -- no part ends before it begins
@@ -68,7 +68,7 @@ instruction-parts ws c = record {
   operands = places-rise ws (lvaluesAt c);
   value = places-rise ws (operandsAt ws c);
   effects = value-rises ws (valueAt ws c);
-  next = effects-rise ws (effectsAt ws c);
+  next = several-rises (presentCount (wordAt ws (effectsAt ws c))) (wide effectWidth effectAt) (wide-rises effectWidth effectAt) ws (effectsAt ws c + 1);
 }
 
 pub instruction-rises : (ws : List ℕ) (c : Position) → c + 2 ≤ instructionFrom ws c .next

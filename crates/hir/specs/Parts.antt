@@ -1,11 +1,12 @@
 -- What the second reading's parts say: each by the words at the position where it stands.
 use Prim.Native.Nat.{ℕ, _+_, _≤_}
 use mathlib.Core.Path.{_≡_}
+use mathlib.Core.Bool.{Bool}
 use mathlib.Core.List.{List}
 use Rattle.model.specs.Reading.{Position}
 use Rattle.model.specs.Sheet.{Operand as ModelOperand}
 use Rattle.hir.specs.Says.{placeIs, valueIs}
-use Rattle.hir.specs.Words.{wordAt, placeAt, valueFrom, lvaluesAt, operandsAt, valueAt, effectsAt}
+use Rattle.hir.specs.Words.{wordAt, counts, presentCount, placeAt, valueFrom, lvaluesAt, operandsAt, valueAt, effectsAt}
 use Rattle.model.specs.Limits.{placeWidth}
 use Rattle.hir.specs.declared.at.List.{List as Listed}
 use Rattle.hir.specs.declared.at.Operand.{Operand}
@@ -34,6 +35,12 @@ pub record ValueAt (ws : List ℕ) (c : Position) (r : Value) : Type 0 where
   pub value : valueIs (r .value) ≡ valueFrom ws c .what
   pub next : r .next ≡ valueFrom ws c .next
 
+-- an instruction's effects, none of an absent list, and whether the list is there
+pub record EffectsAt (ws : List ℕ) (c : Position) (b : Bool) (r : Listed) : Type 0 where
+  pub listed : b ≡ counts (wordAt ws c)
+  pub count : r .count ≡ presentCount (wordAt ws c)
+  pub first : r .first ≡ c + 1
+
 -- an instruction: its order, its lvalue, its value lvalues, its operands, its value, then its effects
 pub record InstructionAt (ws : List ℕ) (c : Position) (r : Instruction) : Type 0 where
   pub order : r .order .0 ≡ wordAt ws c
@@ -41,7 +48,7 @@ pub record InstructionAt (ws : List ℕ) (c : Position) (r : Instruction) : Type
   pub valueLvalues : ListAt ws (lvaluesAt c) (r .«value_lvalues»)
   pub operands : ListAt ws (operandsAt ws c) (r .operands)
   pub value : valueIs (r .value) ≡ valueFrom ws (valueAt ws c) .what
-  pub effects : ListAt ws (effectsAt ws c) (r .effects)
+  pub effects : EffectsAt ws (effectsAt ws c) (r .listed) (r .effects)
 
 -- a terminal by its kind (0 other, 1 Return, 2 MaybeThrow), behind which stands its order
 abbrev pub TerminalAt : List ℕ → Position → Terminal → Type 0

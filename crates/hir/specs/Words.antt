@@ -1,10 +1,13 @@
 -- Document 01, "The sheet": for every part what its words say, and where it ends. Nothing is refused here: of an accepted sheet each part that
 -- was read is the one that stands there (proofs/Standing).
 use Prim.Native.Nat.{ℕ, zero, suc, _+_}
+use mathlib.Core.Bool.{Bool, true, false, not}
 use mathlib.Core.List.{List, [], _∷_}
+use mathlib.Core.Option.{Option, none, some}
 use lib.ListN.{getD}
 use lib.Dec.{eqb}
-use Rattle.model.specs.Limits.{flagsWidth, identifierWidth, diagnosticWidth, placeWidth, effectWidth, operandWidth}
+use Rattle.model.specs.Limits.{flagsWidth, identifierWidth, diagnosticWidth, placeWidth, effectWidth, operandWidth, absentCount}
+use Rattle.model.specs.Lists.{pick}
 use Rattle.model.specs.Sheet.{Flags, Identifier, Diagnostic, InnerFunction, Place, Effect, Operand, Phi, EffectList, InstructionValue, Plain, Function, StoreContext, Instruction, Terminal, Other, Return, MaybeThrow, Block, Sheet}
 use Rattle.model.specs.Traits.{effectOf, reactiveOf}
 use Rattle.model.specs.Effects.{kindOf}
@@ -78,6 +81,27 @@ module _ {A : Type 0} where
 abbrev pub effectsFrom : Standing EffectList
 effectsFrom = listed (wide effectWidth effectAt)
 
+-- whether an instruction's effect count counts: 4,294,967,295 says that the list is absent
+abbrev pub counts : ℕ → Bool
+counts w = not (eqb w absentCount)
+
+-- and how many effects it has then
+abbrev pub presentCount : ℕ → ℕ
+presentCount w = pick (counts w) w 0
+
+-- an instruction's effects: none of an absent list
+abbrev pub presentFrom : Standing EffectList
+presentFrom ws c = several (presentCount (wordAt ws c)) (wide effectWidth effectAt) ws (c + 1)
+
+-- the list, if it is there
+abbrev pub listedIf : Bool → EffectList → Option EffectList
+listedIf true l = some l
+listedIf false l = none
+
+-- "An effect list left out is not an empty one"
+abbrev pub listFrom : Standing (Option EffectList)
+listFrom ws c = record { what = listedIf (counts (wordAt ws c)) (presentFrom ws c .what); next = presentFrom ws c .next }
+
 -- a count and places
 abbrev pub placesFrom : Standing (List Place)
 placesFrom = listed (wide placeWidth placeAt)
@@ -132,9 +156,9 @@ instructionFrom ws c = record {
     valueLvalues = placesFrom ws (lvaluesAt c) .what;
     operands = placesFrom ws (operandsAt ws c) .what;
     value = valueFrom ws (valueAt ws c) .what;
-    effects = effectsFrom ws (effectsAt ws c) .what;
+    effects = listFrom ws (effectsAt ws c) .what;
   };
-  next = effectsFrom ws (effectsAt ws c) .next;
+  next = listFrom ws (effectsAt ws c) .next;
 }
 
 -- by the kind (0 other, 1 Return, 2 MaybeThrow) and the order, what follows them: "for 1 a place; for 1 and 2 an effect count and effects"; at its end its operands

@@ -5,7 +5,7 @@ ghost use lib.ListN.{length};
 ghost use Rattle.hir.specs.Says.{placeIs, effectIs, flagsAre, identifierIs, diagnosticIs};
 ghost use Rattle.hir.specs.Words.{wordAt, placeAt, effectAt, operandAt, identifierAt, diagnosticAt, flagsAt, valueFrom, instructionFrom, terminalFrom};
 ghost use Rattle.model.specs.Limits.{placeWidth, effectWidth, operandWidth, identifierWidth, diagnosticWidth, flagsWidth};
-ghost use Rattle.hir.specs.Parts.{operandIs, ListAt, PhiAt, ValueAt, InstructionAt, TerminalAt};
+ghost use Rattle.hir.specs.Parts.{operandIs, ListAt, PhiAt, ValueAt, EffectsAt, InstructionAt, TerminalAt};
 use crate::AliasingEffect;
 use crate::BlockId;
 use crate::Diagnostic;
@@ -18,6 +18,7 @@ use crate::InstructionValue;
 use crate::MutableRange;
 use crate::Place;
 use crate::effects::row_of;
+use crate::limits::ABSENT_COUNT;
 use crate::parts::type_of;
 use crate::places::effect_in;
 use crate::places::reactive_of;
@@ -58,6 +59,12 @@ pub struct Value {
     pub next: usize,
 }
 
+// An instruction's effects: whether the list is there, and the list, empty if it is not.
+pub struct Effects {
+    pub listed: bool,
+    pub list: List,
+}
+
 // An instruction.
 pub struct Instruction {
     pub order: EvaluationOrder,
@@ -65,6 +72,7 @@ pub struct Instruction {
     pub value_lvalues: List,
     pub operands: List,
     pub value: InstructionValue,
+    pub listed: bool,
     pub effects: List,
 }
 
@@ -208,6 +216,25 @@ pub fn value_at(s: &[u32], at: usize) -> Value
     }
 }
 
+// The effects of an instruction: a count of its own says that the list is absent.
+fn effects_at(s: &[u32], at: usize) -> Effects
+    requires { ⌜ at + 1 ≤ length (now s) ⌝ }
+    ensures { λ r. ⌜ EffectsAt (now (s .entry)) at (r .listed) (r .list) ⌝ }
+{
+    let count = s[at];
+    let first = at + 1;
+    if count == ABSENT_COUNT {
+        return Effects {
+            listed: false,
+            list: List { count: 0, first },
+        };
+    }
+    Effects {
+        listed: true,
+        list: List { count, first },
+    }
+}
+
 pub fn instruction_at(s: &[u32], at: usize) -> Instruction
     requires { ⌜ instructionFrom (now s) at .next ≤ length (now s) ⌝ }
     ensures { λ r. ⌜ InstructionAt (now (s .entry)) at r ⌝ }
@@ -218,13 +245,15 @@ pub fn instruction_at(s: &[u32], at: usize) -> Instruction
     let operands = list_at(s, past_places(s, value_lvalues));
     let v = value_at(s, past_places(s, operands));
     let value = v.value;
-    let effects = list_at(s, v.next);
+    let e = effects_at(s, v.next);
+    let effects = e.list;
     Instruction {
         order,
         lvalue,
         value_lvalues,
         operands,
         value,
+        listed: e.listed,
         effects,
     }
 }

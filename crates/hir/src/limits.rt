@@ -58,6 +58,8 @@ pub const MOST_RENDERS: u32 = 256;
 
 pub const LAST_SERIAL: u32 = 4294967295;
 
+pub const ABSENT_COUNT: u32 = 4294967295;
+
 pub const LEAST_LOAD_IDENTIFIERS: u32 = 2;
 
 pub const LEAST_LOAD_EFFECTS: u32 = 1;

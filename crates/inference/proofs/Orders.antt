@@ -5,7 +5,7 @@ use mathlib.Core.List.{List, [], _∷_, _++_}
 use lib.ListN.{length}
 use Rattle.model.specs.Limits.{mostOrder}
 use Rattle.model.specs.Lists.{pick, each, among, keep, Every}
-use Rattle.model.specs.Sheet.{BlockId, EvaluationOrder, Place, EffectKind, Freeze, Mutate, MutateConditionally, MutateTransitive, MutateTransitiveConditionally, Capture, Alias, MaybeAlias, Assign, Create, CreateFrom, ImmutableCapture, Apply, CreateFunction, MutateFrozen, MutateGlobal, Impure, Render, Effect, Operand, Phi, Instruction, Terminal, Other, Return, MaybeThrow, Block, Sheet}
+use Rattle.model.specs.Sheet.{BlockId, EvaluationOrder, Place, EffectKind, Freeze, Mutate, MutateConditionally, MutateTransitive, MutateTransitiveConditionally, Capture, Alias, MaybeAlias, Assign, Create, CreateFrom, ImmutableCapture, Apply, CreateFunction, MutateFrozen, MutateGlobal, Impure, Render, Effect, Operand, Phi, Instruction, listOf, Terminal, Other, Return, MaybeThrow, Block, Sheet}
 use Rattle.model.specs.Effects.{isAlias}
 use Rattle.model.specs.Ranges.{InstructionBelow, BlockBelow, SheetBelow}
 use Rattle.model.specs.Mutation.{Mutation}
@@ -49,7 +49,7 @@ effect-good Render o e b h g = g
 instruction-good : (i : Instruction) (b : Built) → i .order ≤ mostOrder → Good b → Good (instructionStep i b)
 unfolding instructionStep
 instruction-good i b h g =
-    each-keeps (λ (e : Effect). instructionEffect (e .kind) (i .order) e) Good (i .effects) b (λ e m c q. effect-good (e .kind) (i .order) e c h q) g
+    each-keeps (λ (e : Effect). instructionEffect (e .kind) (i .order) e) Good (listOf i) b (λ e m c q. effect-good (e .kind) (i .order) e c h q) g
 
 instructions-good : (n m : ℕ) (l : List Instruction) (b : Built) → Every (InstructionBelow n m) l → Good b → Good (each instructionStep l b)
 instructions-good n m [] b h g = g

@@ -3,15 +3,16 @@ use Prim.Native.Nat.{ℕ, zero, suc, _≤_, _<_}
 use native.Mathlib.Omega.{arith}
 use mathlib.Core.Path.{_≡_, sym, _∙_}
 use mathlib.Core.Bool.{Bool, true, false, true≢false}
+use mathlib.Core.Option.{Option}
 use lib.Dec.{leb}
 use Rattle.model.specs.Limits.{mostIdentifiers, mostFunctions, mostCount, mostOrder, mostLvalues, mostOperands, noOperands, mostTerminal, mostTraits, mostKind}
 use Rattle.model.specs.Lists.{pick, Every}
-use Rattle.model.specs.Sheet.{Place, unusedPlace, EffectKind, Other, Return, MaybeThrow}
+use Rattle.model.specs.Sheet.{Place, unusedPlace, EffectKind, EffectList, present, Other, Return, MaybeThrow}
 use Rattle.model.specs.Effects.{kindOf, rowOf, isCreateFunction}
 use Rattle.model.specs.Ranges.{PlaceBelow}
-use Rattle.model.specs.Reading.{word, fixed, atMost, below, counted}
+use Rattle.model.specs.Reading.{word, fixed, atMost, below, counted, optional}
 use Rattle.model.specs.Sections.{place, unused, extra, effect, effects, instructionValue, instruction, terminalOf, terminal}
-use Rattle.model.proofs.ReadLaws.{Reads, pure-reads, pick-reads, bind-reads, then-reads, below-reads, counted-reads, atMost-reads}
+use Rattle.model.proofs.ReadLaws.{Reads, pure-reads, pick-reads, bind-reads, then-reads, optional-reads, below-reads, counted-reads, atMost-reads}
 use Rattle.instructions.specs.Ranges.{InRange, InstructionInRange, TerminalInRange}
 
 pub place-known : (n : ℕ) → n ≤ mostIdentifiers → Reads (place n) (PlaceBelow mostIdentifiers)
@@ -59,6 +60,9 @@ module _ (n m : ℕ) (hn : n ≤ mostIdentifiers) (hm : m ≤ mostFunctions) whe
   unfolding effects
   effects-known = counted-reads InRange mostCount (effect n m) effect-known
 
+  list-known : Reads (optional (effects n m)) (λ (l : Option EffectList). Every InRange (present l))
+  list-known = optional-reads (effects n m) (Every InRange) (λ (l : Option EffectList). Every InRange (present l)) effects-known tt (λ l q. q)
+
   pub instruction-known : Reads (instruction n m) InstructionInRange
   unfolding instruction
   instruction-known =
@@ -67,7 +71,7 @@ module _ (n m : ℕ) (hn : n ≤ mostIdentifiers) (hm : m ≤ mostFunctions) whe
       (λ p. then-reads (counted mostLvalues (place n)) _ InstructionInRange
       (λ ls. then-reads (counted mostOperands (place n)) _ InstructionInRange
       (λ ps. then-reads (instructionValue n m) _ InstructionInRange
-      (λ v. bind-reads (effects n m) _ (Every InRange) InstructionInRange effects-known (λ l q. pure-reads _ InstructionInRange q))))))
+      (λ v. bind-reads (optional (effects n m)) _ (λ (l : Option EffectList). Every InRange (present l)) InstructionInRange list-known (λ l q. pure-reads _ InstructionInRange q))))))
 
   terminalOf-known : (k o : ℕ) → Reads (terminalOf n m k o) TerminalInRange
   unfolding terminalOf

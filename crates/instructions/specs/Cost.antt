@@ -3,7 +3,7 @@ use Prim.Native.Nat.{ℕ, _+_, _≤_}
 use mathlib.Core.List.{List}
 use Rattle.model.specs.Limits.{mostRelations, mostMutations, mostRenders, mostBlocks}
 use Rattle.model.specs.Lists.{tally, oneIf}
-use Rattle.model.specs.Sheet.{EffectKind, Effect, Instruction, Terminal}
+use Rattle.model.specs.Sheet.{EffectKind, Effect, Instruction, listOf, Terminal}
 use Rattle.model.specs.Effects.{rowOf, isAlias, isRelation, isMutation, isRender}
 use Rattle.model.specs.Totals.{terminalRelations}
 use Rattle.building.specs.declared.Building.{Building}
@@ -52,7 +52,7 @@ effectCost e = kindCost (e .kind)
 
 -- an instruction: its effects
 unfoldable pub instructionCost : Instruction → Cost
-instructionCost i = costs effectCost (i .effects)
+instructionCost i = costs effectCost (listOf i)
 
 -- an effect of a terminal: "kind 6 in terminals"
 unfoldable pub terminalEffectCost : Effect → Cost

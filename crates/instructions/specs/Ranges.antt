@@ -5,7 +5,7 @@ use mathlib.Core.Path.{_≡_}
 use lib.Dec.{leb}
 use Rattle.model.specs.Limits.{mostIdentifiers, mostFunctions}
 use Rattle.model.specs.Lists.{Every}
-use Rattle.model.specs.Sheet.{Effect, Instruction, Terminal, Other, Return, MaybeThrow}
+use Rattle.model.specs.Sheet.{Effect, Instruction, listOf, Terminal, Other, Return, MaybeThrow}
 use Rattle.model.specs.Effects.{rowOf, isCreateFunction}
 use Rattle.model.specs.Ranges.{PlaceBelow}
 
@@ -18,7 +18,7 @@ pub record InRange (e : Effect) : Type 0 where
 
 -- an instruction: its effects
 abbrev pub InstructionInRange : Instruction → Type 0
-InstructionInRange i = Every InRange (i .effects)
+InstructionInRange i = Every InRange (listOf i)
 
 -- a terminal: its value and its effects
 abbrev pub TerminalInRange : Terminal → Type 0

@@ -3,12 +3,13 @@ use Prim.Native.Nat.{ℕ, zero, suc}
 use mathlib.Core.Path.{_≡_, refl}
 use mathlib.Core.Bool.{Bool, true, false}
 use mathlib.Core.List.{List, [], _∷_}
+use mathlib.Core.Option.{Option, none, some}
 use lib.ListN.{length}
 use Rattle.model.specs.Limits.{mostIdentifiers, mostFunctions, mostParams, mostContext, returnsCount, mostBlocks, mostCount, mostOrder, mostLvalues, mostOperands, noOperands, mostTerminal, mostKind}
-use Rattle.model.specs.Lists.{each}
+use Rattle.model.specs.Lists.{pick, each}
 use Rattle.model.specs.Sheet.{BlockId}
 use Rattle.model.specs.Effects.{kindOf}
-use Rattle.model.specs.Reading.{Position, Result, got, refused, Read, _>>=_, pure, count, fixed, atMost, below, newNumber, times, numbered, counted, timesFrom, numberedFrom, countedFrom}
+use Rattle.model.specs.Reading.{Position, Result, got, refused, Read, _>>=_, pure, word, count, fixed, atMost, below, newNumber, isAbsent, times, numbered, counted, optional, timesFrom, numberedFrom, countedFrom}
 use Rattle.model.specs.Sections.{noQuestion, flags, identifier, placeAsking, place, effect, effects, operand, phi, instructionValue, instruction, terminalOf, terminal, block, sheetOf}
 use Rattle.model.specs.Asking as asking
 use Rattle.model.specs.Asking.{Asks, tellEffect, tellOperand, tellPhi, tellInstruction, tellBlock}
@@ -40,6 +41,17 @@ module _ (P : ℕ → Type 0) where
   -- what was asked, and then what is read anyway
   ask-follows : {A : Type 0} (ask : Read (Unit {0})) (f : Read A) → Follows P ask noQuestion → Follows P (ask >>= λ (u : Unit {0}). f) f
   ask-follows ask f h = bind-follows ask noQuestion (λ (u : Unit {0}). f) (λ (u : Unit {0}). f) h (λ u. itself f)
+
+  optional-follows : {A : Type 0} (f g : Read A) → Follows P f g → Follows P (optional f) (optional g)
+  unfolding optional
+  optional-follows {A} f g h ws c = go (isAbsent (word ws c))
+    where
+      absent : Read (Option A)
+      absent = word >>= λ (w : ℕ). pure none
+
+      go : (b : Bool) → Holds P (pick b absent (f >>= λ (a : A). pure (some a)) ws c) (pick b absent (g >>= λ (a : A). pure (some a)) ws c)
+      go true = same refl
+      go false = bind-follows f g _ _ h (λ a. itself (pure (some a))) ws c
 
   module _ {A T : Type 0} (tell : A → T → T) where
     pub times-follows : (k : ℕ) (f : T → Read A) (g : Read A) → ((t : T) → Follows P (f t) g) → (t : T) → Follows P (timesFrom k f tell t) (times k g)
@@ -95,7 +107,7 @@ module _ (P : ℕ → Type 0) where
         (λ p. bind-follows (counted mostLvalues (place n)) (counted mostLvalues (place n)) _ _ (itself (counted mostLvalues (place n)))
         (λ ls. bind-follows (counted mostOperands (place n)) (counted mostOperands (place n)) _ _ (itself (counted mostOperands (place n)))
         (λ ps. bind-follows (instructionValue n m) (instructionValue n m) _ _ (itself (instructionValue n m))
-        (λ v. bind-follows (asking.effects a false n m t) (effects n m) _ _ (effects-follows false n m t) (λ l. itself (pure _)))))))
+        (λ v. bind-follows (optional (asking.effects a false n m t)) (optional (effects n m)) _ _ (optional-follows (asking.effects a false n m t) (effects n m) (effects-follows false n m t)) (λ l. itself (pure _)))))))
 
     terminalOf-follows : (n m : ℕ) (t : a .Tally) (k o : ℕ) → Follows P (asking.terminalOf a n m t k o) (terminalOf n m k o)
     unfolding asking.terminalOf terminalOf

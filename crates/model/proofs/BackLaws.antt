@@ -4,13 +4,14 @@ use native.Mathlib.Omega.{arith}
 use mathlib.Core.Path.{_≡_, refl, sym, ap, subst, _∙_}
 use mathlib.Core.Bool.{Bool, true, false, _||_}
 use mathlib.Core.List.{List, [], _∷_, _++_, map, append-assoc, append-nil}
+use mathlib.Core.Option.{Option, none, some}
 use lib.ListN.{length, getD, drop, length-append}
 use lib.Dec.{ltb, leb, eqb}
 use borrow.Author.Tests.{lt-ltb, le-leb, eq-eqb, ne-eqb, eqb-false}
-use Rattle.model.specs.Limits.{mostBlockNumber}
+use Rattle.model.specs.Limits.{mostBlockNumber, absentCount}
 use Rattle.model.specs.Lists.{pick, gather, among, Every}
 use Rattle.model.specs.Sheet.{BlockId}
-use Rattle.model.specs.Reading.{Position, Result, got, refused, Read, andThen, _>>=_, pure, refuse, word, count, fixed, atMost, below, newNumber, times, numbered, counted}
+use Rattle.model.specs.Reading.{Position, Result, got, refused, Read, andThen, _>>=_, pure, refuse, word, count, fixed, atMost, below, newNumber, isAbsent, times, numbered, counted, optional}
 use Rattle.model.specs.Answer.{section}
 use Rattle.model.specs.Distinct.{Distinct}
 use Rattle.model.proofs.Either.{or-left, or-right}
@@ -100,6 +101,30 @@ unfolding newNumber
 newNumber-back used b h e =
     bind-back (atMost mostBlockNumber) (λ (x : BlockId). pick (among x used) (refuse 6) (pure x)) (b ∷ []) [] b b (atMost-back mostBlockNumber b h)
     (subst (λ (t : Bool). Back (pick t (refuse 6) (pure b)) [] b) (sym e) (pure-back b))
+
+-- ---- a list that may be absent
+module _ {A : Type 0} (f : Read A) where
+  abbrev absent : Read (Option A)
+  absent = word >>= λ (w : ℕ). pure none
+
+  abbrev there : Read (Option A)
+  there = f >>= λ (a : A). pure (some a)
+
+  -- by whether the count says so
+  optional-by : (ws : List ℕ) (c w : ℕ) (rest : List ℕ) → drop c ws ≡ w ∷ rest → (b : Bool) → eqb w absentCount ≡ b → optional f ws c ≡ pick b absent there ws c
+  unfolding optional
+  optional-by ws c w rest e b h =
+      ap (λ (r : Result ℕ). pick (isAbsent r) absent there ws c) (word-back w ws c rest e) ∙ ap (λ (t : Bool). pick t absent there ws c) h
+
+  pub absent-back : Back (optional f) (absentCount ∷ []) none
+  absent-back ws c rest e =
+      optional-by ws c absentCount rest e true (eq-eqb absentCount absentCount refl)
+      ∙ ap (λ (r : Result ℕ). andThen r (λ (w : ℕ) (j : Position). got none j)) (word-back absentCount ws c rest e)
+
+  pub present-back : (w : ℕ) (vs : List ℕ) (a : A) → w < absentCount → Back f (w ∷ vs) a → Back (optional f) (w ∷ vs) (some a)
+  present-back w vs a h k ws c rest e =
+      optional-by ws c w (vs ++ rest) e false (ne-eqb w absentCount (λ q. omega (arith, h, q)))
+      ∙ ap (λ (r : Result A). andThen r (λ (x : A) (j : Position). got (some x) j)) (k ws c rest e)
 
 -- ---- several parts
 neither : (a b : Bool) → a ≡ false → b ≡ false → (a || b) ≡ false

@@ -12,8 +12,8 @@ use Rattle.model.specs.Call.{ended, read, applies, fits, answered, admit
 use Rattle.model.specs.Effects.{kindOf, rowOf}
 use Rattle.model.specs.Graph.{create, enter, withEdge, withEntry, change, store, relate, assign, createFrom}
 use Rattle.model.specs.Marks.{withEffect, captureOrRead, flowMarks, marksOf, operandEffects, markOf, withMark}
-use Rattle.model.specs.Operands.{setUnset, startIf, nameLvalue, storeValue, phisMarked, phiStarts, phis, nameLvalues, instructionMarks, instructionRanges, instruction as instruction-Operands, terminalPlaces, terminal as terminal-Operands, block as block-Operands, sheetStarts, endsBefore, beforePass, afterPass}
-use Rattle.model.specs.Reading.{word, count, fixed, atMost, below, newNumber, times, numbered, counted, timesFrom, numberedFrom, countedFrom}
+use Rattle.model.specs.Operands.{setUnset, startIf, nameLvalue, storeValue, phisMarked, phiStarts, phis, nameLvalues, instructionMarks, operandRanges, instructionRanges, instruction as instruction-Operands, terminalPlaces, terminal as terminal-Operands, block as block-Operands, sheetStarts, endsBefore, beforePass, afterPass}
+use Rattle.model.specs.Reading.{word, count, fixed, atMost, below, newNumber, times, numbered, counted, optional, timesFrom, numberedFrom, countedFrom}
 use Rattle.model.specs.Renders.{renderPushes, renderVisit, renderStep, renderRun, renderWalk}
 use Rattle.model.specs.Runs.{walksOf, after, rendersOf, rendered, reached, largestEnd}
 use Rattle.model.specs.Sections.{flag, flags, identifier, diagnostic, place, innerFunction, unused, extra, effect, effects, operand as operand-Sections, phi, instructionValue, instruction as instruction-Sections, terminalOf, terminal as terminal-Sections, block as block-Sections, sheet}
@@ -27,23 +27,23 @@ use Rattle.model.specs.Traits.{effectOf, reactiveOf, traitsWord}
 use Rattle.model.specs.Walks.{pushes, visit, step, run, walkOf, mutate}
 
 pub table-right : T (right table)
-unfolding rangesBefore rangesAfter summary diagnosed answer middleWords operandWords answerWords instructionEffect instruction operand phiNode wake terminalEffect terminal block firstNodes build ended read applies fits answered admit outcome answerAfter workspaceAfter kindOf rowOf create enter withEdge withEntry change store relate assign createFrom withEffect captureOrRead flowMarks marksOf operandEffects markOf withMark setUnset startIf nameLvalue storeValue phisMarked phiStarts phis nameLvalues instructionMarks instructionRanges instruction-Operands terminalPlaces terminal-Operands block-Operands sheetStarts endsBefore beforePass afterPass word count fixed atMost below newNumber times numbered counted timesFrom numberedFrom countedFrom renderPushes renderVisit renderStep renderRun renderWalk walksOf after rendersOf rendered reached largestEnd flag flags identifier diagnostic place innerFunction unused extra effect effects operand-Sections phi instructionValue instruction-Sections terminalOf terminal-Sections block-Sections sheet taken serves call tracked simulation flowEffects simulate enough accepts copied recorded sheetEnds built realWalks afterReal afterRenders collectParamEffects captureMark marked createReturns instructionEffects blockRelations totals over judged effectOf reactiveOf traitsWord pushes visit step run walkOf mutate right table
+unfolding rangesBefore rangesAfter summary diagnosed answer middleWords operandWords answerWords instructionEffect instruction operand phiNode wake terminalEffect terminal block firstNodes build ended read applies fits answered admit outcome answerAfter workspaceAfter kindOf rowOf create enter withEdge withEntry change store relate assign createFrom withEffect captureOrRead flowMarks marksOf operandEffects markOf withMark setUnset startIf nameLvalue storeValue phisMarked phiStarts phis nameLvalues instructionMarks operandRanges instructionRanges instruction-Operands terminalPlaces terminal-Operands block-Operands sheetStarts endsBefore beforePass afterPass word count fixed atMost below newNumber times numbered counted optional timesFrom numberedFrom countedFrom renderPushes renderVisit renderStep renderRun renderWalk walksOf after rendersOf rendered reached largestEnd flag flags identifier diagnostic place innerFunction unused extra effect effects operand-Sections phi instructionValue instruction-Sections terminalOf terminal-Sections block-Sections sheet taken serves call tracked simulation flowEffects simulate enough accepts copied recorded sheetEnds built realWalks afterReal afterRenders collectParamEffects captureMark marked createReturns instructionEffects blockRelations totals over judged effectOf reactiveOf traitsWord pushes visit step run walkOf mutate right table
 table-right = tt
 
 pub ours-right : T (right ours)
-unfolding rangesBefore rangesAfter summary diagnosed answer middleWords operandWords answerWords instructionEffect instruction operand phiNode wake terminalEffect terminal block firstNodes build ended read applies fits answered admit outcome answerAfter workspaceAfter kindOf rowOf create enter withEdge withEntry change store relate assign createFrom withEffect captureOrRead flowMarks marksOf operandEffects markOf withMark setUnset startIf nameLvalue storeValue phisMarked phiStarts phis nameLvalues instructionMarks instructionRanges instruction-Operands terminalPlaces terminal-Operands block-Operands sheetStarts endsBefore beforePass afterPass word count fixed atMost below newNumber times numbered counted timesFrom numberedFrom countedFrom renderPushes renderVisit renderStep renderRun renderWalk walksOf after rendersOf rendered reached largestEnd flag flags identifier diagnostic place innerFunction unused extra effect effects operand-Sections phi instructionValue instruction-Sections terminalOf terminal-Sections block-Sections sheet taken serves call tracked simulation flowEffects simulate enough accepts copied recorded sheetEnds built realWalks afterReal afterRenders collectParamEffects captureMark marked createReturns instructionEffects blockRelations totals over judged effectOf reactiveOf traitsWord pushes visit step run walkOf mutate right ours
+unfolding rangesBefore rangesAfter summary diagnosed answer middleWords operandWords answerWords instructionEffect instruction operand phiNode wake terminalEffect terminal block firstNodes build ended read applies fits answered admit outcome answerAfter workspaceAfter kindOf rowOf create enter withEdge withEntry change store relate assign createFrom withEffect captureOrRead flowMarks marksOf operandEffects markOf withMark setUnset startIf nameLvalue storeValue phisMarked phiStarts phis nameLvalues instructionMarks operandRanges instructionRanges instruction-Operands terminalPlaces terminal-Operands block-Operands sheetStarts endsBefore beforePass afterPass word count fixed atMost below newNumber times numbered counted optional timesFrom numberedFrom countedFrom renderPushes renderVisit renderStep renderRun renderWalk walksOf after rendersOf rendered reached largestEnd flag flags identifier diagnostic place innerFunction unused extra effect effects operand-Sections phi instructionValue instruction-Sections terminalOf terminal-Sections block-Sections sheet taken serves call tracked simulation flowEffects simulate enough accepts copied recorded sheetEnds built realWalks afterReal afterRenders collectParamEffects captureMark marked createReturns instructionEffects blockRelations totals over judged effectOf reactiveOf traitsWord pushes visit step run walkOf mutate right ours
 ours-right = tt
 
 pub calls-refused : T (refusedSo calls)
-unfolding rangesBefore rangesAfter summary diagnosed answer middleWords operandWords answerWords instructionEffect instruction operand phiNode wake terminalEffect terminal block firstNodes build ended read applies fits answered admit outcome answerAfter workspaceAfter kindOf rowOf create enter withEdge withEntry change store relate assign createFrom withEffect captureOrRead flowMarks marksOf operandEffects markOf withMark setUnset startIf nameLvalue storeValue phisMarked phiStarts phis nameLvalues instructionMarks instructionRanges instruction-Operands terminalPlaces terminal-Operands block-Operands sheetStarts endsBefore beforePass afterPass word count fixed atMost below newNumber times numbered counted timesFrom numberedFrom countedFrom renderPushes renderVisit renderStep renderRun renderWalk walksOf after rendersOf rendered reached largestEnd flag flags identifier diagnostic place innerFunction unused extra effect effects operand-Sections phi instructionValue instruction-Sections terminalOf terminal-Sections block-Sections sheet taken serves call tracked simulation flowEffects simulate enough accepts copied recorded sheetEnds built realWalks afterReal afterRenders collectParamEffects captureMark marked createReturns instructionEffects blockRelations totals over judged effectOf reactiveOf traitsWord pushes visit step run walkOf mutate refusedSo calls
+unfolding rangesBefore rangesAfter summary diagnosed answer middleWords operandWords answerWords instructionEffect instruction operand phiNode wake terminalEffect terminal block firstNodes build ended read applies fits answered admit outcome answerAfter workspaceAfter kindOf rowOf create enter withEdge withEntry change store relate assign createFrom withEffect captureOrRead flowMarks marksOf operandEffects markOf withMark setUnset startIf nameLvalue storeValue phisMarked phiStarts phis nameLvalues instructionMarks operandRanges instructionRanges instruction-Operands terminalPlaces terminal-Operands block-Operands sheetStarts endsBefore beforePass afterPass word count fixed atMost below newNumber times numbered counted optional timesFrom numberedFrom countedFrom renderPushes renderVisit renderStep renderRun renderWalk walksOf after rendersOf rendered reached largestEnd flag flags identifier diagnostic place innerFunction unused extra effect effects operand-Sections phi instructionValue instruction-Sections terminalOf terminal-Sections block-Sections sheet taken serves call tracked simulation flowEffects simulate enough accepts copied recorded sheetEnds built realWalks afterReal afterRenders collectParamEffects captureMark marked createReturns instructionEffects blockRelations totals over judged effectOf reactiveOf traitsWord pushes visit step run walkOf mutate refusedSo calls
 calls-refused = tt
 
 pub limits-right : T (refusedSo limits)
-unfolding ended read answered admit outcome judged kindOf rowOf word count fixed atMost below newNumber times numbered counted timesFrom numberedFrom countedFrom flag flags identifier diagnostic place innerFunction unused extra effect effects operand-Sections phi instructionValue instruction-Sections terminalOf terminal-Sections block-Sections sheet taken serves call effectOf reactiveOf refusedSo limits
+unfolding ended read answered admit outcome judged kindOf rowOf word count fixed atMost below newNumber times numbered counted optional timesFrom numberedFrom countedFrom flag flags identifier diagnostic place innerFunction unused extra effect effects operand-Sections phi instructionValue instruction-Sections terminalOf terminal-Sections block-Sections sheet taken serves call effectOf reactiveOf refusedSo limits
 limits-right = tt
 
 pub effect-table-right : T (refusedSo effectTable)
-unfolding ended read answered admit outcome judged kindOf rowOf word count fixed atMost below newNumber times numbered counted timesFrom numberedFrom countedFrom flag flags identifier diagnostic place innerFunction unused extra effect effects operand-Sections phi instructionValue instruction-Sections terminalOf terminal-Sections block-Sections sheet taken serves call effectOf reactiveOf refusedSo effectTable
+unfolding ended read answered admit outcome judged kindOf rowOf word count fixed atMost below newNumber times numbered counted optional timesFrom numberedFrom countedFrom flag flags identifier diagnostic place innerFunction unused extra effect effects operand-Sections phi instructionValue instruction-Sections terminalOf terminal-Sections block-Sections sheet taken serves call effectOf reactiveOf refusedSo effectTable
 effect-table-right = tt
 
 pub effect-rows : T (sameRows effectRows)

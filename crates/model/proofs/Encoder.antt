@@ -4,23 +4,24 @@ use native.Mathlib.Omega.{arith}
 use mathlib.Core.Path.{_≡_, refl, sym, ap, subst, _∙_}
 use mathlib.Core.Bool.{Bool, true, false}
 use mathlib.Core.List.{List, [], _∷_, _++_, append-nil}
+use mathlib.Core.Option.{Option, none, some}
 use lib.ListN.{length}
 use lib.Dec.{leb}
 use borrow.Author.Tests.{le-ltb}
 use Rattle.model.specs.Limits.{flagCount, mostFlag, mostIdentifiers, mostRange, mostType, mostFunctions, mostInnerDiagnostics, mostInnerContext, mostDiagnostic, mostParams, mostContext, returnsCount, mostBlocks, mostCount, mostOrder, mostLvalues, mostOperands, noOperands, mostValue, mostTerminal, mostTraits, mostKind, mostSheet}
 use Rattle.model.specs.Lists.{pick, gather, among, Every, oneIf}
-use Rattle.model.specs.Sheet.{Flags, Identifier, IdentifierType, other, primitive, jsx, Diagnostic, InnerFunction, Place, unusedPlace, EffectKind, Freeze, Mutate, MutateConditionally, MutateTransitive, MutateTransitiveConditionally, Capture, Alias, MaybeAlias, Assign, Create, CreateFrom, ImmutableCapture, Apply, CreateFunction, MutateFrozen, MutateGlobal, Impure, Render, Effect, EffectList, Operand, Phi, InstructionValue, Plain, Function, StoreContext, Instruction, Terminal, Other, Return, MaybeThrow, BlockId, Block, Sheet}
+use Rattle.model.specs.Sheet.{Flags, Identifier, IdentifierType, other, primitive, jsx, Diagnostic, InnerFunction, Place, unusedPlace, EffectKind, Freeze, Mutate, MutateConditionally, MutateTransitive, MutateTransitiveConditionally, Capture, Alias, MaybeAlias, Assign, Create, CreateFrom, ImmutableCapture, Apply, CreateFunction, MutateFrozen, MutateGlobal, Impure, Render, Effect, EffectList, Operand, Phi, InstructionValue, Plain, Function, StoreContext, Instruction, present, Terminal, Other, Return, MaybeThrow, BlockId, Block, Sheet}
 use Rattle.model.specs.Traits.{reactiveOf, traitsWord}
 use Rattle.model.specs.Effects.{kindOf, rowOf, isCreateFunction}
-use Rattle.model.specs.Reading.{got, Read, _>>=_, pure, word, count, fixed, atMost, below, numbered, counted}
+use Rattle.model.specs.Reading.{got, Read, _>>=_, pure, word, count, fixed, atMost, below, numbered, counted, optional}
 use Rattle.model.specs.Sections.{flag, flags, typeOf, identifier, diagnostic, innerFunction, place, unused, extra, effect, effects, operand, phi, valueBy, instructionValue, instruction, terminalOf, terminal, block, sheet}
 use Rattle.model.specs.Answer.{placeWords, diagnosticWords, effectWords, section}
 use Rattle.model.specs.Totals.{totals, over, judged}
 use Rattle.model.specs.Call.{ended, read, IsSheet}
-use Rattle.model.specs.Encoder.{flagsWords, typeWord, identifierWords, functionWords, effectsWords, operandWords, phiWords, valueWords, instructionWords, terminalWords, blockRest, blockWords, sheetWords, IdentifierFits, DiagnosticFits, PlaceFits, PlacesFit, FunctionFits, UsedFits, ExtraFits, EffectFits, EffectsFit, OperandFits, PhiFits, ValueFits, InstructionFits, TerminalFits, BlockFits, SheetFits}
+use Rattle.model.specs.Encoder.{flagsWords, typeWord, identifierWords, functionWords, effectsWords, listedWords, operandWords, phiWords, valueWords, instructionWords, terminalWords, blockRest, blockWords, sheetWords, IdentifierFits, DiagnosticFits, PlaceFits, PlacesFit, FunctionFits, UsedFits, ExtraFits, EffectFits, EffectsFit, OperandFits, PhiFits, ValueFits, InstructionFits, TerminalFits, BlockFits, SheetFits}
 use Rattle.model.proofs.Everywhere.{every-mem}
 use Rattle.model.proofs.Traits.{traits-few, effect-of-traits, reactive-of-traits}
-use Rattle.model.proofs.BackLaws.{Back, pure-back, bind-back, word-back, atMost-back, below-back, count-back, fixed-back, counted-back, numbered-back}
+use Rattle.model.proofs.BackLaws.{Back, pure-back, bind-back, word-back, atMost-back, below-back, count-back, fixed-back, absent-back, present-back, counted-back, numbered-back}
 
 -- ---- flags and identifiers
 flag-back : (b : Bool) → Back flag (oneIf b ∷ []) b
@@ -178,6 +179,10 @@ effects-back : (n m : ℕ) (l : EffectList) → EffectsFit n m l → Back (effec
 unfolding effects
 effects-back n m l h = counted-back mostCount (effect n m) effectWords l (h .0) (every-mem (EffectFits n m) _ l (λ e k f. effect-back n m e f) (h .1))
 
+listed-back : (n m : ℕ) (l : Option EffectList) → EffectsFit n m (present l) → Back (optional (effects n m)) (listedWords l) l
+listed-back n m none h = absent-back (effects n m)
+listed-back n m (some l) h = present-back (effects n m) (length l) (gather effectWords l) l (omega (arith, h .0)) (effects-back n m l h)
+
 -- ---- blocks
 operand-back : (n : ℕ) (o : Operand) → OperandFits n o → Back (operand n (o .predecessor)) (placeWords (o .place)) o
 unfolding operand
@@ -213,7 +218,7 @@ value-back n m (StoreContext x) h =
 instruction-back : (n m : ℕ) (i : Instruction) → InstructionFits n m i → Back (instruction n m) (instructionWords i) i
 unfolding instruction
 instruction-back n m i h =
-    let es : List ℕ = effectsWords (i .effects) in
+    let es : List ℕ = listedWords (i .effects) in
     let vs : List ℕ = valueWords (i .value) ++ es in
     let ps : List ℕ = section placeWords (i .operands) ++ vs in
     let ls : List ℕ = section placeWords (i .valueLvalues) ++ ps in
@@ -222,9 +227,9 @@ instruction-back n m i h =
     (bind-back (counted mostLvalues (place n)) _ (section placeWords (i .valueLvalues)) ps (i .valueLvalues) i (places-back n mostLvalues (i .valueLvalues) (h .valueLvalues))
     (bind-back (counted mostOperands (place n)) _ (section placeWords (i .operands)) vs (i .operands) i (places-back n mostOperands (i .operands) (h .operands))
     (bind-back (instructionValue n m) _ (valueWords (i .value)) es (i .value) i (value-back n m (i .value) (h .value))
-    (last-back (effects n m) (λ (l : EffectList). instructionBy l) es (i .effects) (effects-back n m (i .effects) (h .effects)))))))
+    (last-back (optional (effects n m)) (λ (l : Option EffectList). instructionBy l) es (i .effects) (listed-back n m (i .effects) (h .effects)))))))
   where
-    instructionBy : EffectList → Instruction
+    instructionBy : Option EffectList → Instruction
     instructionBy l = record { order = i .order; lvalue = i .lvalue; valueLvalues = i .valueLvalues; operands = i .operands; value = i .value; effects = l }
 
 -- effects, and then no operands

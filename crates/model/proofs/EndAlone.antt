@@ -2,15 +2,15 @@
 use Prim.Native.Nat.{ℕ, zero, suc, _<_}
 use native.Mathlib.Omega.{arith}
 use mathlib.Core.Path.{_≡_, refl, sym, ap, _∙_, subst}
-use mathlib.Core.Bool.{Bool, true, false, _||_}
+use mathlib.Core.Bool.{Bool, true, false, _||_, _&&_}
 use mathlib.Core.List.{List, [], _∷_, _++_, map}
 use lib.ListN.{length, getD, set, length-set}
 use lib.Seq.{getD-set-same, getD-set-other}
 use lib.Dec.{eqb}
 use borrow.Author.Tests.{eqb-true, eqb-false}
 use Rattle.model.specs.Lists.{pick, each, among}
-use Rattle.model.specs.Sheet.{InnerFunction, Place, InstructionValue, Plain, Function, StoreContext, Instruction, lvaluesOf, Block}
-use Rattle.model.specs.Operands.{Ranges, Pass, orIfUnset, setUnset, endsAfter, startIf, nameLvalue, endPast, storeValue, nameLvalues, contextOf, instructionRanges, block}
+use Rattle.model.specs.Sheet.{InnerFunction, Place, InstructionValue, Plain, Function, StoreContext, Instruction, isListed, lvaluesOf, Block}
+use Rattle.model.specs.Operands.{Ranges, Pass, orIfUnset, setUnset, endsAfter, startIf, nameLvalue, endPast, storeValue, nameLvalues, contextOf, operandRanges, instructionRanges, block}
 use Rattle.model.specs.EndsSet.{instructionsOf, isLvalue, isStored, stores, lvalueEnd, storeEnd, endAfter, endOf, startOf}
 use Rattle.model.proofs.Steady.{each-keeps}
 use Rattle.model.proofs.PassRanges.{Follows, pass-follows, Kept, pass-keeps}
@@ -79,12 +79,20 @@ module _ (x : ℕ) where
   named-has i e r h = lvalues-has (i .order) (lvaluesOf i) e r h
 
   step-has : (fs : List InnerFunction) (i : Instruction) (e : ℕ) (r : Ranges) → Has e r → Has (endAfter x i e) (instructionRanges fs i r)
-  unfolding endAfter stores instructionRanges
-  step-has fs i e r h =
-      let d : ℕ = lvalueEnd (isLvalue x i) (i .order) e in
-      let named : Ranges = nameLvalues i r in
-      store-has (i .order) (i .value) d (each (startIf (i .order) (i .order)) (i .operands ++ contextOf fs (i .value)) named)
-      (each-keeps (startIf (i .order) (i .order)) (Has d) (i .operands ++ contextOf fs (i .value)) named (λ p m r h. start-has (i .order) (i .order) p d r h) (named-has i e r h))
+  unfolding endAfter stores instructionRanges operandRanges
+  step-has fs i e r h = go (isListed i)
+    where
+      d : ℕ
+      d = lvalueEnd (isLvalue x i) (i .order) e
+
+      named : Ranges
+      named = nameLvalues i r
+
+      go : (b : Bool) → Has (storeEnd (b && isStored x (i .value)) (i .order) d) (pick b (operandRanges fs i named) named)
+      go true =
+          store-has (i .order) (i .value) d (each (startIf (i .order) (i .order)) (i .operands ++ contextOf fs (i .value)) named)
+          (each-keeps (startIf (i .order) (i .order)) (Has d) (i .operands ++ contextOf fs (i .value)) named (λ p m r h. start-has (i .order) (i .order) p d r h) (named-has i e r h))
+      go false = named-has i e r h
 
   end-follows : (fs : List InnerFunction) → Follows fs (endAfter x) Has
   end-follows fs = record { start = start-has; step = step-has fs }

@@ -4,16 +4,17 @@ use native.Mathlib.Omega.{arith}
 use mathlib.Core.Path.{_≡_, sym, _∙_}
 use mathlib.Core.Bool.{Bool, true, true≢false}
 use mathlib.Core.List.{List, []}
+use mathlib.Core.Option.{Option}
 use lib.ListN.{length}
 use lib.Dec.{leb}
 use Rattle.model.specs.Limits.{mostIdentifiers, mostFunctions, mostParams, mostContext, returnsCount, mostBlocks, mostCount, mostOrder, mostLvalues, mostOperands, noOperands, mostValue, mostTerminal, mostTraits, mostKind, mostInnerDiagnostics, mostInnerContext}
 use Rattle.model.specs.Lists.{pick, Every}
-use Rattle.model.specs.Sheet.{Identifier, InnerFunction, BlockId, Place, unusedPlace, EffectKind, Operand, Plain, Function, StoreContext, Terminal, Other, Return, MaybeThrow, orderOf}
+use Rattle.model.specs.Sheet.{Identifier, InnerFunction, BlockId, Place, unusedPlace, EffectKind, EffectList, Operand, present, Plain, Function, StoreContext, Terminal, Other, Return, MaybeThrow, orderOf}
 use Rattle.model.specs.Effects.{kindOf, rowOf, isCreateFunction}
-use Rattle.model.specs.Reading.{word, count, fixed, atMost, below, numbered, counted}
+use Rattle.model.specs.Reading.{word, count, fixed, atMost, below, numbered, counted, optional}
 use Rattle.model.specs.Sections.{flags, identifier, diagnostic, innerFunction, place, unused, extra, effect, effects, operand, phi, valueBy, instructionValue, instruction, terminalOf, terminal, block, sheet}
 use Rattle.model.specs.Ranges.{PlaceBelow, PlacesBelow, FunctionBelow, EffectBelow, PhiBelow, ValueBelow, InstructionBelow, TerminalBelow, BlockBelow, SheetBelow}
-use Rattle.model.proofs.ReadLaws.{Reads, pure-reads, pick-reads, both-reads, bind-reads, then-reads, atMost-reads, below-reads, numbered-reads, counted-reads, counted-length}
+use Rattle.model.proofs.ReadLaws.{Reads, pure-reads, pick-reads, both-reads, bind-reads, then-reads, optional-reads, atMost-reads, below-reads, numbered-reads, counted-reads, counted-length}
 
 pub place-reads : (n : ℕ) → Reads (place n) (PlaceBelow n)
 unfolding place
@@ -55,6 +56,10 @@ effects-reads : (n m : ℕ) → 0 < n → Reads (effects n m) (Every (EffectBelo
 unfolding effects
 effects-reads n m h = counted-reads (EffectBelow n m) mostCount (effect n m) (effect-reads n m h)
 
+listed-reads : (n m : ℕ) → 0 < n → Reads (optional (effects n m)) (λ (l : Option EffectList). Every (EffectBelow n m) (present l))
+listed-reads n m h =
+    optional-reads (effects n m) (Every (EffectBelow n m)) (λ (l : Option EffectList). Every (EffectBelow n m) (present l)) (effects-reads n m h) tt (λ l q. q)
+
 operand-reads : (n : ℕ) (b : BlockId) → Reads (operand n b) (λ (o : Operand). PlaceBelow n (o .place))
 unfolding operand
 operand-reads n b =
@@ -89,7 +94,7 @@ instruction-reads n m h =
     (λ p hp. bind-reads (counted mostLvalues (place n)) _ (PlacesBelow n) (InstructionBelow n m) (list-reads n mostLvalues)
     (λ ls hl. bind-reads (counted mostOperands (place n)) _ (PlacesBelow n) (InstructionBelow n m) (list-reads n mostOperands)
     (λ ps hs. bind-reads (instructionValue n m) _ (ValueBelow n m) (InstructionBelow n m) (value-reads n m)
-    (λ v hv. bind-reads (effects n m) _ (Every (EffectBelow n m)) (InstructionBelow n m) (effects-reads n m h)
+    (λ v hv. bind-reads (optional (effects n m)) _ (λ (l : Option EffectList). Every (EffectBelow n m) (present l)) (InstructionBelow n m) (listed-reads n m h)
     (λ l q. pure-reads _ (InstructionBelow n m) (record { order = ho; lvalue = hp; valueLvalues = hl; operands = hs; value = hv; effects = q })))))))
 
 -- a terminal with what it names, and its order

@@ -9,7 +9,7 @@ use lib.Dec.{leb}
 use borrow.Author.Tests.{leb-true}
 use Rattle.model.specs.Limits.{leastWorkspace, mostSheet, mostIdentifiers, leastLoadIdentifiers, leastLoadEffects, mostLoadEffects}
 use Rattle.model.specs.Lists.{gather, each, tally, oneIf, Every}
-use Rattle.model.specs.Sheet.{Diagnostic, Place, Effect, Instruction, Other, Block, Sheet}
+use Rattle.model.specs.Sheet.{Diagnostic, Place, Effect, Instruction, listOf, Other, Block, Sheet}
 use Rattle.model.specs.Effects.{Role, rowOf, isRelation, isMutation, isRender, isDiagnosis, isApply, anyApply}
 use Rattle.model.specs.Totals.{instructionEffects, withRole, blockRelations, totals, over}
 use Rattle.model.specs.Summary.{copied, recorded}
@@ -122,8 +122,8 @@ module _ (seed n m : ℕ) (h : Loadable n m) where
       )
 
   -- ---- its totals
-  one-effect : Every (λ (i : Instruction). length (i .effects) ≤ 1) instructions
-  one-effect = each-instruction n m (λ (i : Instruction). length (i .effects) ≤ 1) (λ o state k. omega arith) m 1 seed (omega arith)
+  one-effect : Every (λ (i : Instruction). length (listOf i) ≤ 1) instructions
+  one-effect = each-instruction n m (λ (i : Instruction). length (listOf i) ≤ 1) (λ o state k. omega arith) m 1 seed (omega arith)
 
   with-role : (f : Role → Bool) → withRole f instructions ≤ m
   with-role f = omega (arith, role-most f 1 instructions one-effect, instructions-length n 1 m seed)
@@ -133,8 +133,8 @@ module _ (seed n m : ℕ) (h : Loadable n m) where
 
   no-renders : withRole isRender instructions ≡ 0
   no-renders =
-      let each = each-instruction n m (λ (i : Instruction). tally renders (i .effects) ≡ 0) none m 1 seed (omega arith) in
-      omega (arith, tally-each (λ (i : Instruction). tally renders (i .effects)) 0 instructions each)
+      let each = each-instruction n m (λ (i : Instruction). tally renders (listOf i) ≡ 0) none m 1 seed (omega arith) in
+      omega (arith, tally-each (λ (i : Instruction). tally renders (listOf i)) 0 instructions each)
     where
       renders : Effect → ℕ
       renders e = oneIf (isRender (rowOf (e .kind) .role))
@@ -158,9 +158,9 @@ module _ (seed n m : ℕ) (h : Loadable n m) where
   none-copied : Every NotCopied (instructionEffects (classLoad seed n m))
   unfolding instructionEffects classLoad
   none-copied =
-      let each = each-instruction n m (λ (i : Instruction). Every NotCopied (i .effects)) (λ o state k. (not-copied state, tt)) m 1 seed (omega arith) in
-      every-gather (λ (b : Block). gather (λ (i : Instruction). i .effects) (b .instructions)) NotCopied (loadBlock seed n m ∷ [])
-      (every-gather (λ (i : Instruction). i .effects) NotCopied instructions each, tt)
+      let each = each-instruction n m (λ (i : Instruction). Every NotCopied (listOf i)) (λ o state k. (not-copied state, tt)) m 1 seed (omega arith) in
+      every-gather (λ (b : Block). gather listOf (b .instructions)) NotCopied (loadBlock seed n m ∷ [])
+      (every-gather listOf NotCopied instructions each, tt)
 
   nothing-copied : copied (classLoad seed n m) ≡ []
   unfolding copied
@@ -217,10 +217,10 @@ module _ (seed n m : ℕ) (h : Loadable n m) where
   no-apply : applies (classLoad seed n m) ≡ false
   unfolding applies instructionEffects classLoad
   no-apply =
-      let each = each-instruction n m (λ (i : Instruction). Every NotApply (i .effects)) (λ o state k. (drawn-not-apply n (drawEffect n state .effect) (effect-drawn n some state), tt)) m 1 seed (omega arith) in
+      let each = each-instruction n m (λ (i : Instruction). Every NotApply (listOf i)) (λ o state k. (drawn-not-apply n (drawEffect n state .effect) (effect-drawn n some state), tt)) m 1 seed (omega arith) in
       none (instructionEffects (classLoad seed n m))
-      (every-gather (λ (b : Block). gather (λ (i : Instruction). i .effects) (b .instructions)) NotApply (loadBlock seed n m ∷ [])
-      (every-gather (λ (i : Instruction). i .effects) NotApply instructions each, tt))
+      (every-gather (λ (b : Block). gather listOf (b .instructions)) NotApply (loadBlock seed n m ∷ [])
+      (every-gather listOf NotApply instructions each, tt))
     where
       none : (l : List Effect) → Every NotApply l → anyApply l ≡ false
       none [] k = refl

@@ -2,10 +2,11 @@
 use Prim.Native.Nat.{ℕ, _+_}
 use native.Mathlib.Omega.{arith}
 use mathlib.Core.Path.{_≡_, refl, _∙_}
+use mathlib.Core.Bool.{Bool, true, false}
 use mathlib.Core.List.{List, [], _∷_, map}
 use lib.ListN.{length, getD, length-append, length-map, length-set}
-use Rattle.model.specs.Lists.{each, tally}
-use Rattle.model.specs.Sheet.{InnerFunction, Place, InstructionValue, Plain, Function, StoreContext, Instruction, lvaluesOf}
+use Rattle.model.specs.Lists.{pick, each, tally}
+use Rattle.model.specs.Sheet.{InnerFunction, Place, InstructionValue, Plain, Function, StoreContext, Instruction, isListed, lvaluesOf}
 use Rattle.model.specs.Traits.{readEffect, conditionallyMutateEffect}
 use Rattle.model.specs.Marks.{Mark, withMark}
 use Rattle.model.specs.Operands.{Pass, instructionMarks, instructionPlaces, contextMarked, instruction}
@@ -24,6 +25,10 @@ contexts-counted ms Plain cs = refl
 contexts-counted ms (Function k) cs = length-set cs k (map (withMark ms readEffect) (getD cs k []))
 contexts-counted ms (StoreContext x) cs = refl
 
+listed-contexts : (b : Bool) (ms : List Mark) (v : InstructionValue) (cs : List (List Place)) → length (pick b (contextMarked ms v cs) cs) ≡ length cs
+listed-contexts true ms v cs = contexts-counted ms v cs
+listed-contexts false ms v cs = refl
+
 -- what a list of instructions adds: places of instructions alone
 pub record Added (is : List Instruction) (p q : Pass) : Type 0 where
   pub instructions : length (q .instructions) ≡ length (p .instructions) + tally placeCount is
@@ -41,5 +46,5 @@ instructions-added fs (i ∷ is) p =
       instructions = omega (arith, a .instructions, length-append (p .instructions) (instructionPlaces ms i), places-counted ms i);
       phis = a .phis;
       terminals = a .terminals;
-      contexts = a .contexts ∙ contexts-counted ms (i .value) (p .contexts);
+      contexts = a .contexts ∙ listed-contexts (isListed i) ms (i .value) (p .contexts);
     }

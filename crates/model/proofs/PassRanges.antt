@@ -1,11 +1,11 @@
 -- What the pass over operands does to ranges: an induction principle. The ranges go from step to step with a value that only instructions change.
 use Prim.Native.Nat.{ℕ, _-_}
 use mathlib.Core.Path.{_≡_, refl, sym, subst}
-use mathlib.Core.Bool.{Bool}
+use mathlib.Core.Bool.{Bool, true, false}
 use mathlib.Core.List.{List, [], _∷_, _++_}
-use Rattle.model.specs.Lists.{each}
-use Rattle.model.specs.Sheet.{InnerFunction, Place, Phi, InstructionValue, Instruction, lvaluesOf, Block}
-use Rattle.model.specs.Operands.{Ranges, Pass, startIf, nameLvalue, nameLvalues, storeValue, instructionRanges, contextOf, phiStarts, phis, firstOrder, instruction, terminal, block}
+use Rattle.model.specs.Lists.{pick, each}
+use Rattle.model.specs.Sheet.{InnerFunction, Place, Phi, InstructionValue, Instruction, isListed, lvaluesOf, Block}
+use Rattle.model.specs.Operands.{Ranges, Pass, startIf, nameLvalue, nameLvalues, storeValue, operandRanges, instructionRanges, contextOf, phiStarts, phis, firstOrder, instruction, terminal, block}
 use Rattle.model.specs.EndsSet.{instructionsOf}
 use Rattle.model.proofs.Steady.{each-keeps}
 
@@ -51,11 +51,17 @@ pub record Kept (P : Ranges → Type 0) : Type 0 where
 
 module _ (P : Ranges → Type 0) (k : Kept P) (fs : List InnerFunction) where
   pub instruction-keeps : (i : Instruction) (r : Ranges) → P r → P (instructionRanges fs i r)
-  unfolding instructionRanges nameLvalues
-  instruction-keeps i r h =
-      k .store (i .order) (i .value) _
-      (each-keeps (startIf (i .order) (i .order)) P (i .operands ++ contextOf fs (i .value)) (nameLvalues i r) (λ p m r h. k .start (i .order) (i .order) p r h)
-      (each-keeps (nameLvalue (i .order)) P (lvaluesOf i) r (λ p m r h. k .lvalue (i .order) p r h) h))
+  unfolding instructionRanges operandRanges nameLvalues
+  instruction-keeps i r h = go (isListed i)
+    where
+      named : P (nameLvalues i r)
+      named = each-keeps (nameLvalue (i .order)) P (lvaluesOf i) r (λ p m r h. k .lvalue (i .order) p r h) h
+
+      go : (b : Bool) → P (pick b (operandRanges fs i (nameLvalues i r)) (nameLvalues i r))
+      go true =
+          k .store (i .order) (i .value) _
+          (each-keeps (startIf (i .order) (i .order)) P (i .operands ++ contextOf fs (i .value)) (nameLvalues i r) (λ p m r h. k .start (i .order) (i .order) p r h) named)
+      go false = named
 
   kept-follows : Follows fs (λ (i : Instruction) (u : Unit {0}). u) (λ (u : Unit {0}). P)
   kept-follows = record {

@@ -3,13 +3,14 @@ use Prim.Native.Nat.{ℕ, zero, suc, _+_}
 use mathlib.Core.Path.{_≡_, refl, subst, ap}
 use mathlib.Core.Bool.{Bool, true, false, true≢false}
 use mathlib.Core.List.{List, [], _∷_}
+use mathlib.Core.Option.{none, some}
 use lib.ListN.{length, getD}
 use lib.Dec.{ltb, leb, eqb}
 use Rattle.model.specs.Limits.{flagCount, mostFlag, mostIdentifiers, mostRange, mostType, mostFunctions, mostInnerDiagnostics, mostInnerContext, mostDiagnostic, mostParams, mostContext, returnsCount, mostBlocks, mostBlockNumber, mostCount, mostOrder, mostLvalues, mostOperands, noOperands, mostValue, mostTerminal, mostTraits, mostKind}
 use Rattle.model.specs.Lists.{pick, among}
 use Rattle.model.specs.Sheet.{BlockId, EffectKind}
 use Rattle.model.specs.Effects.{kindOf, rowOf, isCreateFunction}
-use Rattle.model.specs.Reading.{Position, Result, got, refused, Read, andThen, _>>=_, pure, refuse, word, count, fixed, atMost, below, newNumber, times, numbered, counted}
+use Rattle.model.specs.Reading.{Position, Result, got, refused, Read, andThen, _>>=_, pure, refuse, word, count, fixed, atMost, below, newNumber, isAbsent, times, numbered, counted, optional}
 use Rattle.model.specs.Sections.{flag, flags, identifier, diagnostic, innerFunction, place, unused, extra, effect, effects, operand, phi, valueBy, instructionValue, instruction, terminalOf, terminal, block, sheet}
 use Rattle.model.proofs.ReadLaws.{isGot}
 
@@ -49,6 +50,11 @@ module _ (P : ℕ → Type 0) where
         go : (b : Bool) → pick b (got (getD ws c 0) (c + 1)) (refused 3) ≡ refused k → P k
         go true y = absurd (true≢false (ap isGot y))
         go false y = subst P (ap (refusedWith 3) y) p3
+
+    optional-refuses : {A : Type 0} (f : Read A) → Refuses P f → Refuses P (optional f)
+    unfolding optional
+    optional-refuses {A} f h ws c =
+        pick-refuses (isAbsent (word ws c)) (word >>= λ (w : ℕ). pure none) (f >>= λ (a : A). pure (some a)) (bind-refuses word _ word-refuses (λ w. pure-refuses none)) (bind-refuses f _ h (λ a. pure-refuses (some a))) ws c
 
     -- a word that is tested
     tested : (n : ℕ) → P n → (b : ℕ → Bool) → Refuses P (word >>= λ (w : ℕ). pick (b w) (pure w) (refuse n))
@@ -171,7 +177,7 @@ module _ (P : ℕ → Type 0) where
         (λ o. bind-refuses (place n) _ (place-refuses n)
         (λ p. bind-refuses (counted mostLvalues (place n)) _ (places-refuses mostLvalues n)
         (λ ls. bind-refuses (counted mostOperands (place n)) _ (places-refuses mostOperands n)
-        (λ ps. bind-refuses (instructionValue n m) _ (value-refuses n m) (λ v. bind-refuses (effects n m) _ (effects-refuses n m) (λ l. pure-refuses _))))))
+        (λ ps. bind-refuses (instructionValue n m) _ (value-refuses n m) (λ v. bind-refuses (optional (effects n m)) _ (optional-refuses (effects n m) (effects-refuses n m)) (λ l. pure-refuses _))))))
 
     terminalOf-refuses : (n m k o : ℕ) → Refuses P (terminalOf n m k o)
     unfolding terminalOf

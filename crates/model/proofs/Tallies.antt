@@ -6,7 +6,7 @@ use mathlib.Core.Bool.{Bool, true, false}
 use mathlib.Core.List.{List, [], _∷_, List·Memᴰ, List·Memᴰ·head, List·Memᴰ·tail}
 use lib.ListN.{length, length-append}
 use Rattle.model.specs.Lists.{gather, tally, keep, oneIf, Every}
-use Rattle.model.specs.Sheet.{Effect, Instruction}
+use Rattle.model.specs.Sheet.{Effect, Instruction, listOf}
 use Rattle.model.specs.Effects.{Role, rowOf}
 use Rattle.model.specs.Totals.{withRole}
 use Rattle.model.proofs.Everywhere.{every-of, every-mem}
@@ -40,8 +40,8 @@ one-most true = omega arith
 one-most false = omega arith
 
 -- the effects of one role, in instructions of at most k effects each
-pub role-most : (f : Role → Bool) (k : ℕ) (l : List Instruction) → Every (λ (i : Instruction). length (i .effects) ≤ k) l → withRole f l ≤ k * length l
-role-most f k l h = tally-most (λ (i : Instruction). tally count (i .effects)) k l (every-mem (λ (i : Instruction). length (i .effects) ≤ k) _ l (λ i m few. omega (arith, few, each-once (i .effects))) h)
+pub role-most : (f : Role → Bool) (k : ℕ) (l : List Instruction) → Every (λ (i : Instruction). length (listOf i) ≤ k) l → withRole f l ≤ k * length l
+role-most f k l h = tally-most (λ (i : Instruction). tally count (listOf i)) k l (every-mem (λ (i : Instruction). length (listOf i) ≤ k) _ l (λ i m few. omega (arith, few, each-once (listOf i))) h)
   where
     count : Effect → ℕ
     count e = oneIf (f (rowOf (e .kind) .role))

@@ -5,7 +5,7 @@ use mathlib.Core.Bool.{Bool, true, false}
 use mathlib.Core.List.{[]}
 use Rattle.model.specs.Limits.{mostCount}
 use Rattle.model.specs.Lists.{each}
-use Rattle.model.specs.Sheet.{InnerFunction, EffectKind, Effect, Operand, Phi, EffectList, Instruction, Terminal, Other, Return, MaybeThrow, Block, BlockId, Sheet}
+use Rattle.model.specs.Sheet.{InnerFunction, EffectKind, Effect, Operand, Phi, EffectList, Instruction, listOf, Terminal, Other, Return, MaybeThrow, Block, BlockId, Sheet}
 use Rattle.model.specs.Reading.{Read, numberedFrom, countedFrom}
 use Rattle.model.specs.Sections.{placeAsking, effectAsking, operandAsking, phiOf, instructionOf, terminalBy, terminalAfter, blockOf, sheetOf}
 
@@ -40,7 +40,7 @@ module _ (a : Asks) where
 
   -- an instruction: its effects
   abbrev pub tellInstruction : Instruction → a .Tally → a .Tally
-  tellInstruction i t = each (tellEffect false) (i .effects) t
+  tellInstruction i t = each (tellEffect false) (listOf i) t
 
   -- a terminal: the Return value, then its effects
   abbrev pub tellTerminal : Terminal → a .Tally → a .Tally

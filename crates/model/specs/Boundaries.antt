@@ -94,6 +94,8 @@ limits =
     ∷ countLimit (inBlock 0 (0 ∷ [])) 1024
     ∷ wordLimit (inBlock 0 (0 ∷ 1 ∷ [])) 999999
     ∷ countLimit (atEffects 0 []) 1024
+    -- order 5: "An instruction's effect count of 4,294,967,295 now means that the list is absent"; a terminal is due then
+    ∷ (ends (atEffects 0 []) 4294967294 4 ∷ ends (atEffects 0 []) 4294967295 3 ∷ ends (atEffects 0 [] ++ (4294967295 ∷ [])) 3 5 ∷ [])
     ∷ wordLimit (atEffects 0 (1 ∷ [])) 17
     -- order 4: "after its order, its lvalue place; its value lvalues, then its operands, each after a count of at most 64"
     ∷ placeLimits (inBlock 0 (0 ∷ 1 ∷ 0 ∷ []))
@@ -113,6 +115,7 @@ limits =
     ∷ placeLimits (inBlock 0 (0 ∷ 0 ∷ 1 ∷ 0 ∷ []))
     ∷ countLimit (inBlock 0 (0 ∷ 0 ∷ 1 ∷ 0 ∷ place 0)) 1024
     ∷ countLimit (inBlock 0 (0 ∷ 0 ∷ 2 ∷ 0 ∷ [])) 1024
+    ∷ (ends (inBlock 0 (0 ∷ 0 ∷ 1 ∷ 0 ∷ place 0)) 4294967295 4 ∷ ends (inBlock 0 (0 ∷ 0 ∷ 2 ∷ 0 ∷ [])) 4294967295 4 ∷ [])
     -- order 4: "at its end, its operands after a count of at most 64; for Return and MaybeThrow that count is 0"
     ∷ countLimit (inBlock 0 (0 ∷ 0 ∷ 0 ∷ 0 ∷ [])) 64
     ∷ placeLimits (inBlock 0 (0 ∷ 0 ∷ 0 ∷ 0 ∷ 1 ∷ []))

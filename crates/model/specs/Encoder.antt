@@ -3,11 +3,12 @@ use Prim.Native.Nat.{ℕ, _≤_, _<_}
 use mathlib.Core.Path.{_≡_}
 use mathlib.Core.Bool.{Bool, true, false}
 use mathlib.Core.List.{List, [], _∷_, _++_, map}
+use mathlib.Core.Option.{Option, none, some}
 use lib.ListN.{length}
 use lib.Dec.{leb}
-use Rattle.model.specs.Limits.{flagCount, mostIdentifiers, mostRange, mostFunctions, mostInnerDiagnostics, mostInnerContext, mostDiagnostic, mostParams, mostContext, returnsCount, mostBlocks, mostBlockNumber, mostCount, mostOrder, mostLvalues, mostOperands, noOperands}
+use Rattle.model.specs.Limits.{flagCount, mostIdentifiers, mostRange, mostFunctions, mostInnerDiagnostics, mostInnerContext, mostDiagnostic, mostParams, mostContext, returnsCount, mostBlocks, mostBlockNumber, mostCount, mostOrder, mostLvalues, mostOperands, noOperands, absentCount}
 use Rattle.model.specs.Lists.{Every, oneIf}
-use Rattle.model.specs.Sheet.{Flags, IdentifierType, other, primitive, jsx, Identifier, Diagnostic, InnerFunction, Place, unusedPlace, Effect, Operand, Phi, EffectList, InstructionValue, Plain, Function, StoreContext, Instruction, Terminal, Other, Return, MaybeThrow, Block, Sheet}
+use Rattle.model.specs.Sheet.{Flags, IdentifierType, other, primitive, jsx, Identifier, Diagnostic, InnerFunction, Place, unusedPlace, Effect, Operand, Phi, EffectList, InstructionValue, Plain, Function, StoreContext, Instruction, listOf, Terminal, Other, Return, MaybeThrow, Block, Sheet}
 use Rattle.model.specs.Traits.{reactiveTraits}
 use Rattle.model.specs.Effects.{rowOf, isCreateFunction}
 use Rattle.model.specs.Answer.{placeWords, diagnosticWords, effectWords, section}
@@ -36,6 +37,11 @@ functionWords f = section diagnosticWords (f .diagnostics) ++ section placeWords
 abbrev pub effectsWords : EffectList → List ℕ
 effectsWords l = section effectWords l
 
+-- an instruction's: a count of 4,294,967,295 for an absent list
+abbrev pub listedWords : Option EffectList → List ℕ
+listedWords none = absentCount ∷ []
+listedWords (some l) = effectsWords l
+
 -- "for each operand a predecessor's number and a place"
 abbrev pub operandWords : Operand → List ℕ
 operandWords o = o .predecessor ∷ placeWords (o .place)
@@ -58,7 +64,7 @@ instructionWords i =
     ++ (section placeWords (i .valueLvalues)
     ++ (section placeWords (i .operands)
     ++ (valueWords (i .value)
-    ++ effectsWords (i .effects)))))
+    ++ listedWords (i .effects)))))
 
 -- "terminal kind (0 other, 1 Return, 2 MaybeThrow) and order; for 1 a place; for 1 and 2 an effect count and effects"; at its end its operands
 abbrev pub terminalWords : Terminal → List ℕ
@@ -148,7 +154,7 @@ pub record InstructionFits (n m : ℕ) (i : Instruction) : Type 0 where
   pub valueLvalues : PlacesFit n mostLvalues (i .valueLvalues)
   pub operands : PlacesFit n mostOperands (i .operands)
   pub value : ValueFits n m (i .value)
-  pub effects : EffectsFit n m (i .effects)
+  pub effects : EffectsFit n m (listOf i)
 
 -- a terminal's value, effects and operands
 abbrev pub TerminalFits : ℕ → ℕ → Terminal → Type 0

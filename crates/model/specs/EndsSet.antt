@@ -1,13 +1,13 @@
 -- Document 02, order 4: "a second property says which ends the pass sets".
 use Prim.Native.Nat.{suc, _≤_, _<_}
 use mathlib.Core.Path.{_≡_}
-use mathlib.Core.Bool.{Bool, true, false}
+use mathlib.Core.Bool.{Bool, true, false, _&&_}
 use mathlib.Core.Logic.{_⊎_}
 use mathlib.Core.List.{List, map, List·Memᴰ}
 use lib.ListN.{length, getD}
 use lib.Dec.{eqb}
 use Rattle.model.specs.Lists.{among, gather, each}
-use Rattle.model.specs.Sheet.{IdentifierId, EvaluationOrder, Place, InstructionValue, Plain, Function, StoreContext, Instruction, lvaluesOf, Block}
+use Rattle.model.specs.Sheet.{IdentifierId, EvaluationOrder, Place, InstructionValue, Plain, Function, StoreContext, Instruction, isListed, lvaluesOf, Block}
 use Rattle.model.specs.Operands.{Ranges, orIfUnset, endPast}
 
 -- the instructions of the blocks, in sheet order
@@ -24,9 +24,9 @@ isStored x Plain = false
 isStored x (Function k) = false
 isStored x (StoreContext y) = eqb x y
 
--- "stores the identifier by StoreContext"
+-- "stores the identifier by StoreContext"; document 02, order 5: "counts no store without a list"
 unfoldable pub stores : IdentifierId → Instruction → Bool
-stores x i = isStored x (i .value)
+stores x i = isListed i && isStored x (i .value)
 
 -- the instruction is one that moves x's end e: "it is 0 and [the] instruction has the identifier among its lvalues, or [it is] of order at least this end [and] stores the identifier"
 abbrev pub Sets : IdentifierId → EvaluationOrder → Instruction → Type 0

@@ -2,6 +2,7 @@
 -- Left out: the words of the sheet, which are the encoder's (Encoder).
 use Prim.Native.Nat.{ℕ, zero, suc, _+_, _*_, _-_, _/_, _%_}
 use mathlib.Core.Bool.{Bool, true, false, _&&_}
+use mathlib.Core.Option.{some}
 use mathlib.Core.List.{List, [], _∷_}
 use lib.ListN.{length, getD, replicate}
 use lib.Dec.{leb}
@@ -59,7 +60,7 @@ drawEffect n state = drawPlaces n (loadKind (drawBelow (length loadKinds) state 
 
 -- an instruction of one effect; "Generated loads use lvalue place 0, empty lists and value 0" (order 4)
 abbrev pub loadInstruction : EvaluationOrder → Effect → Instruction
-loadInstruction o e = record { order = o; lvalue = plainPlace 0; valueLvalues = []; operands = []; value = Plain; effects = e ∷ [] }
+loadInstruction o e = record { order = o; lvalue = plainPlace 0; valueLvalues = []; operands = []; value = Plain; effects = some (e ∷ []) }
 
 -- "instructions with orders 1 to m of one effect each": as many as are left, from this order on
 unfoldable pub loadInstructions : ℕ → EvaluationOrder → ℕ → ℕ → List Instruction

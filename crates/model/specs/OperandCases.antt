@@ -1,4 +1,4 @@
--- Document 02, order 4: the pass over operands. A row is a sheet and the outcome of the whole call, all ten sections.
+-- Document 02, orders 4 and 5: the pass over operands. A row is a sheet and the outcome of the whole call, all ten sections.
 -- A mark is a place's traits: 1 Freeze, 2 Read, 3 Capture, 5 ConditionallyMutate, 7 Store, and 8 more if reactive.
 -- Left out: the limits of the new words (Boundaries), and where 10 stands among the refusals (Refusals).
 use Prim.Native.Nat.{ℕ}
@@ -8,7 +8,7 @@ use lib.ListN.{replicate}
 use lib.Dec.{eqb}
 use Rattle.model.specs.Bench.{same}
 use Rattle.model.specs.Call.{Outcome, refusal, accepted, outcome}
-use Rattle.model.specs.Small.{several, place, placed, effect, one, two, diagnosis, operand, phiOf, phi, plain, function, storing, instructionOf, instruction, otherOf, other, returning, throwing, blockOf, flags, identifier, pair, functionOf, wholeBy, wholeOf, sheet, range, answered, tenOf}
+use Rattle.model.specs.Small.{several, place, placed, effect, one, two, diagnosis, operand, phiOf, phi, plain, function, storing, instructionOf, unlistedOf, instruction, otherOf, other, returning, throwing, blockOf, flags, identifier, pair, functionOf, wholeBy, wholeOf, sheet, range, answered, tenOf}
 
 -- a sheet, and the outcome of a call on it
 pub record OperandCase : Type 0 where
@@ -43,7 +43,7 @@ oneBlock ids fns phis is t = wholeBy (flags 0 1) (several ids) (several fns) [] 
 abbrev gives : List (List ℕ) → List ℕ → List (List ℕ) → List (List ℕ) → List (List ℕ) → List (List ℕ) → Outcome
 gives rs ws ps is ts ns = accepted (tenOf (answered rs [] [] [] (one 9 0 ∷ []) ws) ps is ts ns)
 
--- the smallest sheet known for each sentence that could be read in two ways; oracle/smallest has the same sheets, o01 to o30
+-- the smallest sheet known for each sentence that could be read in two ways; oracle/smallest has the same sheets, o01 to o30 and l01 to l06
 unfoldable pub readings : List OperandCase
 readings =
     -- Return with an operand count other than 0
@@ -150,6 +150,30 @@ readings =
     ∷ row
     (oneBlock (unset 1) [] [] (instructionOf 5 (place 0) (place 0 ∷ []) (place 0 ∷ []) (storing 0) (one 3 0 ∷ []) ∷ []) (other 0))
     (gives (range 5 6 ∷ []) (1 ∷ 1 ∷ []) [] (placed 0 5 0 ∷ placed 0 5 0 ∷ placed 0 5 0 ∷ []) [] [])
+    -- order 5: a terminal's list is never absent
+    ∷ row
+    (oneBlock (unset 1) [] [] (instruction 1 [] ∷ []) (2 ∷ 1 ∷ 4294967295 ∷ 0 ∷ []))
+    (refusal 4)
+    -- without a list lvalues have their ranges and marks, operands are Read; no start is set, nothing is stored
+    ∷ row
+    (oneBlock (identifier 0 9 0 ∷ unset 3) [] [] (unlistedOf 5 (place 1) (place 2 ∷ []) (placed 0 15 1 ∷ place 3 ∷ []) (storing 3) ∷ []) (other 0))
+    (gives (range 0 9 ∷ range 5 6 ∷ range 5 6 ∷ range 0 0 ∷ []) (1 ∷ []) [] (placed 1 5 0 ∷ placed 2 5 0 ∷ placed 0 10 1 ∷ placed 3 2 0 ∷ []) [] [])
+    -- context places stay as they are
+    ∷ row
+    (oneBlock (unset 1) (functionOf [] (placed 0 15 3 ∷ []) ∷ []) [] (unlistedOf 5 (place 0) [] [] (function 0) ∷ []) (other 0))
+    (gives (range 5 6 ∷ []) (1 ∷ []) [] (placed 0 5 0 ∷ []) [] (placed 0 15 3 ∷ []))
+    -- its order is the block's first order all the same
+    ∷ row
+    (oneBlock (identifier 1 1 0 ∷ identifier 0 6 0 ∷ []) [] (phi 1 (operand 7 0 ∷ []) ∷ []) (unlistedOf 5 (place 0) [] [] plain ∷ []) (other 0))
+    (gives (range 1 1 ∷ range 4 6 ∷ []) (1 ∷ []) (placed 1 7 0 ∷ placed 0 3 0 ∷ []) (placed 0 5 0 ∷ []) [] [])
+    -- any other count above 1,024 is 4
+    ∷ row
+    (oneBlock (unset 1) [] [] ((1 ∷ (place 0 ++ (0 ∷ 0 ∷ 0 ∷ 4294967294 ∷ []))) ∷ []) (other 0))
+    (refusal 4)
+    -- an empty list is not an absent one
+    ∷ row
+    (oneBlock (identifier 0 0 0 ∷ identifier 0 9 0 ∷ []) [] [] (instructionOf 5 (place 0) [] (place 1 ∷ []) plain [] ∷ []) (other 0))
+    (gives (range 5 6 ∷ range 5 9 ∷ []) (1 ∷ []) [] (placed 0 5 0 ∷ placed 1 2 0 ∷ []) [] [])
     ∷ []
 
 -- an instruction with lvalue 1, operand 0 and one effect on 0, by its kind

@@ -6,7 +6,7 @@ use lib.ListN.{length, getD, set, replicate}
 use lib.Dec.{ltb, leb}
 use Rattle.model.specs.Limits.{mostIdentifiers}
 use Rattle.model.specs.Lists.{pick, each, among}
-use Rattle.model.specs.Sheet.{IdentifierId, EvaluationOrder, Identifier, InnerFunction, noFunction, Place, Operand, Phi, InstructionValue, Plain, Function, StoreContext, Instruction, lvaluesOf, Terminal, Other, Return, MaybeThrow, orderOf, Block, Sheet}
+use Rattle.model.specs.Sheet.{IdentifierId, EvaluationOrder, Identifier, InnerFunction, noFunction, Place, Operand, Phi, InstructionValue, Plain, Function, StoreContext, Instruction, isListed, listOf, lvaluesOf, Terminal, Other, Return, MaybeThrow, orderOf, Block, Sheet}
 use Rattle.model.specs.Traits.{freezeEffect, readEffect, conditionallyMutateEffect, storeEffect}
 use Rattle.model.specs.Summary.{afterReal}
 use Rattle.model.specs.Marks.{withEffect, Mark, captureOrRead, operandEffects, withMark}
@@ -102,7 +102,7 @@ nameLvalues i r = each (nameLvalue (i .order)) (lvaluesOf i) r
 
 -- what its effects say of identifiers, by the ends with its lvalues
 unfoldable pub instructionMarks : Instruction → Ranges → List Mark
-instructionMarks i r = operandEffects (nameLvalues i r .ends) (i .order) (i .effects)
+instructionMarks i r = operandEffects (nameLvalues i r .ends) (i .order) (listOf i)
 
 -- its places with these marks: lvalues, else ConditionallyMutate; then operands, else Read
 abbrev pub instructionPlaces : List Mark → Instruction → List Place
@@ -120,16 +120,19 @@ contextMarked ms Plain cs = cs
 contextMarked ms (Function k) cs = set cs k (map (withMark ms readEffect) (getD cs k []))
 contextMarked ms (StoreContext x) cs = cs
 
--- the ranges: lvalues; the starts of operands, then of context places; last what it stores
-unfoldable pub instructionRanges : List InnerFunction → Instruction → Ranges → Ranges
-instructionRanges fs i r =
-    storeValue (i .order) (i .value) (each (startIf (i .order) (i .order)) (i .operands ++ contextOf fs (i .value)) (nameLvalues i r))
+-- the starts of operands, then of context places; last what it stores
+unfoldable pub operandRanges : List InnerFunction → Instruction → Ranges → Ranges
+operandRanges fs i r = storeValue (i .order) (i .value) (each (startIf (i .order) (i .order)) (i .operands ++ contextOf fs (i .value)) r)
 
--- an instruction
+-- the ranges: lvalues, then, "yet goes on for an empty one", what only an instruction with a list does
+unfoldable pub instructionRanges : List InnerFunction → Instruction → Ranges → Ranges
+instructionRanges fs i r = pick (isListed i) (operandRanges fs i (nameLvalues i r)) (nameLvalues i r)
+
+-- an instruction; document 02, order 5: "The pass over operands leaves an instruction without a list after its lvalues and the Read marks"
 unfoldable pub instruction : List InnerFunction → Instruction → Pass → Pass
 instruction fs i p = record {
   ranges = instructionRanges fs i (p .ranges);
-  contexts = contextMarked (instructionMarks i (p .ranges)) (i .value) (p .contexts);
+  contexts = pick (isListed i) (contextMarked (instructionMarks i (p .ranges)) (i .value) (p .contexts)) (p .contexts);
   phis = p .phis;
   instructions = p .instructions ++ instructionPlaces (instructionMarks i (p .ranges)) i;
   terminals = p .terminals;

@@ -7,7 +7,7 @@ use lib.ListN.{length}
 use lib.Dec.{leb}
 use Rattle.model.specs.Limits.{mostIdentifiers, mostFunctions, mostParams, mostContext, mostInnerContext, mostOrder}
 use Rattle.model.specs.Lists.{Every}
-use Rattle.model.specs.Sheet.{InnerFunction, Place, Effect, Operand, Phi, InstructionValue, Plain, Function, StoreContext, Instruction, orderOf, Terminal, Other, Return, MaybeThrow, Block, Sheet}
+use Rattle.model.specs.Sheet.{InnerFunction, Place, Effect, Operand, Phi, InstructionValue, Plain, Function, StoreContext, Instruction, listOf, orderOf, Terminal, Other, Return, MaybeThrow, Block, Sheet}
 use Rattle.model.specs.Effects.{rowOf, isCreateFunction}
 
 -- "identifier (below N)"
@@ -46,7 +46,7 @@ pub record InstructionBelow (n m : ℕ) (i : Instruction) : Type 0 where
   pub valueLvalues : PlacesBelow n (i .valueLvalues)
   pub operands : PlacesBelow n (i .operands)
   pub value : ValueBelow n m (i .value)
-  pub effects : Every (EffectBelow n m) (i .effects)
+  pub effects : Every (EffectBelow n m) (listOf i)
 
 -- a terminal's value, effects and operands
 abbrev pub TerminalBelow : ℕ → ℕ → Terminal → Type 0

@@ -9,7 +9,7 @@ use Rattle.model.specs.Lists.{pick}
 use Rattle.model.specs.Sheet.{Flags, IdentifierType, other, primitive, jsx, Identifier, Diagnostic, InnerFunction, Place, unusedPlace, EffectKind, Effect, Operand, Phi, EffectList, InstructionValue, Plain, Function, StoreContext, Instruction, Terminal, Other, Return, MaybeThrow, Block, BlockId, Sheet}
 use Rattle.model.specs.Traits.{effectOf, reactiveOf}
 use Rattle.model.specs.Effects.{kindOf, rowOf, isCreateFunction}
-use Rattle.model.specs.Reading.{Read, _>>=_, pure, word, count, fixed, atMost, below, numbered, counted}
+use Rattle.model.specs.Reading.{Read, _>>=_, pure, word, count, fixed, atMost, below, numbered, counted, optional}
 
 -- "each 0 or 1"
 unfoldable pub flag : Read Bool
@@ -147,7 +147,7 @@ instructionOf n m effects = do
   ls ← counted mostLvalues (place n)
   ps ← counted mostOperands (place n)
   v ← instructionValue n m
-  l ← effects
+  l ← optional effects
   pure (record { order = o; lvalue = p; valueLvalues = ls; operands = ps; value = v; effects = l })
 
 -- the instruction

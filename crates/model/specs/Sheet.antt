@@ -1,8 +1,9 @@
 -- Document 01, "The sheet": what a sheet says, as a tree. How it stands in words is in Reading and Sections.
 -- Left out: nothing. Stricter: a number below its limit is a plain number here; Reading has the limits.
 use Prim.Native.Nat.{ℕ}
-use mathlib.Core.Bool.{Bool, false}
+use mathlib.Core.Bool.{Bool, true, false}
 use mathlib.Core.List.{List, [], _∷_}
+use mathlib.Core.Option.{Option, none, some}
 
 -- the Rust's `IdentifierId`, `BlockId`, `FunctionId` and `EvaluationOrder`
 abbrev pub IdentifierId : Type 0
@@ -91,7 +92,7 @@ pub record Phi : Type 0 where
   pub place : Place
   pub operands : List Operand
 
--- "An absent effect list is written as count 0"
+-- "An absent effect list is written as count 0"; from document 02, order 5 on only a terminal's
 abbrev pub EffectList : Type 0
 EffectList = List Effect
 
@@ -108,7 +109,26 @@ pub record Instruction : Type 0 where
   pub valueLvalues : List Place
   pub operands : List Place
   pub value : InstructionValue
-  pub effects : EffectList
+  -- document 02, order 5: "An effect list left out is not an empty one"
+  pub effects : Option EffectList
+
+-- whether a list is there
+abbrev pub isPresent : Option EffectList → Bool
+isPresent none = false
+isPresent (some l) = true
+
+-- a list, empty if it is absent
+abbrev pub present : Option EffectList → EffectList
+present none = []
+present (some l) = l
+
+-- whether an instruction has a list of effects
+abbrev pub isListed : Instruction → Bool
+isListed i = isPresent (i .effects)
+
+-- an instruction's effects: an absent list has none
+abbrev pub listOf : Instruction → EffectList
+listOf i = present (i .effects)
 
 -- the lvalue place, then the value lvalues
 abbrev pub lvaluesOf : Instruction → List Place

@@ -68,6 +68,10 @@ storing x = 2 ∷ x ∷ []
 abbrev pub instructionOf : ℕ → List ℕ → List (List ℕ) → List (List ℕ) → List ℕ → List (List ℕ) → List ℕ
 instructionOf o p ls ps v es = o ∷ (p ++ (several ls ++ (several ps ++ (v ++ several es))))
 
+-- the same without a list of effects
+abbrev pub unlistedOf : ℕ → List ℕ → List (List ℕ) → List (List ℕ) → List ℕ → List ℕ
+unlistedOf o p ls ps v = o ∷ (p ++ (several ls ++ (several ps ++ (v ++ (4294967295 ∷ [])))))
+
 -- an instruction of order o with these effects, lvalue place 0, empty lists and value 0
 abbrev pub instruction : ℕ → List (List ℕ) → List ℕ
 instruction o es = instructionOf o (place 0) [] [] plain es

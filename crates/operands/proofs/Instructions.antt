@@ -1,23 +1,27 @@
--- An instruction: its parts by the typed reader are the definition's, and its four steps are the definition's step.
+-- An instruction: its parts by the typed reader are the definition's, and its steps are the definition's step.
 use Prim.Native.Nat.{ℕ, _+_, _*_, _≤_}
 use native.Mathlib.Omega.{arith}
-use mathlib.Core.Path.{_≡_, sym, ap, subst, _∙_}
+use mathlib.Core.Path.{_≡_, refl, sym, ap, subst, _∙_}
+use mathlib.Core.Bool.{Bool, true, false}
 use mathlib.Core.List.{List, [], _∷_, map}
+use mathlib.Core.Option.{Option}
 use lib.ListN.{length, length-append, length-map}
 use Rattle.model.specs.Limits.{mostIdentifiers, placeWidth, effectWidth}
-use Rattle.model.specs.Lists.{gather, Every}
-use Rattle.model.specs.Sheet.{InnerFunction, Place, EffectList, InstructionValue, Instruction as ModelInstruction}
+use Rattle.model.specs.Lists.{pick, gather, Every}
+use Rattle.model.specs.Sheet.{InnerFunction, Place, EffectList, InstructionValue, Instruction as ModelInstruction, isPresent, isListed, listOf}
 use Rattle.model.specs.Ranges.{EffectBelow, InstructionBelow}
 use Rattle.model.specs.Reading.{Position}
 use Rattle.model.specs.Traits.{readEffect, conditionallyMutateEffect}
 use Rattle.model.specs.Marks.{Mark, operandEffects, withMark}
-use Rattle.model.specs.Operands.{Ranges, Pass, nameLvalues, instructionMarks, instructionPlaces, instructionRanges, contextMarked, instruction}
+use Rattle.model.specs.Operands.{Ranges, Pass, nameLvalues, instructionMarks, instructionPlaces, operandRanges, instructionRanges, contextMarked, instruction}
 use Rattle.model.specs.Answer.{placeWords}
 use Rattle.hir.specs.Says.{placeIs, valueIs}
-use Rattle.hir.specs.Words.{Part, wordAt, wide, placeAt, effectAt, placesFrom, effectsFrom, valueFrom, lvaluesAt, operandsAt, valueAt, instructionFrom}
-use Rattle.hir.specs.Parts.{ListAt, InstructionAt}
+use Rattle.hir.specs.Words.{Part, wordAt, wide, placeAt, effectAt, placesFrom, counts, presentFrom, listedIf, valueFrom, lvaluesAt, operandsAt, valueAt, effectsAt, instructionFrom}
+use Rattle.hir.specs.Parts.{ListAt, EffectsAt, InstructionAt}
 use Rattle.hir.specs.declared.at.List.{List as Listed}
 use Rattle.hir.specs.declared.at.Instruction.{Instruction}
+use Rattle.hir.proofs.Absent as absent
+use Rattle.hir.proofs.Absent.{present-list}
 use Rattle.hir.proofs.Several.{list-is, several-length}
 use Rattle.hir.proofs.Widths.{several-wide, InstructionParts, instruction-parts}
 use Rattle.workspace.specs.Layout.{STARTS, PASSED}
@@ -31,21 +35,21 @@ use Rattle.operands.specs.declared.Section.the-variants.{Phis, Instructi
 use Rattle.operands.specs.Ranges.{rangesOf, Ranged}
 use Rattle.operands.specs.Contexts.{contextsOf}
 use Rattle.operands.specs.Known.{placesAt, effectsIn, IntoBelow, PlacesIn, instructionIs, InstructionKnown}
-use Rattle.operands.specs.Instruction.{BelowOf, marksNow, ofInstructions, ValueMarked, lastRanges, AllStarted}
+use Rattle.operands.specs.Instruction.{BelowOf, marksNow, ofInstructions, ValueMarked, lastRanges, AllStarted, ListedPassed}
 use Rattle.operands.specs.Passes.{passOf, forget, placesIn, Ready, Steps, Passed}
 use Rattle.operands.proofs.Stepping.{known-kept}
 use Rattle.operands.proofs.Putting.{wrote-same, places-length}
 use Rattle.operands.proofs.Staying.{contexts-stay, ranges-stay}
 
-abbrev instructionBy : ℕ → Place → List Place → List Place → InstructionValue → EffectList → ModelInstruction
+abbrev instructionBy : ℕ → Place → List Place → List Place → InstructionValue → Option EffectList → ModelInstruction
 instructionBy o p ls ps v es = record { order = o; lvalue = p; valueLvalues = ls; operands = ps; value = v; effects = es }
 
 -- a list by its count is what stands there
 places-are : {sheet : List ℕ} {c : Position} {l : Listed} → ListAt sheet c l → placesAt sheet l ≡ placesFrom sheet c
 places-are {sheet} {c} h = sym (list-is (wide placeWidth placeAt) sheet c h)
 
-effects-are : {sheet : List ℕ} {c : Position} {l : Listed} → ListAt sheet c l → effectsIn sheet l ≡ effectsFrom sheet c
-effects-are {sheet} {c} h = sym (list-is (wide effectWidth effectAt) sheet c h)
+effects-are : {sheet : List ℕ} {c : Position} {b : Bool} {l : Listed} → EffectsAt sheet c b l → effectsIn sheet l ≡ presentFrom sheet c
+effects-are {sheet} {c} h = sym (absent.effects-are sheet c h)
 
 module _ {sheet : List ℕ} {c : Position} {i : Instruction} (a : InstructionAt sheet c i) where
   -- the parts are the definition's
@@ -54,7 +58,7 @@ module _ {sheet : List ℕ} {c : Position} {i : Instruction} (a : InstructionAt 
   instruction-is =
       let ls : List Place = placesAt sheet (i .«value_lvalues») .what in
       let ps : List Place = placesAt sheet (i .operands) .what in
-      let es : EffectList = effectsIn sheet (i .effects) .what in
+      let es : Option EffectList = listedIf (i .listed) (effectsIn sheet (i .effects) .what) in
       let ls′ : List Place = placesFrom sheet (lvaluesAt c) .what in
       let ps′ : List Place = placesFrom sheet (operandsAt sheet c) .what in
       ap (λ (o : ℕ). instructionBy o (placeIs (i .lvalue)) ls ps (valueIs (i .value)) es) (a .order)
@@ -62,7 +66,13 @@ module _ {sheet : List ℕ} {c : Position} {i : Instruction} (a : InstructionAt 
       ∙ ap (λ (q : Part (List Place)). instructionBy (wordAt sheet c) (placeAt sheet (c + 1)) (q .what) ps (valueIs (i .value)) es) (places-are (a .valueLvalues))
       ∙ ap (λ (q : Part (List Place)). instructionBy (wordAt sheet c) (placeAt sheet (c + 1)) ls′ (q .what) (valueIs (i .value)) es) (places-are (a .operands))
       ∙ ap (λ (v : InstructionValue). instructionBy (wordAt sheet c) (placeAt sheet (c + 1)) ls′ ps′ v es) (a .value)
-      ∙ ap (λ (q : Part EffectList). instructionBy (wordAt sheet c) (placeAt sheet (c + 1)) ls′ ps′ (valueFrom sheet (valueAt sheet c) .what) (q .what)) (effects-are (a .effects))
+      ∙ ap (λ (b : Bool). instructionBy (wordAt sheet c) (placeAt sheet (c + 1)) ls′ ps′ (valueFrom sheet (valueAt sheet c) .what) (listedIf b (effectsIn sheet (i .effects) .what))) (a .effects .listed)
+      ∙ ap (λ (q : Part EffectList). instructionBy (wordAt sheet c) (placeAt sheet (c + 1)) ls′ ps′ (valueFrom sheet (valueAt sheet c) .what) (listedIf (counts (wordAt sheet (effectsAt sheet c))) (q .what))) (effects-are (a .effects))
+
+  -- an absent list is kept as an empty one
+  pub list-is-present : listOf (instructionIs sheet i) ≡ effectsIn sheet (i .effects) .what
+  unfolding instructionFrom
+  list-is-present = ap listOf instruction-is ∙ present-list sheet (effectsAt sheet c) ∙ sym (ap (λ (q : Part EffectList). q .what) (effects-are (a .effects)))
 
   -- where it ends
   pub instruction-end : i .effects .first + effectWidth * i .effects .count ≡ instructionFrom sheet c .next
@@ -93,6 +103,7 @@ module _ {sheet : List ℕ} {c : Position} {i : Instruction} (a : InstructionAt 
           valueLvalues = omega (arith, ap (λ (q : Part (List Place)). q .next) (places-are (a .valueLvalues)), p .value, p .effects, p .next, inside);
           operands = omega (arith, ap (λ (q : Part (List Place)). q .next) (places-are (a .operands)), p .effects, p .next, inside);
           effects = subst (λ (q : Part EffectList). q .next ≤ length sheet) (sym (effects-are (a .effects))) inside;
+          present = list-is-present;
         }
 
 -- ---- what an instruction's parts need
@@ -104,51 +115,84 @@ module _ {sheet ws : List ℕ} {fs : List InnerFunction} {i : Instruction} (k : 
   operands-in = record { inside = k .operands; below = k .below .operands }
 
   pub intos-below : Every IntoBelow (effectsIn sheet (i .effects) .what)
-  intos-below = go (effectsIn sheet (i .effects) .what) (k .below .effects)
+  intos-below = go (effectsIn sheet (i .effects) .what) (subst (Every (EffectBelow mostIdentifiers (length fs))) (k .present) (k .below .effects))
     where
       go : (l : EffectList) → Every (EffectBelow mostIdentifiers (length fs)) l → Every IntoBelow l
       go [] h = tt
       go (e ∷ l) h = (h .0 .1, go l (h .1))
 
 pub instruction-known-kept : {sheet ws ws′ : List ℕ} {fs : List InnerFunction} {i : Instruction} → Kept STARTS PASSED ws ws′ → InstructionKnown sheet ws fs i → InstructionKnown sheet ws′ fs i
-instruction-known-kept k h = record { known = known-kept k (h .known); below = h .below; valueLvalues = h .valueLvalues; operands = h .operands; effects = h .effects }
+instruction-known-kept k h = record { known = known-kept k (h .known); below = h .below; valueLvalues = h .valueLvalues; operands = h .operands; effects = h .effects; present = h .present }
 
--- ---- the four steps
-module _ (section : Section) {sheet : List ℕ} {i : Instruction} {ws ws₁ ws₂ ws₃ a a₁ : List ℕ} {at at₁ : ℕ}
+-- ---- its steps
+-- with a list: the marks of context places, then starts and the store
+pub listed-passed : {sheet : List ℕ} {i : Instruction} {ws ws₁ ws₂ : List ℕ} → i .listed ≡ true → ValueMarked sheet i ws ws₁ → AllStarted sheet i ws₁ ws₂ → ListedPassed sheet i ws ws₂
+listed-passed {sheet} {i} {ws} {ws₁} {ws₂} e marked started = record {
+  contexts = λ fs known.
+      contexts-stay ws₁ ws₂ (started .kept .high) fs ∙ marked .contexts fs known
+      ∙ sym (ap (λ (b : Bool). pick b (contextMarked (marksNow sheet ws i) (valueIs (i .value)) (contextsOf ws fs)) (contextsOf ws fs)) e);
+  ranges = λ fs known.
+      started .ranges fs (known-then known) ∙ ap (lastRanges fs sheet i) (ranges-stay ws ws₁ (marked .kept .low))
+      ∙ sym (ap (λ (b : Bool). pick b (lastRanges fs sheet i (rangesOf ws)) (rangesOf ws)) e);
+  kept = kept-then STARTS PASSED (marked .kept) (started .kept) (omega arith) (omega arith) (omega arith) (omega arith);
+}
+  where
+    known-then : {fs : List InnerFunction} → InstructionKnown sheet ws fs i → InstructionKnown sheet ws₁ fs i
+    known-then = instruction-known-kept (kept-then STARTS PASSED (kept-none STARTS PASSED ws) (marked .kept) (omega arith) (omega arith) (omega arith) (omega arith))
+
+-- without one: nothing more
+pub absent-passed : {sheet : List ℕ} {i : Instruction} (ws : List ℕ) → i .listed ≡ false → ListedPassed sheet i ws ws
+absent-passed {sheet} {i} ws e = record {
+  contexts = λ fs known. sym (ap (λ (b : Bool). pick b (contextMarked (marksNow sheet ws i) (valueIs (i .value)) (contextsOf ws fs)) (contextsOf ws fs)) e);
+  ranges = λ fs known. sym (ap (λ (b : Bool). pick b (lastRanges fs sheet i (rangesOf ws)) (rangesOf ws)) e);
+  kept = kept-none STARTS PASSED ws;
+}
+
+-- whether the list is there
+listed-present : (b : Bool) (l : EffectList) → isPresent (listedIf b l) ≡ b
+listed-present true l = refl
+listed-present false l = refl
+
+module _ (section : Section) {sheet : List ℕ} {i : Instruction} {ws ws₁ ws₂ a a₁ : List ℕ} {at at₁ : ℕ}
     (named : Ranged (nameLvalues (instructionIs sheet i)) ws ws₁)
     (wrote : Wrote (gather placeWords (ofInstructions section (instructionPlaces (marksNow sheet ws₁ i) (instructionIs sheet i)))) a at a₁ at₁)
-    (marked : ValueMarked sheet i ws₁ ws₂) (started : AllStarted sheet i ws₂ ws₃) where
-  pub four-kept : Kept STARTS PASSED ws ws₃
-  four-kept =
-      kept-then STARTS PASSED (kept-then STARTS PASSED (named .kept) (marked .kept) (omega arith) (omega arith) (omega arith) (omega arith)) (started .kept) (omega arith) (omega arith) (omega arith) (omega arith)
+    (passed : ListedPassed sheet i ws₁ ws₂) where
+  pub steps-kept : Kept STARTS PASSED ws ws₂
+  steps-kept = kept-then STARTS PASSED (named .kept) (passed .kept) (omega arith) (omega arith) (omega arith) (omega arith)
 
   module _ {fs : List InnerFunction} (known : InstructionKnown sheet ws fs i) where
     known₁ : InstructionKnown sheet ws₁ fs i
     known₁ = instruction-known-kept (kept-then STARTS PASSED (named .kept) (kept-none STARTS PASSED ws₁) (omega arith) (omega arith) (omega arith) (omega arith)) known
 
-    known₂ : InstructionKnown sheet ws₂ fs i
-    known₂ = instruction-known-kept (kept-then STARTS PASSED (kept-none STARTS PASSED ws₁) (marked .kept) (omega arith) (omega arith) (omega arith) (omega arith)) known₁
+    is-listed : isListed (instructionIs sheet i) ≡ i .listed
+    is-listed = listed-present (i .listed) (effectsIn sheet (i .effects) .what)
 
-    -- the ranges: lvalues, then starts and the store
-    ranges-are : rangesOf ws₃ ≡ instructionRanges fs (instructionIs sheet i) (rangesOf ws)
-    unfolding instructionRanges
-    ranges-are = started .ranges fs known₂ ∙ ap (lastRanges fs sheet i) (ranges-stay ws₁ ws₂ (marked .kept .low) ∙ named .ranges)
+    -- the ranges: lvalues, then, with a list, starts and the store
+    ranges-are : rangesOf ws₂ ≡ instructionRanges fs (instructionIs sheet i) (rangesOf ws)
+    unfolding instructionRanges operandRanges
+    ranges-are =
+        passed .ranges fs known₁ ∙ ap (λ (r : Ranges). pick (i .listed) (lastRanges fs sheet i r) r) (named .ranges)
+        ∙ sym (ap (λ (b : Bool). pick b (lastRanges fs sheet i (nameLvalues (instructionIs sheet i) (rangesOf ws))) (nameLvalues (instructionIs sheet i) (rangesOf ws))) is-listed)
 
-    -- the contexts: the marks by the ends with the lvalues
+    -- the marks, by the ends with the lvalues
     marks-are : marksNow sheet ws₁ i ≡ instructionMarks (instructionIs sheet i) (rangesOf ws)
     unfolding instructionMarks
-    marks-are = ap (λ (r : Ranges). operandEffects (r .ends) (i .order .0) (effectsIn sheet (i .effects) .what)) (named .ranges)
+    marks-are =
+        ap (λ (r : Ranges). operandEffects (r .ends) (i .order .0) (effectsIn sheet (i .effects) .what)) (named .ranges)
+        ∙ sym (ap (operandEffects (nameLvalues (instructionIs sheet i) (rangesOf ws) .ends) (i .order .0)) (known .present))
 
-    contexts-are : contextsOf ws₃ fs ≡ contextMarked (instructionMarks (instructionIs sheet i) (rangesOf ws)) (valueIs (i .value)) (contextsOf ws fs)
+    -- the contexts, with a list
+    contexts-are : contextsOf ws₂ fs ≡ pick (isListed (instructionIs sheet i)) (contextMarked (instructionMarks (instructionIs sheet i) (rangesOf ws)) (valueIs (i .value)) (contextsOf ws fs)) (contextsOf ws fs)
     contexts-are =
-        contexts-stay ws₂ ws₃ (started .kept .high) fs ∙ marked .contexts fs known₁
-        ∙ ap (λ (ms : List Mark). contextMarked ms (valueIs (i .value)) (contextsOf ws₁ fs)) marks-are
-        ∙ ap (contextMarked (instructionMarks (instructionIs sheet i) (rangesOf ws)) (valueIs (i .value))) (contexts-stay ws ws₁ (named .kept .high) fs)
+        passed .contexts fs known₁
+        ∙ ap (λ (ms : List Mark). pick (i .listed) (contextMarked ms (valueIs (i .value)) (contextsOf ws₁ fs)) (contextsOf ws₁ fs)) marks-are
+        ∙ ap (λ (cs : List (List Place)). pick (i .listed) (contextMarked (instructionMarks (instructionIs sheet i) (rangesOf ws)) (valueIs (i .value)) cs) cs) (contexts-stay ws ws₁ (named .kept .high) fs)
+        ∙ sym (ap (λ (b : Bool). pick b (contextMarked (instructionMarks (instructionIs sheet i) (rangesOf ws)) (valueIs (i .value)) (contextsOf ws fs)) (contextsOf ws fs)) is-listed)
 
-    pub four-steps : Steps (instruction fs (instructionIs sheet i)) section fs ws a at ws₃ a₁ at₁
+    pub all-steps : Steps (instruction fs (instructionIs sheet i)) section fs ws a at ws₂ a₁ at₁
     unfolding passOf forget instruction
-    four-steps = record {
-      pass = ap (λ (r : Ranges). passBy r (contextsOf ws₃ fs)) ranges-are ∙ ap (passBy (instructionRanges fs (instructionIs sheet i) (rangesOf ws))) contexts-are;
+    all-steps = record {
+      pass = ap (λ (r : Ranges). passBy r (contextsOf ws₂ fs)) ranges-are ∙ ap (passBy (instructionRanges fs (instructionIs sheet i) (rangesOf ws))) contexts-are;
       wrote = go section wrote;
     }
       where
@@ -173,16 +217,16 @@ places-few Instructions sheet ws i w =
 places-few Terminals sheet ws i w = omega (arith, w .next)
 
 -- ---- the instruction
-module _ (section : Section) {sheet : List ℕ} {c : Position} {i : Instruction} (at₀ : InstructionAt sheet c i) (inside : instructionFrom sheet c .next ≤ length sheet) {ws ws₁ ws₂ ws₃ a a₁ : List ℕ} {at : ℕ} {r : Copied}
+module _ (section : Section) {sheet : List ℕ} {c : Position} {i : Instruction} (at₀ : InstructionAt sheet c i) (inside : instructionFrom sheet c .next ≤ length sheet) {ws ws₁ ws₂ a a₁ : List ℕ} {at : ℕ} {r : Copied}
     (named : Ranged (nameLvalues (instructionIs sheet i)) ws ws₁)
     (wrote : Wrote (gather placeWords (ofInstructions section (instructionPlaces (marksNow sheet ws₁ i) (instructionIs sheet i)))) a at a₁ (r .at))
-    (marked : ValueMarked sheet i ws₁ ws₂) (started : AllStarted sheet i ws₂ ws₃) (next : r .next ≡ i .effects .first + effectWidth * i .effects .count) where
-  pub instruction-passed : Passed instructionFrom BelowOf instruction section sheet c ws a at ws₃ a₁ r
+    (passed : ListedPassed sheet i ws₁ ws₂) (next : r .next ≡ i .effects .first + effectWidth * i .effects .count) where
+  pub instruction-passed : Passed instructionFrom BelowOf instruction section sheet c ws a at ws₂ a₁ r
   instruction-passed = record {
     steps = λ fs ready.
-        subst (λ (m : ModelInstruction). Steps (instruction fs m) section fs ws a at ws₃ a₁ (r .at)) (instruction-is at₀)
-        (four-steps section named wrote marked started (instruction-known at₀ inside ready));
-    kept = four-kept section named wrote marked started;
+        subst (λ (m : ModelInstruction). Steps (instruction fs m) section fs ws a at ws₂ a₁ (r .at)) (instruction-is at₀)
+        (all-steps section named wrote passed (instruction-known at₀ inside ready));
+    kept = steps-kept section named wrote passed;
     after = next ∙ instruction-end at₀;
     few = omega (arith, places-few section sheet ws₁ i wrote, instruction-few at₀, next, instruction-end at₀);
     same = wrote-same wrote;

@@ -3,7 +3,7 @@ use Prim.Native.Nat.{ℕ, _≤_}
 use native.Mathlib.Omega.{arith}
 use mathlib.Core.List.{List}
 use Rattle.model.specs.Lists.{Every}
-use Rattle.model.specs.Sheet.{InnerFunction, Place, Effect, Operand, Phi, InstructionValue, Plain, Function, StoreContext, Instruction, Terminal, Other, Return, MaybeThrow, Block}
+use Rattle.model.specs.Sheet.{InnerFunction, Place, Effect, Operand, Phi, InstructionValue, Plain, Function, StoreContext, Instruction, listOf, Terminal, Other, Return, MaybeThrow, Block}
 use Rattle.model.specs.Ranges.{PlaceBelow, PlacesBelow, EffectBelow, PhiBelow, FunctionBelow, ValueBelow, InstructionBelow, TerminalBelow, BlockBelow}
 use Rattle.model.proofs.Everywhere.{every-mem}
 
@@ -46,7 +46,7 @@ module _ {n n′ : ℕ} (h : n ≤ n′) where
       valueLvalues = places-wider (i .valueLvalues) (b .valueLvalues);
       operands = places-wider (i .operands) (b .operands);
       value = value-wider (i .value) (b .value);
-      effects = effects-wider (i .effects) (b .effects);
+      effects = effects-wider (listOf i) (b .effects);
     }
 
     terminal-wider : (t : Terminal) → TerminalBelow n m t → TerminalBelow n′ m t

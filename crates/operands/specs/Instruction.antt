@@ -4,7 +4,7 @@ use mathlib.Core.Path.{_≡_}
 use mathlib.Core.List.{List, [], _++_}
 use lib.ListN.{length}
 use Rattle.model.specs.Limits.{mostIdentifiers}
-use Rattle.model.specs.Lists.{each}
+use Rattle.model.specs.Lists.{pick, each}
 use Rattle.model.specs.Sheet.{InnerFunction, Place, Instruction as ModelInstruction}
 use Rattle.model.specs.Ranges.{InstructionBelow}
 use Rattle.model.specs.Marks.{Mark, operandEffects}
@@ -47,3 +47,9 @@ lastRanges fs sheet i r =
 pub record AllStarted (sheet : List ℕ) (i : Instruction) (ws ws′ : List ℕ) : Type 0 where
   pub ranges : (fs : List InnerFunction) → InstructionKnown sheet ws fs i → rangesOf ws′ ≡ lastRanges fs sheet i (rangesOf ws)
   pub kept : Kept STARTS CONTEXTS ws ws′
+
+-- both, if there is a list of effects
+pub record ListedPassed (sheet : List ℕ) (i : Instruction) (ws ws′ : List ℕ) : Type 0 where
+  pub contexts : (fs : List InnerFunction) → InstructionKnown sheet ws fs i → contextsOf ws′ fs ≡ pick (i .listed) (contextMarked (marksNow sheet ws i) (valueIs (i .value)) (contextsOf ws fs)) (contextsOf ws fs)
+  pub ranges : (fs : List InnerFunction) → InstructionKnown sheet ws fs i → rangesOf ws′ ≡ pick (i .listed) (lastRanges fs sheet i (rangesOf ws)) (rangesOf ws)
+  pub kept : Kept STARTS PASSED ws ws′

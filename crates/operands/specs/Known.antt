@@ -7,11 +7,11 @@ use lib.Dec.{leb}
 use lib.ListN.{length, getD}
 use Rattle.model.specs.Limits.{mostIdentifiers, mostFunctions, placeWidth, effectWidth}
 use Rattle.model.specs.Lists.{Every}
-use Rattle.model.specs.Sheet.{InnerFunction, noFunction, Place, Effect, EffectList, Instruction as ModelInstruction}
+use Rattle.model.specs.Sheet.{InnerFunction, noFunction, Place, Effect, EffectList, Instruction as ModelInstruction, listOf}
 use Rattle.model.specs.Effects.{rowOf}
 use Rattle.model.specs.Ranges.{PlaceBelow, FunctionBelow, InstructionBelow}
 use Rattle.hir.specs.Says.{placeIs, valueIs}
-use Rattle.hir.specs.Words.{Part, wide, placeAt, effectAt, several}
+use Rattle.hir.specs.Words.{Part, wide, placeAt, effectAt, several, listedIf}
 use Rattle.hir.specs.declared.at.List.{List as Listed}
 use Rattle.hir.specs.declared.at.Instruction.{Instruction}
 use Rattle.workspace.specs.Layout.{LEAST}
@@ -46,7 +46,7 @@ instructionIs sheet i = record {
   valueLvalues = placesAt sheet (i .«value_lvalues») .what;
   operands = placesAt sheet (i .operands) .what;
   value = valueIs (i .value);
-  effects = effectsIn sheet (i .effects) .what;
+  effects = listedIf (i .listed) (effectsIn sheet (i .effects) .what);
 }
 
 -- fs are the inner functions of the sheet
@@ -63,6 +63,8 @@ pub record InstructionKnown (sheet ws : List ℕ) (fs : List InnerFunction) (i :
   pub valueLvalues : placesAt sheet (i .«value_lvalues») .next ≤ length sheet
   pub operands : placesAt sheet (i .operands) .next ≤ length sheet
   pub effects : effectsIn sheet (i .effects) .next ≤ length sheet
+  -- an absent list is kept as an empty one
+  pub present : listOf (instructionIs sheet i) ≡ effectsIn sheet (i .effects) .what
 
 -- the context places of inner function k stand in this list
 pub record ContextOf (sheet ws : List ℕ) (k : ℕ) (l : Listed) : Type 0 where

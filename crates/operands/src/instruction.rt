@@ -8,7 +8,7 @@ ghost use Rattle.hir.specs.Words.{instructionFrom, instructionsFrom};
 ghost use Rattle.writing.specs.Wrote.{Wrote, farthest};
 ghost use Rattle.operands.specs.Ranges.{Ranged};
 ghost use Rattle.operands.specs.Known.{InnerFunctions, instructionIs, InstructionKnown};
-ghost use Rattle.operands.specs.Instruction.{marksNow, ofInstructions, BelowOf, ValueMarked, AllStarted};
+ghost use Rattle.operands.specs.Instruction.{marksNow, ofInstructions, BelowOf, ValueMarked, AllStarted, ListedPassed};
 ghost use Rattle.operands.specs.Passes.{Passable, Passed};
 use crate::Section;
 use crate::contexts::context_of;
@@ -124,6 +124,17 @@ fn start_all(sheet: &[u32], i: Instruction, ws: &mut [u32])
     }
 }
 
+// What only an instruction with a list of effects does.
+fn pass_listed(sheet: &[u32], i: Instruction, ws: &mut [u32])
+    requires { ⌜ ((fs : InnerFunctions) × InstructionKnown (now sheet) (now ws) fs i) ⌝ }
+    ensures { λ _. ⌜ ListedPassed (now (sheet .entry)) i (now (ws .entry)) (now (ws .exit)) ⌝ }
+{
+    if i.listed {
+        mark_value(sheet, i, ws);
+        start_all(sheet, i, ws);
+    }
+}
+
 // An instruction.
 fn pass_instruction(
     sheet: &[u32],
@@ -139,8 +150,7 @@ fn pass_instruction(
     let i = instruction_at(sheet, from);
     name_all(sheet, i, ws);
     let to = put_instruction(sheet, i, section, ws, answer, at);
-    mark_value(sheet, i, ws);
-    start_all(sheet, i, ws);
+    pass_listed(sheet, i, ws);
     let effects = i.effects;
     Copied {
         at: to,

@@ -7,13 +7,13 @@ use mathlib.Core.List.{List, []}
 use lib.ListN.{length, drop, getD}
 use lib.Seq.{drop-length, drop-cons}
 use lib.Dec.{eqb}
-use Rattle.model.specs.Limits.{mostCount, mostOrder, mostLvalues, mostOperands, noOperands, mostTerminal, mostBlocks}
+use Rattle.model.specs.Limits.{mostCount, mostOrder, mostLvalues, mostOperands, noOperands, mostTerminal, mostBlocks, absentCount}
 use Rattle.model.specs.Lists.{each, among}
 use Rattle.model.specs.Sheet.{Place, Effect, Operand, Phi, Instruction, Terminal, BlockId}
-use Rattle.model.specs.Reading.{Position, got, refused, _>>=_, pure, Read, count, fixed, atMost, counted, numberedFrom, countedFrom}
+use Rattle.model.specs.Reading.{Position, got, refused, _>>=_, pure, Read, count, fixed, word, atMost, counted, optional, numberedFrom, countedFrom}
 use Rattle.model.specs.Sections.{place, effect as plainEffect, instructionValue}
 use Rattle.model.specs.Asking.{effect, effects, operand, phi, instruction, terminalOf, terminal, block, tellEffect, tellOperand, tellPhi, tellInstruction, tellTerminal, tellBlock}
-use Rattle.reading.specs.Judging.{Told, telling, judge, withRelation, tellKind, counting, terminalEffects, blocksOf}
+use Rattle.reading.specs.Judging.{Told, telling, judge, withRelation, tellKind, counting, instructionEffects, terminalEffects, blocksOf}
 use Rattle.reading.specs.Whole.{lengthOf, uses, judgedInstruction}
 use Rattle.reading.proofs.JudgeLaws.{result-case, judge-got, judge-refused, got-judged, refused-judged, then-got, then-refused, then-made}
 
@@ -76,6 +76,21 @@ unfolding telling tellBlock
 block-told n m x t u v ws c ps is g k = rw (g, k)
 
 module _ (n m : ℕ) (t : Told) (ws : List ℕ) (c : Position) where
+  -- the effects of an instruction: the word is the count of an absent list
+  pub absent-judged : (w : ℕ) (d : Position) → word ws c ≡ got w d → eqb w absentCount ≡ true → instructionEffects n m t ws c ≡ got t d
+  unfolding optional telling
+  absent-judged w d e h = rw (e, h) (rw e)
+
+  -- it counts
+  pub present-judged : (w : ℕ) (d : Position) → word ws c ≡ got w d → eqb w absentCount ≡ false → instructionEffects n m t ws c ≡ judge (effects counting false n m) (each (tellEffect counting false)) t ws c
+  unfolding optional telling
+  present-judged w d e h = result-case (effects counting false n m t ws c) (λ l i f. rw (e, h, f)) (λ k f. rw (e, h, f))
+
+  -- it is not there
+  pub missing-judged : (k : ℕ) → word ws c ≡ refused k → instructionEffects n m t ws c ≡ refused k
+  unfolding optional telling effects countedFrom count
+  missing-judged k e = rw e (rw e)
+
   -- an instruction: of its words before the effects nothing goes on
   pub instruction-judged : judge (instruction counting n m) (tellInstruction counting) t ws c ≡ judgedInstruction n m t ws c
   unfolding instruction judgedInstruction uses lengthOf telling
@@ -85,7 +100,7 @@ module _ (n m : ℕ) (t : Told) (ws : List ℕ) (c : Position) where
       (λ p d2 e2. result-case (counted mostLvalues (place n) ws d2)
       (λ ls d3 e3. result-case (counted mostOperands (place n) ws d3)
       (λ ps d4 e4. result-case (instructionValue n m ws d4)
-      (λ v d5 e5. result-case (effects counting false n m t ws d5)
+      (λ v d5 e5. result-case (optional (effects counting false n m t) ws d5)
       (λ l d6 e6. rw (e1, e2, e3, e4, e5, e6))
       (λ k e6. rw (e1, e2, e3, e4, e5, e6)))
       (λ k e5. rw (e1, e2, e3, e4, e5)))

@@ -4,7 +4,7 @@ use native.Mathlib.Omega.{arith}
 use mathlib.Core.Path.{_≡_, _∙_, refl}
 use mathlib.Core.List.{List, [], _∷_}
 use Rattle.model.specs.Lists.{gather, tally}
-use Rattle.model.specs.Sheet.{Effect, Instruction, Block, Sheet}
+use Rattle.model.specs.Sheet.{Effect, Instruction, listOf, Block, Sheet}
 use Rattle.model.specs.Totals.{instructionEffects}
 use Rattle.model.proofs.Stored.{tally-append}
 
@@ -15,10 +15,10 @@ module _ {A B : Type 0} (f : B → ℕ) (g : A → List B) where
 
 -- those of a list of instructions
 abbrev pub tallyIn : (Effect → ℕ) → List Instruction → ℕ
-tallyIn f = tally (λ (i : Instruction). tally f (i .effects))
+tallyIn f = tally (λ (i : Instruction). tally f (listOf i))
 
 pub tally-effects : (f : Effect → ℕ) (s : Sheet) → tally f (instructionEffects s) ≡ tally (λ (b : Block). tallyIn f (b .instructions)) (s .blocks)
 unfolding instructionEffects
 tally-effects f s =
-    tally-gather f (λ (b : Block). gather (λ (i : Instruction). i .effects) (b .instructions)) (s .blocks)
-    ∙ (λ j. tally (λ (b : Block). tally-gather f (λ (i : Instruction). i .effects) (b .instructions) j) (s .blocks))
+    tally-gather f (λ (b : Block). gather listOf (b .instructions)) (s .blocks)
+    ∙ (λ j. tally (λ (b : Block). tally-gather f listOf (b .instructions) j) (s .blocks))

@@ -9,7 +9,7 @@ use lib.Dec.{ltb}
 use borrow.Author.Tests.{ltb-true, ltb-false, lt-ltb, le-ltb}
 use Rattle.model.specs.Limits.{mostRelations, mostMutations, mostRenders}
 use Rattle.model.specs.Lists.{pick, each, tally, oneIf}
-use Rattle.model.specs.Sheet.{Effect, Operand, Phi, Instruction, Terminal, Other, Return, MaybeThrow, Block, Sheet}
+use Rattle.model.specs.Sheet.{Effect, Operand, Phi, Instruction, listOf, Terminal, Other, Return, MaybeThrow, Block, Sheet}
 use Rattle.model.specs.Effects.{Role, relation, mutation, render, diagnosis, nothing, rowOf, isApply, isAlias, isRelation, isMutation, isRender, isDiagnosis}
 use Rattle.model.specs.Totals.{withRole, aliasesIn, terminalRelations, blockRelations, totals, over}
 use Rattle.model.specs.Asking.{tellEffect, tellOperand, tellPhi, tellInstruction, tellTerminal, tellBlock}
@@ -155,8 +155,8 @@ alias-adds e t = go (isAlias (e .kind))
     go true = relation-more t
     go false = nothing-more t
 
-instruction-adds : Adds (tellInstruction counting) (λ (i : Instruction). sum ownEffect (i .effects))
-instruction-adds i t = each-adds (tellEffect counting false) ownEffect effect-adds (i .effects) t
+instruction-adds : Adds (tellInstruction counting) (λ (i : Instruction). sum ownEffect (listOf i))
+instruction-adds i t = each-adds (tellEffect counting false) ownEffect effect-adds (listOf i) t
 
 tally-length : {A : Type 0} (l : List A) → tally (λ (a : A). 1) l ≡ length l
 tally-length [] = refl
@@ -191,9 +191,9 @@ block-adds : Adds (tellBlock counting) ownBlock
 unfolding tellBlock blockRelations
 block-adds b t =
     let p : ℕ = tally (λ (p : Phi). length (p .operands)) (b .phis) in
-    let i : Told = sum (λ (i : Instruction). sum ownEffect (i .effects)) (b .instructions) in
+    let i : Told = sum (λ (i : Instruction). sum ownEffect (listOf i)) (b .instructions) in
     rw (each-relates (tellPhi counting) (λ (p : Phi). length (p .operands)) phi-adds (b .phis) t)
-    (rw (each-adds (tellInstruction counting) (λ (i : Instruction). sum ownEffect (i .effects)) instruction-adds (b .instructions) (add (related p) t))
+    (rw (each-adds (tellInstruction counting) (λ (i : Instruction). sum ownEffect (listOf i)) instruction-adds (b .instructions) (add (related p) t))
     (terminal-adds (b .terminal) (add i (add (related p) t)) ∙ gather p i (terminalRelations (b .terminal)) t))
 
 -- before the first block

@@ -1,14 +1,15 @@
 -- Reading that keeps no tree: what was read is told to running totals as it comes, and only they go on.
 -- Refusal 8 asks whether a total is over its limit, so a total stops one above it; of diagnoses and of Apply it is told only whether there is one.
 use Prim.Native.Nat.{ℕ, _+_}
-use mathlib.Core.Bool.{Bool, true}
+use mathlib.Core.Bool.{Bool, true, false}
 use mathlib.Core.List.{List, []}
+use mathlib.Core.Option.{Option}
 use lib.Dec.{ltb}
 use Rattle.model.specs.Limits.{mostBlocks, noOperands, mostRelations, mostMutations, mostRenders}
 use Rattle.model.specs.Lists.{pick, each}
-use Rattle.model.specs.Sheet.{EffectKind, Block}
+use Rattle.model.specs.Sheet.{EffectKind, EffectList, present, Block}
 use Rattle.model.specs.Effects.{Role, relation, mutation, render, diagnosis, nothing, rowOf, isApply, isAlias}
-use Rattle.model.specs.Reading.{Result, got, refused, Read, _>>=_, pure, count, fixed, numberedFrom}
+use Rattle.model.specs.Reading.{Result, got, refused, Read, _>>=_, pure, count, fixed, optional, numberedFrom}
 use Rattle.model.specs.Sections.{noQuestion, innerFunction}
 use Rattle.model.specs.Asking.{Asks, tellEffect, tellBlock, effects, block}
 
@@ -89,6 +90,10 @@ noTotals = record { relations = 0; mutations = 0; renders = 0; diagnoses = 0; ap
 -- what is counted while reading; nothing is asked
 abbrev pub counting : Asks
 counting = record { Tally = Told; none = noTotals; effect = tellKind; relation = withRelation; ask = λ t. noQuestion; inner = innerFunction }
+
+-- the effects of an instruction: an absent list has none
+abbrev pub instructionEffects : ℕ → ℕ → Told → Read Told
+instructionEffects n m t = judge (λ (u : Told). optional (effects counting false n m u)) (λ (l : Option EffectList). each (tellEffect counting false) (present l)) t
 
 -- the effects of a Return or a MaybeThrow, after which the count of operands "is 0"
 unfoldable pub terminalEffects : ℕ → ℕ → Told → Read Told

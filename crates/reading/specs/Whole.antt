@@ -1,6 +1,5 @@
 -- A whole sheet judged: the heading, the lists of places, an instruction, the blocks; and the verdict.
 use Prim.Native.Nat.{ℕ}
-use mathlib.Core.Bool.{false}
 use mathlib.Core.List.{List}
 use lib.ListN.{length}
 use lib.Dec.{ltb}
@@ -10,10 +9,10 @@ use Rattle.model.specs.Sheet.{Place, Block, Sheet}
 use Rattle.model.specs.Effects.{isDiagnosis}
 use Rattle.model.specs.Reading.{Result, got, refused, Read, _>>=_, pure, fixed, atMost, counted, timesFrom}
 use Rattle.model.specs.Sections.{flags, identifier, innerFunction, place, instructionValue}
-use Rattle.model.specs.Asking.{effects, tellEffect, tellBlock}
+use Rattle.model.specs.Asking.{tellBlock}
 use Rattle.model.specs.Totals.{withRole, Totals, totals}
 use Rattle.model.specs.Call.{applies}
-use Rattle.reading.specs.Judging.{mapResult, judge, Told, noTotals, counting, blocksOf}
+use Rattle.reading.specs.Judging.{mapResult, judge, Told, noTotals, counting, instructionEffects, blocksOf}
 
 module _ {A : Type 0} where
   -- a list of which only the length goes on
@@ -63,7 +62,7 @@ unfoldable pub judgedInstruction : ℕ → ℕ → Told → Read Told
 judgedInstruction n m t = do
   o ← atMost mostOrder
   u ← uses n m
-  judge (effects counting false n m) (each (tellEffect counting false)) t
+  instructionEffects n m t
 
 -- the sections in their order, with what refusal 8 counts
 unfoldable pub judgedSheet : Read Told

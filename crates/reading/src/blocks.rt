@@ -4,7 +4,7 @@ ghost use Rattle.model.specs.Lists.{each};
 ghost use Rattle.model.specs.Reading.{countedFrom};
 ghost use Rattle.model.specs.Asking.{effects, instruction, terminal, block, tellEffect, tellInstruction, tellTerminal, tellBlock};
 ghost use Rattle.model.specs.Limits.{mostCount};
-ghost use Rattle.reading.specs.Judging.{judge, counting, noTotals, terminalEffects, blocksOf};
+ghost use Rattle.reading.specs.Judging.{judge, counting, noTotals, instructionEffects, terminalEffects, blocksOf};
 ghost use Rattle.reading.specs.TotalsSays.{totalsAre, totalsSays};
 ghost use Rattle.reading.specs.Says.{cursorSays};
 ghost use Rattle.reading.specs.Whole.{uses};
@@ -18,6 +18,7 @@ use hir::PlaceStep;
 use hir::TerminalKind;
 use hir::ValueStep;
 use hir::WordStep;
+use hir::limits::ABSENT_COUNT;
 use hir::limits::MOST_BLOCKS;
 use hir::limits::MOST_COUNT;
 use hir::limits::MOST_LVALUES;
@@ -71,6 +72,21 @@ fn effects(start: Cursor, s: &[u32], n: u32, m: u32, terminal: bool, totals: Tot
     TotalsStep::Got(t, c)
 }
 
+// An instruction's effects, of which the list may be absent.
+fn instruction_effects(c: Cursor, s: &[u32], n: u32, m: u32, totals: Totals) -> TotalsStep
+    ensures { λ r. ⌜ totalsSays r ≡ instructionEffects n m (totalsAre totals) (now (s .entry)) (c .at) ⌝ }
+{
+    match c.word(s) {
+        WordStep::Got(count, d) => {
+            if count == ABSENT_COUNT {
+                return TotalsStep::Got(totals, d);
+            }
+            effects(c, s, n, m, false, totals)
+        }
+        WordStep::Refused(k) => TotalsStep::Refused(k),
+    }
+}
+
 // What stands between an instruction's order and its effects: lvalue, value lvalues, operands, value.
 fn uses(c: Cursor, s: &[u32], n: u32, m: u32) -> CursorStep
     ensures { λ r. ⌜ cursorSays r ≡ uses n m (now (s .entry)) (c .at) ⌝ }
@@ -96,7 +112,7 @@ fn instruction(c: Cursor, s: &[u32], n: u32, m: u32, totals: Totals) -> TotalsSt
 {
     match c.order(s) {
         OrderStep::Got(_, c1) => match uses(c1, s, n, m) {
-            CursorStep::Got(c2) => effects(c2, s, n, m, false, totals),
+            CursorStep::Got(c2) => instruction_effects(c2, s, n, m, totals),
             CursorStep::Refused(k2) => TotalsStep::Refused(k2),
         },
         OrderStep::Refused(k1) => TotalsStep::Refused(k1),

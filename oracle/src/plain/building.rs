@@ -258,7 +258,7 @@ pub fn build(sheet: &Sheet) -> Built {
         come.push(block.number);
 
         for instruction in &block.instructions {
-            for effect in &instruction.effects {
+            for effect in instruction.listed() {
                 built.instruction_effect(effect, instruction.order, errors);
             }
         }

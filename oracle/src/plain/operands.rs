@@ -1,4 +1,4 @@
-//! The pass over operands (order 4 of document 02): the effect on every operand, and the
+//! The pass over operands (orders 4 and 5 of document 02): the effect on every operand, and the
 //! ranges after it. From the original's "Part 2", in its order.
 
 use super::marked;
@@ -112,7 +112,16 @@ impl Passed {
             }
         }
 
-        let given = self.operand_effects(&instruction.effects, order);
+        let Some(effects) = &instruction.effects else {
+            // Without a list the instruction is left here: no start, no inner context and no
+            // store.
+            let lvalues = [&instruction.lvalue].into_iter().chain(&instruction.lvalues);
+            self.instructions.extend(lvalues.map(|place| marked(place, CONDITIONALLY_MUTATE)));
+            let operands = instruction.operands.iter();
+            self.instructions.extend(operands.map(|place| marked(place, READ)));
+            return;
+        };
+        let given = self.operand_effects(effects, order);
         self.instructions.push(given.mark(&instruction.lvalue, CONDITIONALLY_MUTATE));
         for lvalue in &instruction.lvalues {
             self.instructions.push(given.mark(lvalue, CONDITIONALLY_MUTATE));

@@ -10,6 +10,9 @@ pub const MAX_PLACES: u32 = 64;
 pub const MAX_BLOCKS: u32 = 256;
 pub const MAX_COUNT: u32 = 1_024;
 
+/// An instruction's effect count that means that the list is absent.
+pub const ABSENT: u32 = 4_294_967_295;
+
 pub const MAX_RANGE: u32 = 1_000_000;
 pub const MAX_TYPE: u32 = 2;
 pub const MAX_ORDER: u32 = 999_999;
@@ -99,7 +102,8 @@ pub struct Instruction {
     pub lvalues: Vec<Place>,
     pub operands: Vec<Place>,
     pub value: Value,
-    pub effects: Vec<Effect>,
+    /// None if the list is absent, which is not an empty one.
+    pub effects: Option<Vec<Effect>>,
 }
 
 impl Instruction {
@@ -111,8 +115,13 @@ impl Instruction {
             lvalues: Vec::new(),
             operands: Vec::new(),
             value: Value::Plain,
-            effects,
+            effects: Some(effects),
         }
+    }
+
+    /// The effects; an absent list has none.
+    pub fn listed(&self) -> &[Effect] {
+        self.effects.as_deref().unwrap_or(&[])
     }
 }
 
@@ -192,7 +201,7 @@ impl Sheet {
     pub fn effects_mut(&mut self) -> Vec<&mut Effect> {
         let mut all: Vec<&mut Effect> = Vec::new();
         for block in &mut self.blocks {
-            all.extend(block.instructions.iter_mut().flat_map(|i| &mut i.effects));
+            all.extend(block.instructions.iter_mut().flat_map(|i| &mut i.effects).flatten());
             match &mut block.terminal {
                 Terminal::Other { .. } => {}
                 Terminal::Return { effects, .. } | Terminal::MaybeThrow { effects, .. } => {
@@ -219,8 +228,8 @@ impl Sheet {
                 all.push(&mut instruction.lvalue);
                 all.extend(&mut instruction.lvalues);
                 all.extend(&mut instruction.operands);
-                let effects = &mut instruction.effects;
-                all.extend(effects.iter_mut().flat_map(|e| [&mut e.first, &mut e.second]));
+                let effects = instruction.effects.iter_mut().flatten();
+                all.extend(effects.flat_map(|e| [&mut e.first, &mut e.second]));
             }
             match &mut block.terminal {
                 Terminal::Other { operands, .. } => all.extend(operands),
@@ -239,7 +248,7 @@ impl Sheet {
     /// Whether Apply is among an instruction's effects.
     pub fn applies(&self) -> bool {
         let mut instructions = self.blocks.iter().flat_map(|b| &b.instructions);
-        instructions.any(|i| i.effects.iter().any(|e| e.kind == APPLY))
+        instructions.any(|i| i.listed().iter().any(|e| e.kind == APPLY))
     }
 
     /// Relation effects, mutations and renders.
@@ -249,7 +258,7 @@ impl Sheet {
             for phi in &block.phis {
                 totals.relations += phi.operands.len();
             }
-            for effect in block.instructions.iter().flat_map(|i| &i.effects) {
+            for effect in block.instructions.iter().flat_map(Instruction::listed) {
                 totals.relations += is_relation(effect.kind) as usize;
                 totals.mutations += is_mutation(effect.kind) as usize;
                 totals.renders += is_render(effect.kind) as usize;
@@ -320,7 +329,10 @@ fn put_block(words: &mut Vec<u32>, block: &Block) {
             Value::Function(function) => words.extend([1, function]),
             Value::StoreContext(identifier) => words.extend([2, identifier]),
         }
-        put_effects(words, &instruction.effects);
+        match &instruction.effects {
+            Some(effects) => put_effects(words, effects),
+            None => words.push(ABSENT),
+        }
     }
     match &block.terminal {
         Terminal::Other { order, operands } => {
@@ -471,6 +483,15 @@ impl Reader<'_> {
         self.times(count, Self::effect)
     }
 
+    /// The effects of an instruction, whose list can be absent.
+    fn instruction_effects(&mut self) -> Read<Option<Vec<Effect>>> {
+        if self.words.get(self.at) == Some(&ABSENT) {
+            self.at += 1;
+            return Ok(None);
+        }
+        self.effects().map(Some)
+    }
+
     /// A block number that is not among those before it.
     fn fresh_number(&mut self, before: &[u32]) -> Read<u32> {
         let number = self.at_most(MAX_BLOCK_NUMBER)?;
@@ -495,7 +516,7 @@ impl Reader<'_> {
         let lvalues = self.places()?;
         let operands = self.places()?;
         let value = self.value()?;
-        let effects = self.effects()?;
+        let effects = self.instruction_effects()?;
         Ok(Instruction { order, lvalue, lvalues, operands, value, effects })
     }
 

@@ -6,7 +6,7 @@ use service_host::text::Names;
 use service_host::{Answer, IdentifierId, MutableRange, Sheet};
 
 use crate::graph::{Graph, Mutation, MutationKind, Origin, Relation};
-use crate::operands::{Set, Use, pass};
+use crate::operands::{Passed, Set, Use, pass};
 use crate::walks::{Step, chain, walk_all};
 
 /// An identifier's range before and after, and what moved it.
@@ -18,6 +18,8 @@ pub struct Moved {
     /// What then set the start and the end in the pass over operands.
     pub start: Option<Set>,
     pub end: Option<Set>,
+    /// What would have set the end after that, had its instruction a list of effects.
+    pub not_stored: Option<Set>,
 }
 
 /// One for each identifier. Fails if the walks made here and the library's answer disagree.
@@ -52,8 +54,10 @@ pub fn explain(sheet: &Sheet, answer: &Answer) -> Result<Vec<Moved>, String> {
                 Some((mutation, chain))
             }
         };
-        let (start, end) = (passed[at].start, passed[at].end);
-        all.push(Moved { before: sheet.identifiers()[at].range, after, by, start, end });
+        let Passed { start, end, not_stored, .. } = passed[at];
+        let not_stored = not_stored.filter(|set| after.end <= set.order);
+        let before = sheet.identifiers()[at].range;
+        all.push(Moved { before, after, by, start, end, not_stored });
     }
     Ok(all)
 }
@@ -139,16 +143,16 @@ pub fn write(all: &[Moved], names: &Names) -> String {
         let mut put = |line: String| writeln!(text, "{line}").expect("a string takes every line");
         if before == after {
             put(format!("{}  {}..{}, not moved", name(id), before.start.0, before.end.0));
-            continue;
+        } else {
+            put(format!(
+                "{}  {}..{} -> {}..{}",
+                name(id),
+                before.start.0,
+                before.end.0,
+                after.start.0,
+                after.end.0
+            ));
         }
-        put(format!(
-            "{}  {}..{} -> {}..{}",
-            name(id),
-            before.start.0,
-            before.end.0,
-            after.start.0,
-            after.end.0
-        ));
         if let Some((mutation, chain)) = &moved.by {
             let mut here = name(mutation.identifier);
             put(format!(
@@ -173,6 +177,13 @@ pub fn write(all: &[Moved], names: &Names) -> String {
         }
         if let Some(set) = &moved.start {
             put(format!("    start {}: {}", after.start.0, reason(set, names)));
+        }
+        if let Some(Set { order, block, .. }) = &moved.not_stored {
+            put(format!(
+                "    end still {}: the instruction at {} in block {} has no list of effects, so \
+                 that its StoreContext stores nothing",
+                after.end.0, order.0, block.0
+            ));
         }
     }
     text
@@ -263,6 +274,55 @@ t  0..0 -> 3..4
     start 3: it was 0, and the instruction at 3 in block 4 has it as an lvalue
 ";
         assert_eq!(text, expected);
+    }
+
+    /// The same without lists: only the lvalues set something.
+    #[test]
+    fn no_use_without_a_list() {
+        let text = explained(
+            "identifier a\nidentifier b range 0 9\nidentifier c range 0 9\n\
+             identifier p range 0 9\nidentifier s range 1 3\nidentifier t\n\
+             function f context c\nreturns a\n\
+             block 4\nphi p\n\
+             instruction at 2 function f\noperand b\nno effects\n\
+             instruction at 3 StoreContext s\nlvalue t\noperand t\noperand s\nno effects\n\
+             terminal Other at 4\n",
+        );
+        let expected = "\
+a  0..0 -> 2..3
+    end 3: it was 0, and the instruction at 2 in block 4 has it as an lvalue
+    start 2: it was 0, and the instruction at 2 in block 4 has it as an lvalue
+b  0..9, not moved
+c  0..9, not moved
+p  0..9 -> 1..9
+    start 1: it was 0, and it is a phi of block 4, which begins at 2
+s  1..3, not moved
+    end still 3: the instruction at 3 in block 4 has no list of effects, so that its StoreContext stores nothing
+t  0..0 -> 3..4
+    end 4: it was 0, and the instruction at 3 in block 4 has it as an lvalue
+    start 3: it was 0, and the instruction at 3 in block 4 has it as an lvalue
+";
+        assert_eq!(text, expected);
+    }
+
+    /// A later store with a list: the one without is not spoken of.
+    #[test]
+    fn stored_after_all() {
+        let store = |order: u32, lists: &str| {
+            format!(
+                "instruction at {order} StoreContext s\nlvalue a\noperand a\noperand s\n{lists}"
+            )
+        };
+        let text = explained(&format!(
+            "identifier a\nidentifier s\nreturns a\nblock 0\n{}{}terminal Other at 9\n",
+            store(3, "no effects\n"),
+            store(5, ""),
+        ));
+        let expected = "\
+s  0..0 -> 0..6
+    end 6: the instruction at 5 in block 0 stores it by StoreContext
+";
+        assert!(text.ends_with(expected), "{text}");
     }
 
     /// The rules of an allowed chain, read off the plain implementation's graph.
@@ -433,7 +493,7 @@ t  0..0 -> 3..4
     fn an_answer_of_another_sheet_is_noticed() {
         let (sheet, _) = text::parse(include_str!("../../../../examples/case1.txt")).unwrap();
         let mut effects =
-            sheet.blocks().iter().flat_map(|b| &b.instructions).flat_map(|i| &i.effects);
+            sheet.blocks().iter().flat_map(|b| &b.instructions).flat_map(|i| i.listed_effects());
         assert!(effects.any(|e| e.kind() == EffectKind::MutateTransitive));
         let (other, _) = text::parse(
             "identifier a\nidentifier b\nidentifier c\nparam a\nreturns c\nblock 0\n\

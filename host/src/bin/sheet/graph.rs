@@ -112,7 +112,7 @@ impl Graph {
             come.push(number);
 
             for instruction in &block.instructions {
-                for &effect in &instruction.effects {
+                for &effect in instruction.listed_effects() {
                     let order = instruction.order;
                     let origin = Origin::Instruction { effect, order, block: number };
                     graph.instruction_effect(&effect, order, origin);

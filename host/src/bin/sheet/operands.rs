@@ -1,4 +1,4 @@
-//! The pass over operands (document 02, order 4), as far as it is about ranges, where each start
+//! The pass over operands (document 02, orders 4 and 5), as far as it is about ranges, where each start
 //! and each end also knows from which part of the sheet it comes.
 
 use service_host::{
@@ -34,6 +34,8 @@ pub struct Passed {
     pub range: MutableRange,
     pub start: Option<Set>,
     pub end: Option<Set>,
+    /// The last StoreContext that would have moved the end, but has no list of effects.
+    pub not_stored: Option<Set>,
 }
 
 impl Passed {
@@ -56,6 +58,7 @@ pub fn pass(sheet: &Sheet, ends: &[EvaluationOrder]) -> Vec<Passed> {
         range: MutableRange { end, ..identifier.range },
         start: None,
         end: None,
+        not_stored: None,
     });
     let mut all: Vec<Passed> = ranges.collect();
     let at = |id: IdentifierId| id.0 as usize;
@@ -78,6 +81,17 @@ pub fn pass(sheet: &Sheet, ends: &[EvaluationOrder]) -> Vec<Passed> {
                     passed.end(set(Use::Lvalue));
                 }
             }
+            let stored = match instruction.value {
+                InstructionValue::StoreContext(id) if all[at(id)].range.end <= order => Some(id),
+                _ => None,
+            };
+            // Without a list the instruction is left here.
+            if instruction.effects.is_none() {
+                if let Some(id) = stored {
+                    all[at(id)].not_stored = Some(set(Use::StoreContext));
+                }
+                continue;
+            }
             let mut operands: Vec<_> =
                 instruction.operands.iter().map(|place| (place, Use::Operand)).collect();
             if let InstructionValue::Function(id) = instruction.value {
@@ -90,9 +104,7 @@ pub fn pass(sheet: &Sheet, ends: &[EvaluationOrder]) -> Vec<Passed> {
                     passed.begin(order, set(by));
                 }
             }
-            if let InstructionValue::StoreContext(id) = instruction.value
-                && all[at(id)].range.end <= order
-            {
+            if let Some(id) = stored {
                 all[at(id)].end(set(Use::StoreContext));
             }
         }

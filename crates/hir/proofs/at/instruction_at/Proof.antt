@@ -4,7 +4,7 @@ use mathlib.Core.Path.{sym, subst, _∙_}
 use lib.ListN.{length}
 use Rattle.hir.specs.Words.{valueFrom}
 use Rattle.model.specs.Reading.{Position}
-use Rattle.hir.proofs.Values.{list-as, value-as, list-end, lvalues-inside, operands-inside, value-inside, effects-inside}
+use Rattle.hir.proofs.Values.{list-as, value-as, effects-as, list-end, lvalues-inside, operands-inside, value-inside, effects-inside}
 use Rattle.hir.proofs.at.instruction_at.Statement.{statement}
 use Rattle.hir.proofs.at.instruction_at.Tie as tie
 
@@ -49,8 +49,8 @@ value-at-requires c κs =
     subst (λ (x : Position). valueFrom (b .args .s .now) x .next ≤ length (b .args .s .now)) (sym (c .past-places2 .ensures ∙ list-end _ _ l))
     (omega (arith, effects-inside (b .args .s .now) (b .args .at) (b .pre)))
 
-list-at-requires-3 : tie.Need-list-at-requires-3
-list-at-requires-3 c κs =
+effects-at-requires : tie.Need-effects-at-requires
+effects-at-requires c κs =
     let b = c .before .before .before .before .before .before .before .before in
     let first = c .before .before .before .before .list-at .ensures in
     let l = list-as (c .before .before .list-at2 .ensures) (c .before .before .before .past-places .ensures ∙ list-end _ _ first) in
@@ -59,16 +59,17 @@ list-at-requires-3 c κs =
 
 returns : tie.Need-returns
 returns c =
-    let first = c .before .before .before .before .before .list-at .ensures in
-    let l = list-as (c .before .before .before .list-at2 .ensures) (c .before .before .before .before .past-places .ensures ∙ list-end _ _ first) in
-    let v = value-as (c .before .value-at .ensures) (c .before .before .past-places2 .ensures ∙ list-end _ _ l) in
+    let b = c .before in
+    let first = b .before .before .before .before .before .list-at .ensures in
+    let l = list-as (b .before .before .before .list-at2 .ensures) (b .before .before .before .before .past-places .ensures ∙ list-end _ _ first) in
+    let v = value-as (b .before .value-at .ensures) (b .before .before .past-places2 .ensures ∙ list-end _ _ l) in
     record {
-      order = c .before .before .before .before .before .before .before .order-at .ensures;
-      lvalue = c .before .before .before .before .before .before .place-at .ensures;
+      order = b .before .before .before .before .before .before .before .order-at .ensures;
+      lvalue = b .before .before .before .before .before .before .place-at .ensures;
       valueLvalues = first;
       operands = l;
       value = v .value;
-      effects = list-as (c .list-at3 .ensures) (v .next);
+      effects = effects-as (b .effects-at .ensures) (v .next);
     }
 
 pub instruction-at-spec : {M : Type 1} → statement M
@@ -85,5 +86,5 @@ instruction-at-spec =
     list-at-requires-2
     past-places-requires-2
     value-at-requires
-    list-at-requires-3
+    effects-at-requires
     returns)

@@ -1,7 +1,7 @@
 use native.Mathlib.Omega.{arith}
 use mathlib.Core.Path.{refl}
 use Rattle.operands.proofs.Instructions.{instruction-end, instruction-few, instruction-known, instruction-known-kept, instruction-passed}
-use Rattle.operands.proofs.InstructionValues.{kept-ranges, kept-contexts}
+use Rattle.operands.proofs.InstructionValues.{kept-ranges}
 use borrow.Author.Needs.{needs}
 use Rattle.operands.proofs.instruction.pass_instruction.Statement.{statement}
 use Rattle.operands.proofs.instruction.pass_instruction.Tie as tie
@@ -24,34 +24,25 @@ put-instruction-requires c κs =
     let known = instruction-known-kept (kept-ranges (b4 .name-all .ensures .kept)) (instruction-known (b6 .instruction-at .ensures) (b10 .pre .inside) (b10 .pre .ready)) in
     ((b10 .pre .functions, known), omega (arith, instruction-few (b6 .instruction-at .ensures), b10 .pre .inside, b10 .pre .room))
 
-mark-value-requires : tie.Need-mark-value-requires
-mark-value-requires c κs =
+pass-listed-requires : tie.Need-pass-listed-requires
+pass-listed-requires c κs =
     let b8 = c .before .before .before .before .before .before .before .before in
     let b10 = b8 .before .before in
     let b14 = b10 .before .before .before .before in
     (b14 .pre .functions, instruction-known-kept (kept-ranges (b8 .name-all .ensures .kept)) (instruction-known (b10 .instruction-at .ensures) (b14 .pre .inside) (b14 .pre .ready)))
 
-start-all-requires : tie.Need-start-all-requires
-start-all-requires c κs =
-    let b3 = c .before .before .before in
-    let b12 = b3 .before .before .before .before .before .before .before .before .before in
-    let b14 = b12 .before .before in
-    let b18 = b14 .before .before .before .before in
-    let named = instruction-known-kept (kept-ranges (b12 .name-all .ensures .kept)) (instruction-known (b14 .instruction-at .ensures) (b18 .pre .inside) (b18 .pre .ready)) in
-    (b18 .pre .functions, instruction-known-kept (kept-contexts (b3 .mark-value .ensures .kept)) named)
+cast-t19 : tie.Need-cast-t19
+cast-t19 c = search needs
 
-cast-t21 : tie.Need-cast-t21
-cast-t21 c = search needs
-
-mul-t22 : tie.Need-mul-t22
-mul-t22 c = search needs
+mul-t20 : tie.Need-mul-t20
+mul-t20 c = search needs
 
 -- the sheet's length fits: `good`
-add-t23 : tie.Need-add-t23
-add-t23 c =
-    let b20 = c .before .before .before .before .before .before .before .before .before .before .before .before .before .before .before .before .before .before .before .before in
-    let b24 = b20 .before .before .before .before in
-    omega (arith, instruction-end (b20 .instruction-at .ensures), b24 .pre .inside, b24 .good)
+add-t21 : tie.Need-add-t21
+add-t21 c =
+    let b16 = c .before .before .before .before .before .before .before .before .before .before .before .before .before .before .before .before in
+    let b20 = b16 .before .before .before .before in
+    omega (arith, instruction-end (b16 .instruction-at .ensures), b20 .pre .inside, b20 .good)
 
 same-length : tie.Need-same-length
 same-length c = search needs
@@ -63,12 +54,10 @@ returns : tie.Need-returns
 returns c =
     let b5 = c .before .before .before .before .before in
     let b9 = b5 .before .before .before .before in
-    let b13 = b9 .before .before .before .before in
-    let b18 = b13 .before .before .before .before .before in
-    let b20 = b18 .before .before in
-    let b24 = b20 .before .before .before .before in
-    instruction-passed _ (b20 .instruction-at .ensures) (b24 .pre .inside)
-    (b18 .name-all .ensures) (b13 .put-instruction .ensures) (b9 .mark-value .ensures) (b5 .start-all .ensures) refl
+    let b14 = b9 .before .before .before .before .before in
+    let b16 = b14 .before .before in
+    let b20 = b16 .before .before .before .before in
+    instruction-passed _ (b16 .instruction-at .ensures) (b20 .pre .inside) (b14 .name-all .ensures) (b9 .put-instruction .ensures) (b5 .pass-listed .ensures) refl
 
 pub pass-instruction-spec : {M : Type 1} → statement M
 pass-instruction-spec =
@@ -77,11 +66,10 @@ pass-instruction-spec =
     instruction-at-requires
     name-all-requires
     put-instruction-requires
-    mark-value-requires
-    start-all-requires
-    cast-t21
-    mul-t22
-    add-t23
+    pass-listed-requires
+    cast-t19
+    mul-t20
+    add-t21
     same-length
     same-length-2
     returns)

@@ -19,8 +19,8 @@ uses-requires c κs = search needs
 enum-known-c2 : tie.Need-enum-known-c2
 enum-known-c2 c = search needs
 
-effects-requires : tie.Need-effects-requires
-effects-requires c κs = search needs
+instruction-effects-requires : tie.Need-instruction-effects-requires
+instruction-effects-requires c κs = search needs
 
 enum-known-k2 : tie.Need-enum-known-k2
 enum-known-k2 c = search needs
@@ -38,7 +38,7 @@ returns c =
       instruction-judged _ _ _ _ _,
       says orderSays (b6 .c1 .given .1) (b8 .order .ensures),
       says cursorSays (c .before .before .c2 .given .1) (b4 .uses .ensures),
-    ) (c .effects .ensures)
+    ) (c .instruction-effects .ensures)
 
 returns-2 : tie.Need-returns-2
 unfolding judgedInstruction
@@ -69,7 +69,7 @@ instruction-spec =
     enum-known-c1
     uses-requires
     enum-known-c2
-    effects-requires
+    instruction-effects-requires
     enum-known-k2
     enum-known-k1
     returns
