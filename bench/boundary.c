@@ -1,8 +1,8 @@
-/* boundary LOADS ANSWERS..
+/* boundary LOADS DRAWINGS ANSWERS..
  *
- * Calls with known outcomes (the file of `oracle/run --sheets-to loads` and those of `--sheets-to
- * answers`), each in buffers of exactly the words that are lent and with rubbish, or nothing, in
- * them. Run under valgrind, which sees every word that the library touches outside, and every branch
+ * Calls with known outcomes (the files of `oracle/run --sheets-to loads` and `--sheets-to drawings` and
+ * those of `--sheets-to answers`), each in buffers of exactly the words or bytes that are lent and with
+ * rubbish, or nothing, in them. Run under valgrind, which sees every word that the library touches outside, and every branch
  * on a word never written. */
 #include <stdio.h>
 #include <stdlib.h>
@@ -36,8 +36,17 @@ static int zeros(const uint32_t *words, size_t count) {
     return 1;
 }
 
+static int zero_bytes(const uint8_t *bytes, size_t count) {
+    for (size_t i = 0; i < count; i++) {
+        if (bytes[i] != 0) {
+            return 0;
+        }
+    }
+    return 1;
+}
+
 static struct ServiceState state;
-static unsigned long calls, accepted, loads;
+static unsigned long calls, accepted, loads, drawings, drawn;
 
 /* A record: sheet, workspace length, answer room, refusal, answer; lists after their length.
  * Returns where the next one begins. */
@@ -95,6 +104,38 @@ static const uint32_t *replay_load(const uint32_t *at) {
     return at + length;
 }
 
+/* A record of a drawing: sheet, workspace length, room in bytes, refusal, length in bytes, the bytes in
+ * whole words. */
+static const uint32_t *replay_drawing(const uint32_t *at) {
+    size_t sheet_words = *at++;
+    uint32_t *sheet = malloc(sheet_words * 4);
+    memcpy(sheet, at, sheet_words * 4);
+    at += sheet_words;
+    size_t workspace_words = *at++;
+    size_t room = *at++;
+    uint32_t refusal = *at++;
+    size_t length = *at++;
+
+    /* Never written, as above. */
+    uint32_t *workspace = malloc(workspace_words * 4);
+    uint8_t *text = malloc(room);
+    struct Reply reply = service_dot(sheet, sheet_words, workspace, workspace_words, text, room);
+    int right = reply.refusal == refusal && reply.serial == 0 && reply.length == length &&
+                memcmp(text, at, length) == 0 && zero_bytes(text + length, room - length) &&
+                zeros(workspace, workspace_words) &&
+                memcmp(sheet, at - 4 - sheet_words, sheet_words * 4) == 0;
+    free(sheet);
+    free(workspace);
+    free(text);
+    if (!right) {
+        printf("drawing %lu differs\n", drawings);
+        exit(1);
+    }
+    drawings++;
+    drawn += refusal == 0;
+    return at + (length + 3) / 4;
+}
+
 /* Every record of a file. */
 static void replay_all(const char *name, const uint32_t *(*record)(const uint32_t *)) {
     size_t words;
@@ -109,9 +150,10 @@ int main(int count, char **names) {
     state = service_new();
     state.next = UINT32_MAX - 100;
     for (int i = 1; i < count; i++) {
-        replay_all(names[i], i == 1 ? replay_load : replay);
+        replay_all(names[i], i == 1 ? replay_load : i == 2 ? replay_drawing : replay);
     }
-    printf("%lu calls as expected, %lu of them accepted; %lu calls for class loads\n", calls,
-           accepted, loads);
+    printf("%lu calls as expected, %lu of them accepted; %lu calls for class loads; %lu for drawings, "
+           "%lu of them drawn\n",
+           calls, accepted, loads, drawings, drawn);
     return 0;
 }

@@ -719,6 +719,68 @@ def loads():
     check(sum(len(line.split()) - 1 for line in said) <= 47 + 2 * 300 + 4 * 400, True, "the answer's length")
 
 
+# ---- drawings
+
+FIRST, NODE, EDGE, LAST = (row[0].strip("`") for row in table("lines, in this order"))
+LABEL = {}
+for row in table("word of a label"):
+    kinds = re.match(r"kinds? ([\d, and]+)", row[1])[1]
+    LABEL |= {int(kind): row[0].strip("`") for kind in re.findall(r"\d+", kinds)}
+
+
+def drawing(nodes, edges):
+    """Edges are [from, into, kind, index], in the order in which they were stored."""
+    lines = [FIRST] + [NODE.replace("0", str(node)) for node in sorted(nodes)]
+    for source, into, kind, index in sorted(edges, key=lambda edge: edge[0]):
+        parts = {"n0": f"n{source}", "n1": f"n{into}", '"capture 0"': f'"{LABEL[kind]} {index}"'}
+        lines.append(re.sub("|".join(parts), lambda part: parts[part[0]], EDGE))
+    return "".join(line + "\n" for line in lines + [LAST])
+
+
+def load_graph(n, words):
+    """The nodes and edges of a class load's words: effects of sixteen words behind the head."""
+    nodes, edges, head = {0, n - 1}, [], 18 + 3 * n
+    for index, at in enumerate(range(head, len(words) - 3, 16)):
+        kind, source, into = words[at + 8], words[at + 9], words[at + 12]
+        if kind == KIND["CreateFrom"]:
+            edges = [edge for edge in edges if edge[0] != into]
+        if kind in (KIND["CreateFrom"], KIND["Assign"]):
+            nodes.add(into)
+        if kind in LABEL and {source, into} <= nodes:
+            edges.append([source, into, kind, index])
+    return nodes, edges
+
+
+def drawn(words):
+    out = run([TOOL, "dot", "-"], bytes_of(words))
+    refused = re.search(r"refused (\d+): ", out.stderr.decode())
+    return int(refused[1]) if refused else out.stdout.decode()
+
+
+def drawings():
+    check(sorted(LABEL), [5, 6, 7, 8, 10], "the kinds that have a label")
+    for seed, n, m in ((0, 2, 1), (1, 3, 4), (2026, 4, 6), (7, 12, 300), (9, 512, 512), (2**32 - 1, 97, 31)):
+        words = load(seed, n, m)
+        check(drawn(words), drawing(*load_graph(n, words)), f"the drawing of the class load {seed} {n} {m}")
+
+    def in_one(*effects, phis=(), end=other(9)):
+        return sheet([(0, 0, "Other")] * 3, place(1), [block(0, list(phis), [instruction(1, *effects)], end)], params=[place(0)])
+
+    alias = effect("Alias", place(0), place(1))
+    waits = in_one(alias, phis=[phi(place(2), (0, place(0)))])
+    check(drawn(waits), drawing([0, 1, 2], [[0, 1, 6, 1], [0, 2, 6, 0]]), "an operand that waits")
+    returns = in_one(effect("Capture", place(0), place(1)), end=returned(9, place(0)))
+    check(drawn(returns), drawing([0, 1], [[0, 1, 5, 0], [0, 1, 6, 1]]), "Return is an alias")
+    again = in_one(alias, effect("Alias", place(1), place(0)), create(place(1), "Mutable", "Other"), effect("MaybeAlias", place(2), place(0)))
+    check(drawn(again), drawing([0, 1], [[0, 1, 6, 0]]), "created again, and a relation of no node")
+    check(drawn(in_one(effect("Apply"), alias)), drawing([0, 1], [[0, 1, 6, 0]]), "Apply is drawn")
+    check(drawn(in_one(alias) + [0]), 7, "a drawing refused")
+    check(drawn(in_one(*[effect("Render", place(0))] * 257)), 8, "another")
+    longest = [len(drawing([], [[500, 511, 5, 1_791]])), len(drawing([511], [])), len(drawing([], []))]
+    most = longest[2] + 1_024 * (longest[0] - longest[2]) + 512 * (longest[1] - longest[2])
+    check(f"{most:,} bytes with the first and the last line" in TEXT, True, f"the longest drawing is {most:,} bytes")
+
+
 if __name__ == "__main__":
     if sys.argv[1:2] == ["--write"] and len(sys.argv) == 3:
         with open(sys.argv[2], "wb") as out:
@@ -727,6 +789,6 @@ if __name__ == "__main__":
     if len(sys.argv) not in (2, 3):
         sys.exit(__doc__)
     TOOL, RANGES = (sys.argv[1:] + [None])[:2]
-    for test in (page_example, every_part, names, limits, refusals, longest, loads):
+    for test in (page_example, every_part, names, limits, refusals, longest, loads, drawings):
         test()
     print(f"format: passed, with the tool{' and the program' if RANGES else ''}")

@@ -3,8 +3,9 @@
  * Link with target/staticlib/libservice.a, which `rt staticlib service` writes (x86-64).
  *
  * A host keeps one struct ServiceState and lends it, a workspace and an answer buffer to every
- * call. The library keeps nothing, allocates nothing and returns for every sheet, whatever its
- * words are. Calls over different states and buffers may run at once.
+ * call; class loads and drawings need no state. The library keeps nothing, allocates nothing and
+ * returns for every sheet, whatever its words are. Calls over different states and buffers may run
+ * at once.
  *
  * docs/FORMAT.md describes the words of a sheet and of an answer. Every macro and every constant
  * here begins with SERVICE_.
@@ -40,6 +41,11 @@ extern "C" {
 #define SERVICE_LEAST_LOAD_EFFECTS 1
 #define SERVICE_MOST_LOAD_EFFECTS 512
 #define SERVICE_MOST_LOAD 9749
+
+/* How many bytes a drawing (service_dot) has at most: its first and last line, a line of at most 8 for
+ * each of 512 identifiers, and one of at most 39 for each of 1,024 relations, whose index has at most
+ * four digits. That is counted, not proved: where a call is refused 9 all the same, lend more. */
+#define SERVICE_MOST_DRAWING 44046
 
 /* Why a call was refused. The lower number is checked first, but 3 to 6 come from one reading from
  * left to right, where the first faulty word decides, and 10 comes before 9. */
@@ -171,9 +177,10 @@ struct Reply {
     /* One of enum ServiceRefusal: 0 if the call was accepted. */
     uint32_t refusal;
     /* The accepted call's serial: `next` as it was before. After 4,294,967,295 comes 0. It is 0 for
-     * a refusal, and for a class load, which has none. */
+     * a refusal, and for a class load and a drawing, which have none. */
     uint32_t serial;
-    /* How many words the answer, or the class load, has; 0 for a refusal. */
+    /* How many words the answer, or the class load, has, or how many bytes the drawing; 0 for a
+     * refusal. */
     size_t length;
 };
 
@@ -204,6 +211,23 @@ struct Reply service_infer(struct ServiceState *state,
  * words. `sheet` is not NULL and has as many words as said. */
 struct Reply service_load(uint32_t seed, uint32_t identifiers, uint32_t effects,
                           uint32_t *sheet, size_t sheet_words);
+
+/* A drawing: the graph of a sheet as a DOT file, which Graphviz draws. `text` has the line
+ * `digraph g {`, a line like `  n0;` for each node in rising identifier, a line like
+ * `  n0 -> n1 [label="capture 0"];` for each forward edge, by node and in the order in which they are
+ * stored (capture, alias or maybe, and the index), and the line `}`. Every line ends in one line feed.
+ * `length` says how many bytes that is; there is no byte 0 at the end of a text that fills its buffer.
+ *
+ * The sheet is refused with 1 to 8 as by service_infer, and 9 if fewer bytes are lent than the text
+ * has; Apply (10) is no refusal here. There is no serial, so that `serial` is 0. Afterwards the whole
+ * workspace is 0, and so is `text` from `length` on, all of it after a refusal; what they held before
+ * does not matter.
+ *
+ * No pointer is NULL. The sheet and the workspace have as many words as said, the text as many bytes,
+ * and neither of the last two overlaps the other or the sheet. */
+struct Reply service_dot(const uint32_t *sheet, size_t sheet_words,
+                         uint32_t *workspace, size_t workspace_words,
+                         uint8_t *text, size_t text_bytes);
 
 /* A new state: its first serial is 0. */
 struct ServiceState service_new(void);

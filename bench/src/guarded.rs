@@ -79,6 +79,15 @@ impl Guarded {
         let room = self.room();
         &mut self.words_mut()[room - count..]
     }
+
+    /// The last bytes, right before the forbidden page.
+    pub fn last_bytes_mut(&mut self, count: usize) -> &mut [u8] {
+        let words = self.words_mut();
+        let bytes = 4 * words.len();
+        // SAFETY: these are the bytes of the words, borrowed mutably with them.
+        let all = unsafe { std::slice::from_raw_parts_mut(words.as_mut_ptr().cast(), bytes) };
+        &mut all[bytes - count..]
+    }
 }
 
 impl Drop for Guarded {

@@ -7,7 +7,7 @@
 //! - same job: the original from the sheet's words to the answer's words, its HIR built on the way.
 //! - analysis: the original's pass alone, its HIR built before.
 //!
-//! Class loads are timed alone: the original makes none.
+//! Class loads and drawings are timed alone: the original makes none.
 
 use std::time::{Duration, Instant};
 
@@ -18,6 +18,7 @@ use oracle::generate::{self, LIMITS};
 use oracle::load::Load;
 use oracle::original_side::carries;
 use oracle::plain;
+use oracle::plain::dot::judge;
 use oracle::plain::sheet::Sheet;
 use oracle::random::Random;
 use service_host::{ffi, first_lent};
@@ -301,6 +302,29 @@ fn class_loads(rounds: usize) {
     println!();
 }
 
+/// Drawings of class loads of the same sizes, in as many bytes as they have. No time is asked of them.
+fn drawings(rounds: usize) {
+    println!("## Drawings\n");
+    println!("| identifiers | effects | bytes | µs a drawing | spread |");
+    println!("|---|---|---|---|---|");
+    for (n, m) in [(2, 1), (64, 64), (512, 512)] {
+        let sheet = Load { seed: 1, n, m }.sheet().words();
+        let expected = judge(&sheet).expect("a class load is drawn");
+        let mut workspace = vec![0; ffi::least_workspace()];
+        let mut text = vec![0; expected.len()];
+        let mut times = Times::default();
+        for _ in 0..rounds {
+            let (taken, reply) = time(|| ffi::dot(&sheet, &mut workspace, &mut text));
+            assert_eq!((reply.refusal, reply.length), (0, text.len()));
+            assert_eq!(text, expected);
+            times.0.push(taken);
+        }
+        let (median, spread) = (micro(times.median()), 100.0 * times.spread());
+        println!("| {n} | {m} | {} | {median} | {spread:.0}% |", text.len());
+    }
+    println!();
+}
+
 /// How busy the machine is: above the number of its cores, the times say little.
 fn load(when: &str) -> String {
     let load = std::fs::read_to_string("/proc/loadavg").unwrap_or_default();
@@ -328,6 +352,7 @@ fn main() {
     worst(&mut bench, &mut asked);
     doublings(&mut bench);
     class_loads(rounds);
+    drawings(rounds);
     println!("{}", load("ends"));
     println!("## What is asked\n\n{}", asked.join("\n"));
 }

@@ -17,9 +17,10 @@ pub struct ServiceState {
 pub struct Reply {
     /// The refusal's number, or 0.
     pub refusal: u32,
-    /// The serial of an accepted call, else 0; a class load has none.
+    /// The serial of an accepted call, else 0; a class load and a drawing have none.
     pub serial: u32,
-    /// How many words the answer, or the class load, has, from the first word of its buffer on.
+    /// How many words the answer, or the class load, has, from the first word of its buffer on; how
+    /// many bytes a drawing has.
     pub length: usize,
 }
 
@@ -49,6 +50,14 @@ unsafe extern "C" {
         effects: u32,
         sheet: *mut u32,
         sheet_words: usize,
+    ) -> Reply;
+    fn service_dot(
+        sheet: *const u32,
+        sheet_words: usize,
+        workspace: *mut u32,
+        workspace_words: usize,
+        text: *mut u8,
+        text_bytes: usize,
     ) -> Reply;
     safe fn service_new() -> ServiceState;
     safe fn service_least_workspace() -> usize;
@@ -83,6 +92,23 @@ pub fn load(seed: u32, identifiers: u32, effects: u32, sheet: &mut [u32]) -> Rep
     // SAFETY: the pointer is that of a live slice with the length beside it, borrowed mutably. The
     // function asks nothing more.
     unsafe { service_load(seed, identifiers, effects, sheet.as_mut_ptr(), sheet.len()) }
+}
+
+/// A drawing into a lent buffer of bytes. After it the whole workspace is 0, and so is the buffer from
+/// `length` on.
+pub fn dot(sheet: &[u32], workspace: &mut [u32], text: &mut [u8]) -> Reply {
+    // SAFETY: each pointer is that of a live slice with the length beside it; those that are
+    // written are borrowed mutably, so that no two overlap. The function asks nothing more.
+    unsafe {
+        service_dot(
+            sheet.as_ptr(),
+            sheet.len(),
+            workspace.as_mut_ptr(),
+            workspace.len(),
+            text.as_mut_ptr(),
+            text.len(),
+        )
+    }
 }
 
 /// A new state.

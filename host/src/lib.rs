@@ -38,6 +38,7 @@
 //! - [`Sheet`] and [`SheetBuilder`]: a sheet as typed parts, to and from words.
 //! - [`text`]: a sheet as text that people read and write.
 //! - [`ClassLoad`]: a sheet from a seed, the same everywhere.
+//! - [`Service::dot`]: a sheet's graph as a DOT file, for Graphviz.
 //! - [`ffi`]: the library's functions as they are, for hosts that lend their own buffers.
 
 #![deny(missing_docs)]

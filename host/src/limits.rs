@@ -1,5 +1,5 @@
-//! The limits of a sheet, of an answer and of a class load. `docs/FORMAT.md` of the repository has them
-//! all.
+//! The limits of a sheet, of an answer, of a class load and of a drawing. `docs/FORMAT.md` of the
+//! repository has them all.
 
 use std::ops::RangeInclusive;
 
@@ -46,6 +46,11 @@ pub const LOAD_EFFECTS: RangeInclusive<u32> = 1..=512;
 /// Of words of a class load: with so many lent, none is refused 9.
 pub const LOAD: usize =
     21 + 3 * *LOAD_IDENTIFIERS.end() as usize + 16 * *LOAD_EFFECTS.end() as usize;
+
+/// Of bytes of a drawing, see [`Service::dot`](crate::Service::dot): its first and last line, a line of
+/// at most 8 bytes for each identifier, and one of at most 39 for each relation, whose index has at
+/// most four digits. That is counted, not proved.
+pub const DRAWING: usize = 12 + 8 * IDENTIFIERS + 39 * RELATIONS + 2;
 
 /// Of words of an answer: no sheet has a longer one. Ten counts and the records of each section,
 /// every section as long as it can be alone, but the places of the last four as many together as

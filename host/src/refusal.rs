@@ -30,11 +30,11 @@ pub enum Refusal {
     WordsFollow = 7,
     /// The sheet has over 1,024 relation effects, 512 mutations or 256 renders.
     Totals = 8,
-    /// The answer buffer is shorter than the answer, or the words lent for a class load are fewer than
-    /// it has. Comes from [`Service`](crate::Service) only where it was given a longest answer, and
-    /// never from [`ClassLoad`](crate::ClassLoad).
+    /// The answer buffer is shorter than the answer, or fewer words are lent than a class load has, or
+    /// fewer bytes than a drawing. Comes from [`Service`](crate::Service) only where it was given a
+    /// longest answer, and never from [`ClassLoad`](crate::ClassLoad) or for a drawing.
     ShortAnswer = 9,
-    /// Apply is among an instruction's effects.
+    /// Apply is among an instruction's effects. A drawing does not mind it.
     Apply = 10,
 }
 

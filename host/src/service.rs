@@ -8,6 +8,9 @@ use crate::refusal::Refusal;
 /// Words of the answer buffer that stay allocated between calls.
 const KEPT_ANSWER: usize = 1 << 16;
 
+/// Bytes of text that are lent first for a drawing.
+const FIRST_TEXT: usize = 1 << 12;
+
 /// How many words of answer are lent first for a sheet of so many words.
 pub fn first_lent(sheet_words: usize) -> usize {
     sheet_words.clamp(1 << 11, limits::WORDS)
@@ -73,6 +76,38 @@ impl Service {
         match reply.refusal {
             0 => Ok(Answer::new(reply.serial, &self.answer[..reply.length])),
             number => Err(Refusal::of_library(number)),
+        }
+    }
+
+    /// The graph of a sheet as a DOT file, which Graphviz draws: a line for each node, then one for
+    /// each relation, with its kind and its index. Refused is what [`Service::infer`] refuses, but for
+    /// an Apply among an instruction's effects, which is drawn as if it were not there. A drawing
+    /// takes no serial.
+    ///
+    /// ```
+    /// let (sheet, _) = service_host::text::parse(
+    ///     "identifier props\nidentifier list\nparam props\nreturns list\nblock 0\n\
+    ///      instruction at 1\nCapture props into list\nterminal Other at 2\n",
+    /// )?;
+    /// let text = service_host::Service::new().dot(&sheet.words())?;
+    /// let lines = ["digraph g {", "  n0;", "  n1;", "  n0 -> n1 [label=\"capture 0\"];", "}"];
+    /// assert!(text.lines().eq(lines));
+    /// # Ok::<(), Box<dyn std::error::Error>>(())
+    /// ```
+    pub fn dot(&mut self, sheet: &[u32]) -> Result<String, Refusal> {
+        let mut text = vec![0; FIRST_TEXT];
+        loop {
+            let reply = ffi::dot(sheet, &mut self.workspace, &mut text);
+            match reply.refusal {
+                0 => {
+                    text.truncate(reply.length);
+                    return Ok(String::from_utf8(text).expect("a drawing is ASCII"));
+                }
+                number if number == Refusal::ShortAnswer.number() => {
+                    text = vec![0; 16 * text.len()];
+                }
+                number => return Err(Refusal::of_library(number)),
+            }
         }
     }
 

@@ -88,6 +88,7 @@ fn limits_and_version() {
     assert_eq!(bounds("IDENTIFIERS"), of(limits::LOAD_IDENTIFIERS));
     assert_eq!(bounds("EFFECTS"), of(limits::LOAD_EFFECTS));
     assert_eq!(defined("SERVICE_MOST_LOAD"), limits::LOAD);
+    assert_eq!(defined("SERVICE_MOST_DRAWING"), limits::DRAWING);
     assert_eq!(defined("SERVICE_ABSENT_EFFECTS"), limits::ABSENT_EFFECTS as usize);
     assert_eq!(defined("SERVICE_REACTIVE"), Effect::ALL.len());
     assert!(HEADER.contains("#define SERVICE_CREATED(reason, value) (6 * (reason) + (value))"));

@@ -98,7 +98,7 @@ fn help_and_version() {
     for args in [&["--help"][..], &["-h"], &["text", "case1.sheet", "--help"]] {
         let text = String::from_utf8(out(args)).unwrap();
         assert!(text.starts_with("usage: sheet text FILE"), "{text}");
-        for command in ["words", "answer", "explain", "load", "--help", "--version"] {
+        for command in ["words", "answer", "explain", "dot", "load", "--help", "--version"] {
             assert!(text.contains(&format!("\n       sheet {command}")), "{command}");
         }
     }
@@ -132,6 +132,31 @@ fn faulty_commands() {
         let text = String::from_utf8(output.stderr).unwrap();
         assert!(text.starts_with(&format!("sheet: {message}\n\nusage: sheet ")), "{text}");
     }
+}
+
+/// The graph as a DOT file, of either form.
+#[test]
+fn drawn() {
+    let lines = "digraph g {\n  n0;\n  n1;\n  n2;\n  \
+                 n0 -> n1 [label=\"capture 0\"];\n  n1 -> n2 [label=\"alias 2\"];\n}\n";
+    assert_eq!(String::from_utf8(out(&["dot", "case1.sheet"])).unwrap(), lines);
+    assert_eq!(String::from_utf8(out(&["dot", "case1.txt"])).unwrap(), lines);
+    let copy = file("case1.dot", b"");
+    assert!(out(&["dot", "case1.txt", "-o", &copy]).is_empty());
+    assert_eq!(std::fs::read_to_string(&copy).unwrap(), lines);
+    // Apply is drawn; what the sheet is refused with otherwise is said as for an answer.
+    let head = "identifier a\nreturns a\nblock 0\ninstruction at 1\n";
+    let apply = file("drawn-apply.txt", format!("{head}Apply\nterminal Other at 2\n").as_bytes());
+    assert_eq!(String::from_utf8(out(&["dot", &apply])).unwrap(), "digraph g {\n  n0;\n}\n");
+    let many = format!("{head}{}terminal Other at 2\n", "Render a\n".repeat(257));
+    let many = file("drawn-totals.txt", many.as_bytes());
+    assert_eq!(
+        fault(&["dot", &many]),
+        format!("sheet: {many}: refused 8: the sheet has 257 renders, at most 256\n")
+    );
+    let faulty = file("drawn-faulty.sheet", &[2, 0, 0, 0, 7, 0, 0, 0]);
+    assert_eq!(fault(&["dot", &faulty]), fault(&["answer", &faulty]));
+    assert!(fault(&["dot", &faulty]).contains("refused 5: word 1: expected the flag"));
 }
 
 /// A class load, as text and as words; the words are worked out from document 02 in loads.rs.
@@ -208,7 +233,7 @@ fn other_encodings() {
         ("high-mark.txt", wide(u16::to_be_bytes, "\u{feff}"), utf16_mark),
     ] {
         let path = file(name, &bytes);
-        for command in ["text", "words", "answer", "explain"] {
+        for command in ["text", "words", "answer", "explain", "dot"] {
             let message = format!("expected words or text in UTF-8, found {found}\n");
             assert_eq!(fault(&[command, &path]), format!("sheet: {path}: {message}"));
         }

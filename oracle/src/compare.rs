@@ -84,7 +84,12 @@ pub fn without_walks(answer: &plain::Answer) -> Vec<String> {
 
 /// What the original leaves, none if it meets an Apply; or its panic.
 fn original_answer(sheet: &sheet::Sheet) -> Result<Option<Answered>, String> {
-    catch_unwind(AssertUnwindSafe(|| original_side::answer(sheet))).map_err(|panic| {
+    or_panic(|| original_side::answer(sheet))
+}
+
+/// What is asked of the original, or its panic.
+pub fn or_panic<T>(asked: impl FnOnce() -> T) -> Result<T, String> {
+    catch_unwind(AssertUnwindSafe(asked)).map_err(|panic| {
         let text = panic
             .downcast_ref::<String>()
             .cloned()
@@ -330,13 +335,13 @@ fn smaller_words(words: &[u32]) -> Vec<Vec<u32>> {
     all
 }
 
-/// The smallest call found that still differs on the same side.
-pub fn shrink(call: &Call, side: &'static str, sides: &mut [Box<dyn Side>]) -> Call {
+/// The smallest call found that still differs.
+pub fn shrink(call: &Call, mut differs: impl FnMut(&Call) -> bool) -> Call {
     let mut best = call.clone();
     let mut tries = 20_000;
     loop {
         let mut variants: Vec<Vec<u32>> = Vec::new();
-        if let Ok(sheet) = plain::read(&best.sheet) {
+        if let Ok((sheet, _)) = sheet::read_whole(&best.sheet) {
             variants.extend(smaller(&sheet).iter().map(sheet::Sheet::words));
         }
         if best.sheet.len() < 2_000 {
@@ -344,9 +349,7 @@ pub fn shrink(call: &Call, side: &'static str, sides: &mut [Box<dyn Side>]) -> C
         }
         let next = variants.into_iter().find(|words| {
             tries -= 1;
-            let variant = Call { sheet: words.clone(), ..best };
-            tries > 0
-                && compare(&variant, sides).1.is_some_and(|difference| difference.side == side)
+            tries > 0 && differs(&Call { sheet: words.clone(), ..best })
         });
         match next {
             Some(words) => best.sheet = words,
@@ -399,7 +402,9 @@ mod tests {
             .map(|_| roomy(&generate::sheet(&mut random).words()))
             .find(|call| compare(call, &mut sides).1.is_some())
             .expect("sheets with a phi come up");
-        let small = shrink(&call, "faulty", &mut sides);
+        let small = shrink(&call, |call| {
+            compare(call, &mut sides).1.is_some_and(|difference| difference.side == "faulty")
+        });
         let sheet = plain::read(&small.sheet).expect("it is accepted");
         // One identifier, one block, one phi without operands.
         assert_eq!(sheet.identifiers.len(), 1);

@@ -218,7 +218,7 @@ fn to_edge(sheet: &mut Sheet, random: &mut Random) {
 }
 
 /// Put Apply among the effects of an instruction.
-fn apply(sheet: &mut Sheet, random: &mut Random) {
+pub fn apply(sheet: &mut Sheet, random: &mut Random) {
     let all = sheet.blocks.iter_mut().flat_map(|b| &mut b.instructions).collect();
     if let Some(instruction) = pick(all, random) {
         let effects = instruction.effects.get_or_insert_default();

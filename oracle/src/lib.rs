@@ -7,8 +7,10 @@ pub mod cases;
 pub mod compare;
 pub mod damage;
 pub mod dense;
+pub mod drawing;
 pub mod forms;
 pub mod generate;
+pub mod graphviz;
 pub mod load;
 pub mod original_side;
 #[cfg(feature = "service")]

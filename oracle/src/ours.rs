@@ -4,11 +4,13 @@
 //! Before a call the workspace, the answer buffer and some words around them hold rubbish. After it
 //! the words around are as they were, the workspace and the words after the answer are 0, the sheet
 //! is unchanged, and the state has moved on by one if the call was accepted. It makes class loads too
-//! (`Loader`), into the same buffer with rubbish.
+//! (`Loader`), into the same buffer with rubbish, and drawings (`Drawer`), into bytes of rubbish.
 
 use crate::compare::Side;
+use crate::drawing::Drawer;
 use crate::load::{Load, Loader};
 use crate::plain::Outcome;
+use crate::plain::dot::Drawn;
 use crate::plain::sheet::{SHEET_WORDS, WORKSPACE_WORDS};
 use crate::random::Random;
 
@@ -40,24 +42,32 @@ unsafe extern "C" {
         answer_len: usize,
     ) -> Reply;
     fn service_load(seed: u32, n: u32, m: u32, sheet: *mut u32, sheet_len: usize) -> Reply;
+    fn service_dot(
+        sheet: *const u32,
+        sheet_len: usize,
+        workspace: *mut u32,
+        workspace_len: usize,
+        text: *mut u8,
+        text_len: usize,
+    ) -> Reply;
 }
 
-/// Words around a lent buffer that no call may change.
+/// Words, or bytes, around a lent buffer that no call may change.
 const AROUND: usize = 16;
 
-/// How many words of rubbish there are.
+/// How many words of rubbish there are, and how many bytes.
 const RUBBISH: usize = 1 << 16;
 
-/// A buffer that is lent again and again.
+/// A buffer of words or bytes that is lent again and again.
 #[derive(Default)]
-struct Buffer {
-    words: Vec<u32>,
+struct Buffer<T> {
+    words: Vec<T>,
     length: usize,
 }
 
-impl Buffer {
+impl<T: Copy + PartialEq> Buffer<T> {
     /// Rubbish everywhere, from a position of the list of rubbish on.
-    fn fill(&mut self, length: usize, rubbish: &[u32], from: usize) {
+    fn fill(&mut self, length: usize, rubbish: &[T], from: usize) {
         let all = length + 2 * AROUND;
         self.length = length;
         self.words.clear();
@@ -68,16 +78,16 @@ impl Buffer {
         }
     }
 
-    fn lent(&self) -> &[u32] {
+    fn lent(&self) -> &[T] {
         &self.words[AROUND..AROUND + self.length]
     }
 
-    fn lend(&mut self) -> &mut [u32] {
+    fn lend(&mut self) -> &mut [T] {
         &mut self.words[AROUND..AROUND + self.length]
     }
 
     /// Whether the words around the lent ones are as they were filled.
-    fn unchanged_around(&self, rubbish: &[u32], from: usize) -> bool {
+    fn unchanged_around(&self, rubbish: &[T], from: usize) -> bool {
         let after = AROUND + self.length;
         (0..AROUND)
             .chain(after..after + AROUND)
@@ -88,9 +98,11 @@ impl Buffer {
 pub struct Ours {
     state: ServiceState,
     sheet: Vec<u32>,
-    workspace: Buffer,
-    answer: Buffer,
+    workspace: Buffer<u32>,
+    answer: Buffer<u32>,
+    text: Buffer<u8>,
     rubbish: Vec<u32>,
+    rubbish_bytes: Vec<u8>,
     calls: usize,
 }
 
@@ -109,18 +121,21 @@ impl Default for Ours {
             sheet: Vec::new(),
             workspace: Buffer::default(),
             answer: Buffer::default(),
+            text: Buffer::default(),
             rubbish: (0..RUBBISH).map(|_| random.word() as u32).collect(),
+            // A byte that is 0 before would not show that it was left.
+            rubbish_bytes: (0..RUBBISH).map(|_| random.between(1, 255) as u8).collect(),
             calls: 0,
         }
     }
 }
 
-fn all_zero(name: &str, words: &[u32]) -> Result<(), String> {
-    if words.iter().fold(0, |all, word| all | word) == 0 {
+fn all_zero<T: Copy + Into<u32>>(name: &str, words: &[T]) -> Result<(), String> {
+    if words.iter().fold(0, |all, &word| all | word.into()) == 0 {
         return Ok(());
     }
-    let at = words.iter().position(|&word| word != 0).unwrap_or(0);
-    Err(format!("{name} {at} of {} is {}", words.len(), words[at]))
+    let at = words.iter().position(|&word| word.into() != 0).unwrap_or(0);
+    Err(format!("{name} {at} of {} is {}", words.len(), words[at].into()))
 }
 
 impl Side for Ours {
@@ -207,6 +222,57 @@ impl Loader for Ours {
         Ok(match refusal {
             0 => Outcome::Accepted(self.answer.lent()[..length].to_vec()),
             _ => Outcome::Refused(refusal),
+        })
+    }
+}
+
+impl Drawer for Ours {
+    fn name(&self) -> &'static str {
+        "ours, a drawing"
+    }
+
+    fn draw(
+        &mut self,
+        sheet: &[u32],
+        workspace_len: usize,
+        text_len: usize,
+    ) -> Result<Drawn, String> {
+        self.calls += 1;
+        let from = self.calls * 977 % RUBBISH;
+        self.sheet.clear();
+        self.sheet.extend_from_slice(sheet);
+        self.workspace.fill(workspace_len, &self.rubbish, from);
+        self.text.fill(text_len, &self.rubbish_bytes, from / 2);
+        let (workspace, text) = (self.workspace.lend(), self.text.lend());
+        // SAFETY: the pointers are those of slices with these lengths, all different.
+        let reply = unsafe {
+            service_dot(
+                self.sheet.as_ptr(),
+                self.sheet.len(),
+                workspace.as_mut_ptr(),
+                workspace.len(),
+                text.as_mut_ptr(),
+                text.len(),
+            )
+        };
+        if self.sheet != sheet {
+            return Err("the sheet was written".into());
+        }
+        if !self.workspace.unchanged_around(&self.rubbish, from) {
+            return Err("words around the workspace were written".into());
+        }
+        if !self.text.unchanged_around(&self.rubbish_bytes, from / 2) {
+            return Err("bytes around the text were written".into());
+        }
+        all_zero("workspace word", self.workspace.lent())?;
+        let Reply { refusal, serial, length } = reply;
+        if serial != 0 || text_len < length || (refusal != 0 && length != 0) {
+            return Err(format!("{reply:?}"));
+        }
+        all_zero("byte after the text", &self.text.lent()[length..])?;
+        Ok(match refusal {
+            0 => Drawn::Text(self.text.lent()[..length].to_vec()),
+            _ => Drawn::Refused(refusal),
         })
     }
 }

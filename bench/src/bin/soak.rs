@@ -7,7 +7,8 @@
 //! Every call is held to what is cheap to check (`check`). Calls from the pool are held to their
 //! whole answer, by a hash of what the plain implementation and the original said when the pool
 //! was made. A sample of the others is compared with both as well. Between them class loads are made,
-//! each held word by word to the oracle's.
+//! each held word by word to the oracle's, and drawings, each held byte by byte to the original's graph
+//! and the plain implementation's.
 //!
 //! Prints a line for each of 20 slices: memory and time are to stay flat.
 
@@ -17,24 +18,27 @@ use bench::clock::processor;
 use bench::guarded::Guarded;
 use oracle::compare::{Side, compare};
 use oracle::damage::{Call, Room, damaged};
+use oracle::drawing::compare_drawing;
 use oracle::generate;
 use oracle::load;
+use oracle::plain::dot::{Drawn, judge, lend};
 use oracle::plain::sheet::ABSENT;
 use oracle::plain::{self, Outcome};
 use oracle::random::Random;
-use service_host::Service;
 use service_host::ffi::{self, Reply, ServiceState};
+use service_host::{Service, limits};
 
 const SLICES: u64 = 20;
 const POOL: usize = 4_096;
 const LEAST_WORKSPACE: usize = 16_384;
 /// Words of the answer buffer: the longest answer of a pool fits.
 const ROOM: usize = 1 << 16;
-/// One of so many calls is looked at in full, and one of so many compared; a class load comes after
-/// one of so many.
+/// One of so many calls is looked at in full, and one of so many compared; a class load and a drawing
+/// come after one of so many.
 const LOOKED_AT: u64 = 16;
 const COMPARED: u64 = 256;
 const LOADED: u64 = 256;
+const DRAWN: u64 = 256;
 
 /// A call whose outcome is known.
 struct Known {
@@ -113,6 +117,7 @@ struct Host {
     sheet: Guarded,
     workspace: Guarded,
     answer: Guarded,
+    text: Guarded,
 }
 
 /// The counts of a slice.
@@ -122,6 +127,8 @@ struct Tally {
     compared: u64,
     looked_at: u64,
     loads: u64,
+    /// Sheets that were drawn, and those refused.
+    drawings: [u64; 2],
 }
 
 fn is(what: &str, holds: bool) -> Result<(), String> {
@@ -179,6 +186,7 @@ impl Host {
             sheet: Guarded::new(20_000),
             workspace: Guarded::new(LEAST_WORKSPACE),
             answer: Guarded::new(ROOM),
+            text: Guarded::new((limits::DRAWING + 200) / 4),
         }
     }
 
@@ -213,6 +221,44 @@ impl Host {
         tally.refusals[reply.refusal as usize] += 1;
         Ok((reply, &self.answer.words()[self.answer.room() - room..][..reply.length]))
     }
+}
+
+/// A drawing of a sheet that stands elsewhere, or of the host's own, into guarded bytes, with rubbish
+/// before in all that is lent.
+fn drawing(
+    host: &mut Host,
+    sheet: Option<&[u32]>,
+    own: usize,
+    random: &mut Random,
+    tally: &mut Tally,
+) -> Result<(), String> {
+    let sheet = match sheet {
+        Some(sheet) => sheet,
+        None => host.sheet.last_mut(own),
+    };
+    let before = sheet.to_vec();
+    // The original and the plain implementation agree.
+    let call = Call { sheet: before, workspace: LEAST_WORKSPACE, room: Room::Exact };
+    is("the original's drawing", compare_drawing(&call, &mut []).difference.is_none())?;
+    let judged = judge(&call.sheet);
+    let full = judged.as_ref().map_or(100, Vec::len);
+    let room = random.choose(&[full, full, full - 1, full + 1, full + 150, full / 2, 0]);
+    let words = if random.percent(5) { random.below(LEAST_WORKSPACE) } else { LEAST_WORKSPACE };
+    let workspace = host.workspace.last_mut(words);
+    let text = host.text.last_bytes_mut(room);
+    workspace.fill(0xdead_beef);
+    text.fill(0xa5);
+    let reply = ffi::dot(sheet, workspace, text);
+    let (refusal, mut bytes) = match lend(&judged, words, room) {
+        Drawn::Refused(number) => (number, Vec::new()),
+        Drawn::Text(bytes) => (0, bytes),
+    };
+    tally.drawings[(refusal != 0) as usize] += 1;
+    is("a drawing's reply", reply == Reply { refusal, serial: 0, length: bytes.len() })?;
+    bytes.resize(room, 0);
+    is("a drawing's bytes", *text == bytes)?;
+    is("zeros in the workspace after a drawing", workspace.iter().all(|&w| w == 0))?;
+    is("the sheet after a drawing", *sheet == call.sheet)
 }
 
 /// A class load, or arguments outside, into the host's own memory for sheets, with rubbish before.
@@ -390,6 +436,11 @@ fn slice(
         }
         let known = &pool.calls[random.below(POOL)];
         let sheet = pool.sheet(known);
+        if i % DRAWN == 0 {
+            let own = hostile(host.sheet.words_mut(), sheet, random);
+            let chosen = random.percent(50).then_some(sheet);
+            drawing(host, chosen, own, random, tally)?;
+        }
         let look = i % LOOKED_AT == 0;
         if random.percent(40) {
             let (workspace, room) = (known.workspace, known.room);
@@ -435,7 +486,7 @@ fn soak(calls: u64, seed: u64) -> Result<(), String> {
     let probes = Pool::new(&mut Random::new(99));
     let first = host.state.next;
     let (mut wrapped, mut accepted, mut compared, mut looked_at) = (false, 0, 0, 0);
-    let mut loads = 0;
+    let (mut loads, mut drawings) = (0, [0; 2]);
     println!(
         "slice | calls | accepted | refused 1 to 10 | compared | memory kB | most kB | processor s | µs a call | probe µs"
     );
@@ -450,6 +501,7 @@ fn soak(calls: u64, seed: u64) -> Result<(), String> {
         compared += tally.compared;
         looked_at += tally.looked_at;
         loads += tally.loads;
+        drawings = [drawings[0] + tally.drawings[0], drawings[1] + tally.drawings[1]];
         wrapped |= host.state.next < first;
         let made: u64 = tally.refusals.iter().sum();
         trim();
@@ -469,8 +521,9 @@ fn soak(calls: u64, seed: u64) -> Result<(), String> {
     is("the serial has wrapped", wrapped)?;
     println!(
         "{calls} calls over one state, {accepted} accepted with the probes', {looked_at} looked at \
-         in full, {compared} compared with the original; {loads} class loads; the serial wrapped; \
-         nothing differs"
+         in full, {compared} compared with the original; {loads} class loads; {} drawings, {} more \
+         refused; the serial wrapped; nothing differs",
+        drawings[0], drawings[1]
     );
     Ok(())
 }

@@ -68,3 +68,6 @@ pub mod Simulating
 pub mod LoadTable
 pub mod Drawn
 pub mod LoadAccepted
+-- document 02, order 6: the graph as a DOT file
+pub mod DotTable
+pub mod Digits

@@ -1,5 +1,5 @@
--- Every call is accepted, or refused with a number from 1 to 9; the reading refuses with 3 to 6 alone; and 0 is told of accepted calls alone.
-use Prim.Native.Nat.{ℕ}
+-- Every call is accepted, or refused with one of the numbers, a drawing from 1 to 9; the reading refuses with 3 to 6 alone; and 0 is told of accepted calls alone.
+use Prim.Native.Nat.{ℕ, _≤_}
 use native.Mathlib.Omega.{arith}
 use mathlib.Core.Path.{_≡_, refl}
 use mathlib.Core.Bool.{Bool, true, false}
@@ -12,18 +12,20 @@ use Rattle.model.specs.Sheet.{Sheet}
 use Rattle.model.specs.Reading.{Position, Result, got, refused}
 use Rattle.model.specs.Sections.{sheet}
 use Rattle.model.specs.Totals.{totals, over, judged}
+use Rattle.model.specs.Building.{build}
 use Rattle.model.specs.Answer.{answer, answerWords}
 use Rattle.model.specs.Call.{applies, Outcome, refusal, accepted, ended, read, fits, answered, admit, outcome, numberOf}
-use Rattle.model.specs.Numbers.{IsNumber, FromReading, Numbered}
+use Rattle.model.specs.Dot.{dot, drawn, draw}
+use Rattle.model.specs.Numbers.{FromReading, Numbered, DrawingNumbered}
 use Rattle.model.proofs.Refusing.{sheet-refuses}
 
 pub reading-numbers : (ws : List ℕ) (c : Position) (k : ℕ) → sheet ws c ≡ refused k → FromReading k
 reading-numbers ws c k e = sheet-refuses FromReading (omega arith, omega arith) (omega arith, omega arith) (omega arith, omega arith) (omega arith, omega arith) ws c k e
 
--- what was read, or a refusal with one of the numbers
+-- what was read, or a refusal from 1 to 8
 abbrev NumberedRead : Result Sheet → Type 0
 NumberedRead (got s c) = Unit {0}
-NumberedRead (refused k) = IsNumber k
+NumberedRead (refused k) = (1 ≤ k) × (k ≤ 8)
 
 sheet-numbered : (ws : List ℕ) (r : Result Sheet) → sheet ws 0 ≡ r → NumberedRead r
 sheet-numbered ws (got s c) e = tt
@@ -63,7 +65,7 @@ answered-numbered room (got s c) h = go (applies s) (ltb room (length (answerWor
     go true b = (omega arith, omega arith)
     go false true = (omega arith, omega arith)
     go false false = tt
-answered-numbered room (refused k) h = h
+answered-numbered room (refused k) h = (h .0, omega (arith, h .1))
 
 admit-numbered : (ws : List ℕ) (workspace : ℕ) → NumberedRead (admit ws workspace)
 unfolding admit
@@ -77,6 +79,20 @@ admit-numbered ws workspace = go (ltb workspace leastWorkspace)
 pub outcome-numbered : (ws : List ℕ) (workspace room : ℕ) → Numbered (outcome ws workspace room)
 unfolding outcome
 outcome-numbered ws workspace room = answered-numbered room (admit ws workspace) (admit-numbered ws workspace)
+
+drawn-numbered : (room : ℕ) (r : Result Sheet) → NumberedRead r → DrawingNumbered (drawn room r)
+unfolding drawn fits
+drawn-numbered room (got s c) h = go (ltb room (length (dot (build s .graph))))
+  where
+    go : (b : Bool) → DrawingNumbered (pick b (refusal 9) (accepted (dot (build s .graph))))
+    go true = (omega arith, omega arith)
+    go false = tt
+drawn-numbered room (refused k) h = (h .0, omega (arith, h .1))
+
+-- a drawing is refused from 1 to 9 alone
+pub draw-numbered : (ws : List ℕ) (workspace room : ℕ) → DrawingNumbered (draw ws workspace room)
+unfolding draw
+draw-numbered ws workspace room = drawn-numbered room (admit ws workspace) (admit-numbered ws workspace)
 
 -- a call of which 0 is told was accepted
 pub zero-accepted : (o : Outcome) → Numbered o → numberOf o ≡ 0 → (a : List ℕ) × (o ≡ accepted a)

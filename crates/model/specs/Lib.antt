@@ -32,6 +32,9 @@ pub mod Call
 pub mod Service
 -- document 02, order 2: a class load from a seed
 pub mod Load
+-- document 02, order 6: the graph as a DOT file
+pub mod Digits
+pub mod Dot
 -- "Bench cases", and tables of our own
 pub mod Bench
 pub mod Small
@@ -41,6 +44,7 @@ pub mod Refusals
 pub mod Boundaries
 pub mod OperandCases
 pub mod LoadCases
+pub mod DotCases
 -- what is claimed of all this; proofs/ has the theorems
 pub mod Ranges
 pub mod Distinct

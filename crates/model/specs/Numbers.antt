@@ -15,3 +15,8 @@ FromReading k = (3 ≤ k) × (k ≤ 6)
 abbrev pub Numbered : Outcome → Type 0
 Numbered (refusal k) = IsNumber k
 Numbered (accepted a) = Unit {0}
+
+-- document 02, order 6: "1 to 8 for the sheet as before", and 9; a drawing "never gives 10"
+abbrev pub DrawingNumbered : Outcome → Type 0
+DrawingNumbered (refusal k) = (1 ≤ k) × (k ≤ 9)
+DrawingNumbered (accepted a) = Unit {0}

@@ -10,13 +10,16 @@ use borrow.Author.Tests.{eqb-true, eqb-false}
 use Rattle.model.specs.Limits.{lastSerial}
 use Rattle.model.specs.Lists.{pick}
 use Rattle.model.specs.Call.{Outcome as TheOutcome, refusal, accepted, outcome}
+use Rattle.model.specs.Dot.{draw}
 use Rattle.model.specs.Service.{taken, serves, call}
 use Rattle.writing.specs.declared.Outcome.{Outcome}
 use Rattle.writing.specs.declared.Outcome.the-variants.{Refused, Accepted}
 use Rattle.writing.specs.Outcome.{Returned, number, length, returnedBy, Filled}
 use Rattle.inference.specs.Outcome.{Came, Inferred}
 use Rattle.service.specs.Served.{stateWith, Tells, Served}
-use Rattle.service.specs.Loaded.{TellsFilled}
+use Rattle.service.specs.declared.Reply.{Reply}
+use Rattle.service.specs.Loaded.{TellsFilled, replyOf}
+use Rattle.service.specs.Drawn.{Drawn}
 
 abbrev isNumber : Returned → Bool
 isNumber (number k) = true
@@ -74,12 +77,16 @@ module _ {a a′ : List ℕ} where
   length-told (refusal j) f = absurd (false≢true (ap isNumber (f .returned)))
   length-told (accepted l) f = record { refusal = refl; serial = refl; long = ap told (f .returned); words = f .words }
 
-  module _ (o : TheOutcome) {r : Outcome} (f : Filled o a r a′) where
-    filled : {r′ : Outcome} → r ≡ r′ → Filled o a r′ a′
-    filled e = subst (λ (x : Outcome). Filled o a x a′) e f
+  pub told-filled : (o : TheOutcome) {r : Outcome} {y : Reply} → Filled o a r a′ → y ≡ replyOf r → TellsFilled o a y a′
+  told-filled o {r} f e = subst (λ (x : Reply). TellsFilled o a x a′) (sym e) (go r f)
+    where
+      go : (x : Outcome) → Filled o a x a′ → TellsFilled o a (replyOf x) a′
+      go (Refused k) g = number-told o g
+      go (Accepted n) g = length-told o g
 
-    pub told-refused : {k : ℕ} → r ≡ Refused k → TellsFilled o a (record { refusal = k; serial = 0; length = 0 }) a′
-    told-refused e = number-told o (filled e)
-
-    pub told-accepted : {n : ℕ} → r ≡ Accepted n → TellsFilled o a (record { refusal = 0; serial = 0; length = n }) a′
-    told-accepted e = length-told o (filled e)
+-- a drawing, which leaves the workspace too
+pub told-drawn : (sheet : List ℕ) {ws text ws′ text′ : List ℕ} {r : Outcome} {y : Reply} → Came (draw sheet (len ws) (len text)) ws text r ws′ text′ → y ≡ replyOf r → Drawn sheet ws text y ws′ text′
+told-drawn sheet {ws} {text} {r = r} c e = record {
+  told = told-filled (draw sheet (len ws) (len text)) {r = r} (record { returned = c .returned; words = c .answer }) e;
+  workspace = c .workspace;
+}

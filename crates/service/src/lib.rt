@@ -2,8 +2,10 @@
 ghost use mathlib.Core.Path.{_≡_};
 ghost use Rattle.model.specs.Limits.{leastWorkspace, mostSheet};
 ghost use Rattle.model.specs.Service.{newService};
-ghost use Rattle.service.specs.Loaded.{Loaded};
+ghost use Rattle.service.specs.Drawn.{Drawn};
+ghost use Rattle.service.specs.Loaded.{replyOf, Loaded};
 ghost use Rattle.service.specs.Served.{Served};
+use dot::draw;
 use inference::infer_mutation_aliasing_ranges;
 use load::class_load;
 use writing::Outcome;
@@ -14,7 +16,7 @@ pub struct ServiceState {
     pub next: u32,
 }
 
-// The refusal's number, 0 for none; the serial of an accepted call, else 0; the answer's length. A class load takes no serial, and its length is the sheet's.
+// The refusal's number, 0 for none; the serial of an accepted call, else 0; the answer's length. A class load and a drawing take no serial; the length is the sheet's in words, the text's in bytes.
 #[repr(C)]
 pub struct Reply {
     pub refusal: u32,
@@ -74,12 +76,11 @@ pub extern "C" fn service_infer(
     turn.reply
 }
 
-// A class load: the sheet of a seed, n identifiers and m effects. It takes no serial.
-#[no_mangle]
-pub extern "C" fn service_load(seed: u32, n: u32, m: u32, sheet: &mut [u32]) -> Reply
-    ensures { λ r. ⌜ Loaded seed n m (now (sheet .entry)) r (now (sheet .exit)) ⌝ }
+// The reply to a call that takes no serial.
+fn reply_of(outcome: Outcome) -> Reply
+    ensures { λ r. ⌜ r ≡ replyOf outcome ⌝ }
 {
-    match class_load(seed, n, m, sheet) {
+    match outcome {
         Outcome::Refused(k) => Reply {
             refusal: k,
             serial: 0,
@@ -91,6 +92,22 @@ pub extern "C" fn service_load(seed: u32, n: u32, m: u32, sheet: &mut [u32]) -> 
             length,
         },
     }
+}
+
+// A class load: the sheet of a seed, n identifiers and m effects. It takes no serial.
+#[no_mangle]
+pub extern "C" fn service_load(seed: u32, n: u32, m: u32, sheet: &mut [u32]) -> Reply
+    ensures { λ r. ⌜ Loaded seed n m (now (sheet .entry)) r (now (sheet .exit)) ⌝ }
+{
+    reply_of(class_load(seed, n, m, sheet))
+}
+
+// A drawing: the graph of a sheet as a DOT file. It takes no serial.
+#[no_mangle]
+pub extern "C" fn service_dot(sheet: &[u32], workspace: &mut [u32], text: &mut [u8]) -> Reply
+    ensures { λ r. ⌜ Drawn (now (sheet .entry)) (now (workspace .entry)) (now (text .entry)) r (now (workspace .exit)) (now (text .exit)) ⌝ }
+{
+    reply_of(draw(sheet, workspace, text))
 }
 
 // A new state.

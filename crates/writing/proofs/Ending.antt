@@ -5,7 +5,6 @@ use mathlib.Core.Path.{_≡_, refl, sym, subst, ap, _∙_}
 use mathlib.Core.Bool.{true, false}
 use mathlib.Core.List.{List, _++_}
 use lib.ListN.{length, take, replicate}
-use lib.Seq.{length-sets}
 use lib.Dec.{ltb}
 use borrow.Author.Tests.{lt-ltb, le-ltb}
 use Rattle.model.specs.Call.{Outcome as TheOutcome, refusal, accepted, fits, answerAfter}
@@ -15,7 +14,7 @@ use Rattle.writing.specs.declared.Outcome.{Outcome}
 use Rattle.writing.specs.declared.Outcome.the-variants.{Refused, Accepted}
 use Rattle.writing.specs.Wrote.{Wrote}
 use Rattle.writing.specs.Outcome.{length as inLength, returnedBy, Filled}
-use Rattle.writing.proofs.Writing.{written}
+use Rattle.writing.proofs.Writing.{wrote-same, written}
 
 pub filled-as : {o o′ : TheOutcome} {a : List ℕ} {r : Outcome} {a′ : List ℕ} → o ≡ o′ → Filled o a r a′ → Filled o′ a r a′
 filled-as {a = a} {r} {a′} e f = subst (λ (x : TheOutcome). Filled x a r a′) e f
@@ -34,7 +33,7 @@ module _ {a a₁ vs : List ℕ} {n : ℕ} (w : Wrote vs a 0 a₁ n) where
   long = omega (arith, w .next)
 
   pub room : length a₁ ≡ length a
-  room = ap (λ (l : List ℕ). length l) (w .words) ∙ length-sets a 0 vs
+  room = wrote-same w
 
   pub too-long : length a₁ < n → refusal 9 ≡ fits (length a) vs
   unfolding fits

@@ -1,16 +1,27 @@
--- Words written one after another; a word patched later; what stands in the buffer once all is written.
+-- Words or bytes written one after another; a word patched later; what stands in the buffer once all is written.
 use Prim.Native.Nat.{ℕ, suc, _+_, _≤_, _<_}
 use native.Mathlib.Omega.{arith}
 use mathlib.Core.Path.{_≡_, refl, sym, ap, _∙_}
 use mathlib.Core.List.{List, [], _∷_, _++_}
 use lib.ListN.{length, set, take, drop, length-append}
-use lib.Seq.{sets, sets-eq, set-set, set-comm, length-take-le, take-at}
+use lib.Seq.{sets, sets-eq, set-set, set-comm, set-out, length-sets, length-take-le, take-at}
 use Rattle.workspace.proofs.Parts.{sets-append}
 use Rattle.writing.specs.Wrote.{Wrote}
 
 -- nothing written
 pub wrote-none : (a : List ℕ) (at : ℕ) → Wrote [] a at a at
 wrote-none a at = record { words = refl; next = omega arith }
+
+-- one more, a word or a byte: there is room for it, or there is none
+pub wrote-in : {a a′ : List ℕ} {at v : ℕ} → a′ ≡ set a at v → Wrote (v ∷ []) a at a′ (at + 1)
+wrote-in e = record { words = e; next = refl }
+
+pub wrote-past : {a a′ : List ℕ} {at v : ℕ} → length a ≤ at → a′ ≡ a → Wrote (v ∷ []) a at a′ (at + 1)
+wrote-past {a} {at = at} {v} h e = record { words = e ∙ sym (set-out a at v h); next = refl }
+
+-- the buffer keeps its length
+pub wrote-same : {vs a b : List ℕ} {at at′ : ℕ} → Wrote vs a at b at′ → length b ≡ length a
+wrote-same {vs} {a} {at = at} h = ap (λ (l : List ℕ). length l) (h .words) ∙ length-sets a at vs
 
 -- one after another
 pub wrote-then : {us vs a b c : List ℕ} {at at′ at″ : ℕ} → Wrote us a at b at′ → Wrote vs b at′ c at″ → Wrote (us ++ vs) a at c at″

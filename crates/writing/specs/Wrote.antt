@@ -1,4 +1,4 @@
--- Words written into the answer buffer from a position on, as far as it has room.
+-- Words written into the answer buffer, or bytes into a text, from a position on, as far as there is room.
 use Prim.Native.Nat.{ℕ, _+_}
 use mathlib.Core.Path.{_≡_}
 use mathlib.Core.List.{List}

@@ -1,11 +1,14 @@
-//! compare --seed S --sheets N --damaged M --loads L [--threads T] [--program PATH --runs R] [--files F..]
+//! compare --seed S --sheets N --damaged M --loads L --drawings D [--graphviz G] [--threads T]
+//!         [--program PATH --runs R] [--files F..]
 //!
 //! Makes N accepted sheets and M damaged calls from a seed and compares the
 //! original, the plain reader and, with the feature `service`, our own library on
 //! them, and on the fixed sheets: bench cases, ranges of words, smallest/ and long
 //! walks. Then class loads: those at the corners of the bounds, arguments outside, and
-//! L from the seed. Then runs of the program at PATH: on its fixed files, and R on files
-//! from the seed. With files, compares those instead.
+//! L from the seed. Then drawings: of the fixed sheets, and of D sheets and D damaged calls
+//! from the seed; G texts of sheets from the seed are given to Graphviz. Then runs of the
+//! program at PATH: on its fixed files, and R on files from the seed. With files, compares
+//! those instead.
 
 use std::path::{Path, PathBuf};
 use std::process::ExitCode;
@@ -13,6 +16,8 @@ use std::time::{Duration, Instant};
 
 use oracle::compare::{Difference, Side, compare, lines, original_lines, roomy, shrink};
 use oracle::damage::{Call, Room, damaged};
+use oracle::drawing::{self, Drawer, compare_drawing};
+use oracle::graphviz::compare_picture;
 use oracle::load::{self, Load, Loader, compare_load};
 use oracle::plain;
 use oracle::plain::sheet::WORKSPACE_WORDS;
@@ -28,6 +33,8 @@ struct Arguments {
     sheets: u64,
     damaged: u64,
     loads: u64,
+    drawings: u64,
+    graphviz: u64,
     threads: u64,
     program: Option<PathBuf>,
     runs: u64,
@@ -40,6 +47,8 @@ fn arguments() -> Result<Arguments, String> {
         sheets: 100_000,
         damaged: 100_000,
         loads: 1_000,
+        drawings: 10_000,
+        graphviz: 0,
         threads: 1,
         program: None,
         runs: 0,
@@ -62,6 +71,8 @@ fn arguments() -> Result<Arguments, String> {
             "--sheets" => arguments.sheets = number,
             "--damaged" => arguments.damaged = number,
             "--loads" => arguments.loads = number,
+            "--drawings" => arguments.drawings = number,
+            "--graphviz" => arguments.graphviz = number,
             "--threads" => arguments.threads = number.max(1),
             "--runs" => arguments.runs = number,
             _ => return Err(format!("unknown argument {word}")),
@@ -86,6 +97,14 @@ fn loaders() -> Vec<Box<dyn Loader>> {
     ]
 }
 
+/// The same for drawings.
+fn drawers() -> Vec<Box<dyn Drawer>> {
+    vec![
+        #[cfg(feature = "service")]
+        Box::new(oracle::ours::Ours::default()),
+    ]
+}
+
 #[derive(Default)]
 struct Counts {
     fixed: u64,
@@ -94,6 +113,14 @@ struct Counts {
     loads: u64,
     /// Calls for a class load, refused ones too.
     load_calls: u64,
+    /// Sheets that were drawn, those among them that the call refuses 10, and those refused.
+    drawn: u64,
+    drawn_applies: u64,
+    /// By refusal of the call at its own lengths; 0 stays 0.
+    not_drawn: [u64; 11],
+    drawing_calls: u64,
+    /// Texts that Graphviz took, with their nodes and edges.
+    pictures: (u64, u64, u64),
     runs: u64,
     /// Those of the runs that were on fixed files.
     fixed_runs: u64,
@@ -160,12 +187,35 @@ impl Counts {
         }
     }
 
+    /// A drawing: the original's, the plain reader's and that of every side.
+    fn compare_drawing(&mut self, call: Call, drawers: &mut [Box<dyn Drawer>]) {
+        let seen = compare_drawing(&call, drawers);
+        match seen.refusal {
+            0 => self.drawn += 1,
+            number => self.not_drawn[number as usize] += 1,
+        }
+        self.drawn_applies += (seen.refusal == 0 && seen.applies) as u64;
+        self.drawing_calls += seen.calls;
+        if let Some(difference) = seen.difference {
+            self.differs(call, difference);
+        }
+    }
+
     fn add(&mut self, other: Counts) {
         self.fixed += other.fixed;
         self.sheets += other.sheets;
         self.damaged += other.damaged;
         self.loads += other.loads;
         self.load_calls += other.load_calls;
+        self.drawn += other.drawn;
+        self.drawn_applies += other.drawn_applies;
+        self.drawing_calls += other.drawing_calls;
+        for (sum, n) in self.not_drawn.iter_mut().zip(other.not_drawn) {
+            *sum += n;
+        }
+        self.pictures.0 += other.pictures.0;
+        self.pictures.1 += other.pictures.1;
+        self.pictures.2 += other.pictures.2;
         self.runs += other.runs;
         self.fixed_runs += other.fixed_runs;
         self.differences += other.differences;
@@ -186,15 +236,23 @@ impl Counts {
             parts.push(format!("{} sheets", self.sheets));
         }
         if self.damaged > 0 {
-            let per_refusal: Vec<String> = (0..)
-                .zip(self.refusals)
-                .filter(|(_, n)| *n > 0)
-                .map(|(r, n)| if r == 0 { format!("accepted:{n}") } else { format!("{r}:{n}") })
-                .collect();
-            parts.push(format!("{} damaged ({})", self.damaged, per_refusal.join(" ")));
+            parts.push(format!("{} damaged ({})", self.damaged, by_refusal(self.refusals)));
         }
         if self.loads > 0 {
             parts.push(format!("{} class loads ({} calls)", self.loads, self.load_calls));
+        }
+        if self.drawn > 0 {
+            let refused: u64 = self.not_drawn.iter().sum();
+            parts.push(format!(
+                "{} drawings, {} of them with Apply, {refused} refused ({}) ({} calls)",
+                self.drawn,
+                self.drawn_applies,
+                by_refusal(self.not_drawn),
+                self.drawing_calls
+            ));
+        }
+        if let (texts @ 1.., nodes, edges) = self.pictures {
+            parts.push(format!("{texts} texts taken by Graphviz ({nodes} nodes, {edges} edges)"));
         }
         if self.runs > 0 {
             let fixed = self.fixed_runs;
@@ -206,15 +264,27 @@ impl Counts {
     }
 }
 
+/// Refusals with their numbers, those that came up.
+fn by_refusal(counts: [u64; 11]) -> String {
+    let came_up = (0..).zip(counts).filter(|(_, n)| *n > 0);
+    let name = |(r, n)| if r == 0 { format!("accepted:{n}") } else { format!("{r}:{n}") };
+    came_up.map(name).collect::<Vec<_>>().join(" ")
+}
+
 /// A file of the folder that the oracle is built in.
 fn target(name: &str) -> PathBuf {
     std::env::var_os("ORACLE_TARGET").map_or(PathBuf::new(), PathBuf::from).join(name)
 }
 
 /// Write the smallest differing sheet found to a file and print it.
-fn report(call: &Call, difference: &Difference, sides: &mut [Box<dyn Side>]) {
-    let small = shrink(call, difference.side, sides);
-    let difference = compare(&small, sides).1.unwrap_or_else(|| difference.clone());
+fn report(call: &Call, difference: &Difference) {
+    let (mut sides, mut drawers) = (sides(), drawers());
+    let mut again = |call: &Call| {
+        let found = [compare(call, &mut sides).1, compare_drawing(call, &mut drawers).difference];
+        found.into_iter().flatten().find(|found| found.side == difference.side)
+    };
+    let small = shrink(call, |call| again(call).is_some());
+    let difference = again(&small).unwrap_or_else(|| difference.clone());
     let words: Vec<String> = small.sheet.iter().map(u32::to_string).collect();
     let mut text = format!(
         "# {} differs; workspace {}, answer room {:?}\n{}\n",
@@ -305,6 +375,43 @@ fn compare_loads(arguments: &Arguments, own: u64) -> Counts {
     counts
 }
 
+/// Drawings of the fixed sheets, and of sheets and damaged calls from the seed, as above.
+fn compare_drawings(arguments: &Arguments, own: u64) -> Counts {
+    let mut drawers = drawers();
+    let mut counts = Counts::default();
+    if own == 0 {
+        drawing::fixed().into_iter().for_each(|c| counts.compare_drawing(c, &mut drawers));
+    }
+    let mut random = Random::new(arguments.seed);
+    for i in 0..arguments.drawings {
+        let mut random = Random::new(random.word());
+        if i % arguments.threads == own {
+            counts.compare_drawing(drawing::made(&mut random), &mut drawers);
+            counts.compare_drawing(damaged(&mut random), &mut drawers);
+        }
+    }
+    counts
+}
+
+/// Texts of sheets from the seed, given to Graphviz. It takes long for a graph of a thousand edges, so
+/// that only shorter texts are taken.
+fn compare_pictures(arguments: &Arguments) -> Result<Counts, String> {
+    const LONGEST: usize = 8_000;
+    let mut counts = Counts::default();
+    let mut random = Random::new(arguments.seed);
+    while counts.pictures.0 < arguments.graphviz {
+        let call = drawing::made(&mut random);
+        let Ok((sheet, _)) = plain::sheet::read_whole(&call.sheet) else { continue };
+        if plain::dot::judge(&call.sheet).is_ok_and(|text| text.len() <= LONGEST) {
+            let (nodes, edges) = compare_picture(&sheet)?;
+            counts.pictures.0 += 1;
+            counts.pictures.1 += nodes as u64;
+            counts.pictures.2 += edges as u64;
+        }
+    }
+    Ok(counts)
+}
+
 /// Runs of the program: on the fixed files, then on files from the seed.
 fn compare_runs(path: &Path, arguments: &Arguments) -> Result<Counts, String> {
     let mut counts = Counts::default();
@@ -372,6 +479,10 @@ fn compare_all(arguments: &Arguments) -> Result<Counts, String> {
         if arguments.loads > 0 {
             counts.add(in_threads(arguments, compare_loads));
         }
+        if arguments.drawings > 0 {
+            counts.add(in_threads(arguments, compare_drawings));
+        }
+        counts.add(compare_pictures(arguments)?);
     }
     if let Some(program) = &arguments.program {
         let runs = compare_runs(program, arguments);
@@ -396,7 +507,7 @@ fn main() -> ExitCode {
         Err(message) => return fail(message),
     };
     if let Some((call, difference)) = counts.shortest.take() {
-        report(&call, &difference, &mut sides());
+        report(&call, &difference);
     }
     println!("{}", counts.line());
     ExitCode::from((counts.differences > 0) as u8)

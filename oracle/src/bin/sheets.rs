@@ -1,4 +1,4 @@
-//! sheets answers|loads|replay N DIR
+//! sheets answers|loads|drawings|replay N DIR
 //!
 //! Writes test data from fixed seeds, as 32-bit words, lowest byte first.
 //!
@@ -12,6 +12,12 @@
 //!   seed, n, m, output length, refusal (0 if there is a load),
 //!   sheet length (0 if refused), sheet words..
 //!
+//! drawings/drawings.bin: records of drawings, of sheets at each limit, N made and N damaged ones, each
+//!   with a text that is full, one byte short and longer
+//!   sheet length, sheet words..
+//!   workspace length, text length in bytes, refusal (0 if it is drawn),
+//!   how many bytes are drawn (0 if refused), the bytes, filled up with zeros to whole words
+//!
 //! replay/{data/answers.bin,stdout}: records of src/replay.rs, with N accepted and N damaged
 //!   sheets, in parts of 32,768 words; and that program's line of counts
 
@@ -19,16 +25,19 @@ use std::path::Path;
 use std::process::ExitCode;
 
 use oracle::damage::{Call, damaged};
+use oracle::drawing;
 use oracle::generate::{self, LIMITS};
 use oracle::load::{self, Load};
+use oracle::plain::dot::{Drawn, judge, lend};
+use oracle::plain::sheet::WORKSPACE_WORDS;
 use oracle::plain::{self, Outcome};
-use oracle::program::bytes;
+use oracle::program::{bytes, file_words};
 use oracle::random::Random;
 use oracle::replay;
 
 type Words = Vec<u32>;
 
-const KINDS: [&str; 3] = ["answers", "loads", "replay"];
+const KINDS: [&str; 4] = ["answers", "loads", "drawings", "replay"];
 
 // =============================================================================
 // Answers
@@ -107,6 +116,45 @@ fn write_loads(folder: &Path, count: usize) -> std::io::Result<()> {
 }
 
 // =============================================================================
+// Drawings
+// =============================================================================
+
+fn drawn(sheet: &[u32], workspace: usize, room: usize) -> Words {
+    let (refusal, text) = match lend(&judge(sheet), workspace, room) {
+        Drawn::Refused(refusal) => (refusal, Vec::new()),
+        Drawn::Text(text) => (0, text),
+    };
+    let mut words = Vec::new();
+    put_list(&mut words, sheet);
+    words.extend([workspace as u32, room as u32, refusal, text.len() as u32]);
+    words.extend(file_words(&text));
+    words
+}
+
+fn write_drawings(folder: &Path, count: usize) -> std::io::Result<()> {
+    let mut random = Random::new(12);
+    let mut calls: Vec<(Vec<u32>, usize, usize)> = Vec::new();
+    let mut call = |sheet: Vec<u32>, workspace: usize| {
+        let full = judge(&sheet).map_or(0, |text| text.len());
+        for room in [full, full.saturating_sub(1), full + 77] {
+            calls.push((sheet.clone(), workspace, room));
+        }
+    };
+    LIMITS.into_iter().for_each(|limit| {
+        call(generate::at_limit(&mut random, limit).words(), WORKSPACE_WORDS);
+    });
+    for _ in 0..count {
+        call(drawing::made(&mut random).sheet, WORKSPACE_WORDS);
+        let damaged = damaged(&mut random);
+        call(damaged.sheet, damaged.workspace);
+    }
+    write(folder, "drawings.bin", calls.len(), |i| {
+        let (sheet, workspace, room) = &calls[i];
+        drawn(sheet, *workspace, *room)
+    })
+}
+
+// =============================================================================
 // Replay
 // =============================================================================
 
@@ -143,6 +191,7 @@ fn make(what: &str, count: usize, folder: &Path) -> std::io::Result<()> {
     match what {
         "answers" => write_answers(&folder, count),
         "loads" => write_loads(&folder, count),
+        "drawings" => write_drawings(&folder, count),
         _ => write_replay(&folder, count),
     }
 }

@@ -2,6 +2,7 @@
 //! in the order of their text. Lists and loops only; no thought of speed or of memory.
 
 pub mod building;
+pub mod dot;
 pub mod operands;
 pub mod sheet;
 pub mod walks;

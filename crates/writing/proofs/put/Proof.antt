@@ -1,10 +1,6 @@
-use Prim.Native.Nat.{ℕ}
-use mathlib.Core.Path.{refl, sym, ap, _∙_}
 use mathlib.Core.Logic.{⊎-elim}
-use mathlib.Core.List.{List}
-use lib.ListN.{length, length-set}
-use lib.Seq.{set-out}
 use borrow.Author.Needs.{needs}
+use Rattle.writing.proofs.Writing.{wrote-in, wrote-past, wrote-same}
 use Rattle.writing.proofs.put.Statement.{statement}
 use Rattle.writing.proofs.put.Tie as tie
 
@@ -19,14 +15,11 @@ add-result c = search needs
 
 same-length : tie.Need-same-length
 same-length c =
-    let a : List ℕ = c .before .args .answer .now in
-    ⊎-elim (λ w. ap (λ (l : List ℕ). length l) (w .1) ∙ length-set a (c .before .args .at) (c .before .args .word)) (λ w. ap (λ (l : List ℕ). length l) (w .1)) (c .if1 .came)
+    let s = c .before .args in
+    ⊎-elim (λ w. wrote-same {a = s .answer .now} {at = s .at} (wrote-in {v = s .word} (w .1))) (λ w. wrote-same {a = s .answer .now} {at = s .at} (wrote-past {v = s .word} (w .0 .left) (w .1))) (c .if1 .came)
 
 returns : tie.Need-returns
-returns c = record {
-  words = ⊎-elim (λ w. w .1) (λ w. w .1 ∙ sym (set-out _ _ _ (w .0 .left))) (c .if1 .came);
-  next = refl;
-}
+returns c = ⊎-elim (λ w. wrote-in (w .1)) (λ w. wrote-past (w .0 .left) (w .1)) (c .if1 .came)
 
 pub put-spec : {M : Type 1} → statement M
 put-spec = tie.close (tie.spec mul-answer slice-write-answer add-result same-length returns)

@@ -1,5 +1,5 @@
 //! Sheets for people: words to text, text to words, the library's answer, why each end is where it
-//! is, and class loads.
+//! is, drawings, and class loads.
 
 mod class_load;
 mod explain;
@@ -22,6 +22,7 @@ usage: sheet text FILE [-o OUT]      a file of words as text
        sheet words FILE [-o OUT]     text as a file of words
        sheet answer FILE [-o OUT]    the answer, a line for each section: either form
        sheet explain FILE [-o OUT]   each identifier's range before and after, and why: either form
+       sheet dot FILE [-o OUT]       the graph as a DOT file, for Graphviz: either form
        sheet load SEED N M [--text] [-o OUT]
                                      the class load of a seed: a sheet of N identifiers (2 to 512)
                                      and M effects (1 to 512), as words or as text
@@ -88,6 +89,7 @@ fn request(args: impl Iterator<Item = OsString>) -> Result<Request, String> {
         Some("words") => to_words,
         Some("answer") => answered,
         Some("explain") => explained,
+        Some("dot") => drawn,
         _ => return Err(format!("unknown command `{}`", name.display())),
     };
     let Some(file) = words.next().map(PathBuf::from) else {
@@ -152,21 +154,28 @@ fn bytes(words: &[u32]) -> Vec<u8> {
     words.iter().flat_map(|word| word.to_le_bytes()).collect()
 }
 
-/// The library is asked about the words as they are, faulty ones too.
 fn answered(file: &Path) -> Result<Vec<u8>, String> {
+    asked(file, |words| Service::new().infer(words).map(|answer| answer.to_string()))
+}
+
+fn drawn(file: &Path) -> Result<Vec<u8>, String> {
+    asked(file, |words| Service::new().dot(words))
+}
+
+/// The library is asked about the words as they are, faulty ones too.
+fn asked(
+    file: &Path,
+    library: impl FnOnce(&[u32]) -> Result<String, Refusal>,
+) -> Result<Vec<u8>, String> {
     let words = match load::load(file)? {
         Form::Text(text) => text::parse(&text).map_err(|e| e.to_string())?.0.words(),
         Form::Words(words) => words,
     };
-    let mut service = Service::new();
-    match service.infer(&words) {
-        Ok(answer) => Ok(answer.to_string().into_bytes()),
-        Err(refusal) => Err(match Sheet::read(&words) {
-            Ok(sheet) => why(&sheet, refusal),
-            Err(error) if error.refusal() == refusal => error.to_string(),
-            Err(_) => refusal.to_string(),
-        }),
-    }
+    library(&words).map(String::into_bytes).map_err(|refusal| match Sheet::read(&words) {
+        Ok(sheet) => why(&sheet, refusal),
+        Err(error) if error.refusal() == refusal => error.to_string(),
+        Err(_) => refusal.to_string(),
+    })
 }
 
 fn explained(file: &Path) -> Result<Vec<u8>, String> {

@@ -1,3 +1,4 @@
-//! Stand-in: the one pass.
+//! Stand-in: the one pass, and the graph that it builds.
 
+pub mod graph;
 pub mod infer_mutation_aliasing_ranges;

@@ -1,0 +1,4 @@
+pub mod Lengths
+pub mod Listing
+pub mod Nodes
+pub mod Calling
