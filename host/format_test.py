@@ -639,8 +639,33 @@ def refusals():
     operands = [(i, place(0)) for i in range(1_000)]
     mixed = [[phi(place(0), *operands)], [instruction(1, *[alias] * 21)], returned(2, place(0), alias, alias, mutate)]
     check(isinstance(answer(blocks(block(0, *mixed))), list), True, "1,024 relation effects")
-    check(answer(blocks(block(0, *mixed), block(1, [], [], maybe_throw(3, alias)))), 8, "1,025 relation effects")
-    check(answer(blocks(block(0, *mixed)) + [0]), 7, "7 before 8")
+    over = blocks(block(0, *mixed), block(1, [], [], maybe_throw(3, alias)))
+    check(answer(over), 8, "1,025 relation effects")
+    check(answer(blocks(block(0, *mixed)) + [0]), 7, "a word behind 1,024 relation effects")
+    check(answer(over + [0]), 8, "8 before 7")
+    # Which word passes: the kind of an effect, the number of an operand, the identifier of a Return's value.
+    operands = [(i, place(0)) for i in range(1_023)]
+    ended = blocks(block(0, [phi(place(0), *operands)], [], returned(2, place(0), alias)))
+    returning = blocks(block(0, [phi(place(0), *operands, (1_023, place(0)))], [], returned(2, place(0))))
+    joining = blocks(block(0, [phi(place(0), *operands), phi(place(0), (7, place(0)), (8, place(0)))], [], other(2)))
+
+    def changed(words, at, word):
+        return words[:at] + [word] + words[at + 1:]
+
+    for words, end, what, wrong in (
+            (over, 9, "an Alias of a MaybeThrow", [(18, 5)]),
+            (ended, 9, "an Alias of a Return", [(18, 5)]),
+            (returning, 5, "the value of a Return", [(1, 5)]),
+            (joining, 8, "a phi operand", [(65_536, 5), (7, 6)])):
+        at = len(words) - end
+        check(answer(words), 8, f"{what} that passes")
+        check(answer(words[:at]), 3, f"a sheet cut before {what} that passes")
+        check(answer(words[:at + 1]), 8, f"a sheet cut behind the first word of {what} that passes")
+        for word, refusal in wrong:
+            check(answer(changed(words, at, word)), refusal, f"{what} that passes and is {word}")
+        check(answer(changed(words, at + 2, 16)), 8, f"{what} that passes, with a fault behind")
+    order = len(returning) - 6
+    check(answer(changed(returning, order, 1_000_000)), 5, "the order of a Return whose value passes")
     full = in_one(*[effect("Freeze", place(0))] * 2_042)
     check((len(full), isinstance(answer(full), list)), (16_373, True), "a long sheet")
     check(answer(full + [0] * 11), 7, "16,384 words")
@@ -652,6 +677,7 @@ def refusals():
     check(answer(in_one(apply, *[render] * (TOTAL["renders"] + 1))), 8, "8 before 10")
     # From the page.
     check(answer([2, 7]), 5, "a sheet that is cut behind a flag 7")
+    check(answer(in_one(*[render] * (TOTAL["renders"] + 1))[:-10]), 8, "257 renders, cut behind the kind of the last")
     large = block(65_536, [], [], other(1))
     check(answer(blocks(large, large)), 5, "a block number above its limit, twice")
 

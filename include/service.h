@@ -47,8 +47,9 @@ extern "C" {
  * four digits. That is counted, not proved: where a call is refused 9 all the same, lend more. */
 #define SERVICE_MOST_DRAWING 44046
 
-/* Why a call was refused. The lower number is checked first, but 3 to 6 come from one reading from
- * left to right, where the first faulty word decides, and 10 comes before 9. */
+/* Why a call was refused. 1 and 2 are checked first; 3 to 6 and 8 come from one reading from left to
+ * right, where the first faulty word decides, and for one word the lower number; then come 7, 10 and
+ * 9. */
 enum ServiceRefusal {
     SERVICE_ACCEPTED = 0,
     /* The workspace has fewer than 16,384 words. */

@@ -8,7 +8,7 @@ use crate::parts::{
     Identifier, IdentifierId, InstructionValue, MutableRange, Place, Type,
 };
 use crate::refusal::Refusal;
-use crate::sheet::{Block, InnerFunction, Instruction, Operand, Phi, Sheet, Terminal};
+use crate::sheet::{Block, InnerFunction, Instruction, Operand, Phi, Sheet, Terminal, Totals};
 
 /// The first fault in a sheet's words.
 #[derive(Debug, Clone, PartialEq, Eq)]
@@ -57,7 +57,14 @@ struct Reader<'s> {
     /// Number of identifiers and of inner functions, once read.
     identifiers: u32,
     functions: u32,
+    /// What has been counted so far.
+    totals: Totals,
+    /// Whether a total above its limit is a fault.
+    counting: bool,
 }
+
+/// What an effect adds to the totals.
+type Adds = fn(&mut Totals, EffectKind);
 
 impl Reader<'_> {
     /// A fault of the word read last.
@@ -129,6 +136,16 @@ impl Reader<'_> {
         (0..count).map(|i| read(self).map_err(|e| e.within(part, i, count))).collect()
     }
 
+    /// The word read last adds to the totals.
+    fn counted(&mut self, add: impl FnOnce(&mut Totals)) -> Read<()> {
+        add(&mut self.totals);
+        match self.totals.over().next() {
+            Some((what, _, most)) if self.counting => self
+                .fault(Refusal::Totals, format!("expected at most {most} {what}, found one more")),
+            _ => Ok(()),
+        }
+    }
+
     fn identifier(&mut self) -> Read<Identifier> {
         let start = EvaluationOrder(self.at_most("a range's start", limits::RANGE)?);
         let end = EvaluationOrder(self.at_most("a range's end", limits::RANGE)?);
@@ -152,6 +169,18 @@ impl Reader<'_> {
 
     fn place(&mut self) -> Read<Place> {
         let identifier = self.below("a place's identifier", self.identifiers)?;
+        self.place_of(identifier)
+    }
+
+    /// The value of a Return, which counts at its identifier.
+    fn returned(&mut self) -> Read<Place> {
+        let identifier = self.below("a place's identifier", self.identifiers)?;
+        self.counted(Totals::add_relation)?;
+        self.place_of(identifier)
+    }
+
+    /// The rest of a place.
+    fn place_of(&mut self, identifier: u32) -> Read<Place> {
         let traits = self.at_most("a place's traits (effect, plus 8 if reactive)", 15)?;
         let span = self.word("a place's span")?;
         Ok(Place::from_words([identifier, traits, span]).expect("traits are at most 15"))
@@ -188,9 +217,10 @@ impl Reader<'_> {
         Ok(Place::of(IdentifierId(instance)))
     }
 
-    fn effect(&mut self) -> Read<AliasingEffect> {
+    fn effect(&mut self, adds: Adds) -> Read<AliasingEffect> {
         let kind = self.at_most("an effect kind", 17)?;
         let kind = EffectKind::ALL[kind as usize];
+        self.counted(|totals| adds(totals, kind))?;
         let first = self.effect_place(kind.places() >= 1, kind)?;
         let second = self.second_place(kind)?;
         let extra = match (kind, kind.most_extra()) {
@@ -206,9 +236,9 @@ impl Reader<'_> {
         Ok(AliasingEffect::of(kind, first, second, extra).expect("the extra word is in range"))
     }
 
-    fn effects(&mut self, what: &str) -> Read<Vec<AliasingEffect>> {
+    fn effects(&mut self, what: &str, adds: Adds) -> Read<Vec<AliasingEffect>> {
         let count = self.count(what, limits::COUNT)?;
-        self.times("effect", count, Self::effect)
+        self.times("effect", count, |r| r.effect(adds))
     }
 
     /// The effects of an instruction, whose list can be absent.
@@ -217,7 +247,8 @@ impl Reader<'_> {
             self.at += 1;
             return Ok(None);
         }
-        self.effects("effects (4294967295 if the list is absent)").map(Some)
+        let what = "effects (4294967295 if the list is absent)";
+        self.effects(what, Totals::add_effect).map(Some)
     }
 
     /// A block number that is not among those before it.
@@ -237,6 +268,7 @@ impl Reader<'_> {
         let mut predecessors = Vec::new();
         let operands = self.times("operand", count, |r| {
             let predecessor = r.fresh_number("a predecessor's number", &mut predecessors)?;
+            r.counted(Totals::add_relation)?;
             Ok(Operand { predecessor, place: r.place()? })
         })?;
         Ok(Phi { place, operands })
@@ -276,10 +308,10 @@ impl Reader<'_> {
                 let operands = self.places("a terminal's operands", "operand")?;
                 return Ok((Terminal::Other { order }, Vec::new(), operands));
             }
-            1 => Terminal::Return { order, value: self.place()? },
+            1 => Terminal::Return { order, value: self.returned()? },
             _ => Terminal::MaybeThrow { order },
         };
-        let effects = self.effects("a terminal's effects")?;
+        let effects = self.effects("a terminal's effects", Totals::add_terminal_effect)?;
         let what = if kind == 1 { "a Return's operands" } else { "a MaybeThrow's operands" };
         self.fixed_count(what, 0)?;
         Ok((terminal, effects, Vec::new()))
@@ -325,8 +357,20 @@ impl Reader<'_> {
     }
 }
 
+/// A sheet whose one fault is a total above its limit is read all the same. If there is another
+/// fault behind, the word that passes the total comes first.
 pub(crate) fn read(words: &[u32]) -> Read<Sheet> {
-    let mut reader = Reader { words, at: 0, identifiers: 0, functions: 0 };
+    match read_words(words, true) {
+        Err(passed) if passed.refusal == Refusal::Totals => {
+            read_words(words, false).map_err(|_| passed)
+        }
+        read => read,
+    }
+}
+
+fn read_words(words: &[u32], counting: bool) -> Read<Sheet> {
+    let totals = Totals::default();
+    let mut reader = Reader { words, at: 0, identifiers: 0, functions: 0, totals, counting };
     if words.len() > limits::WORDS {
         reader.at = limits::WORDS + 1;
         let fault =

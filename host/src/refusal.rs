@@ -2,8 +2,9 @@
 
 use std::fmt;
 
-/// Why a call was refused. The lower number is checked first, but 3 to 6 come from one reading
-/// left to right, where the first faulty word decides, and 10 comes before 9.
+/// Why a call was refused. 1 and 2 are checked first; 3 to 6 and 8 come from one reading left to
+/// right, where the first faulty word decides, and for one word the lower number; then come 7, 10
+/// and 9.
 ///
 /// The library says no more than the number. Which word is faulty and what was expected there says
 /// [`Sheet::read`](crate::Sheet::read) of the same words; how many relation effects, mutations and
@@ -28,7 +29,9 @@ pub enum Refusal {
     UsedTwice = 6,
     /// Words follow the last block.
     WordsFollow = 7,
-    /// The sheet has over 1,024 relation effects, 512 mutations or 256 renders.
+    /// The sheet has over 1,024 relation effects, 512 mutations or 256 renders. They are counted
+    /// while the sheet is read, so that a sheet that passes a total and is cut behind that is
+    /// refused 8.
     Totals = 8,
     /// The answer buffer is shorter than the answer, or fewer words are lent than a class load has, or
     /// fewer bytes than a drawing. Comes from [`Service`](crate::Service) only where it was given a

@@ -139,6 +139,23 @@ pub struct Totals {
 }
 
 impl Totals {
+    /// A phi operand or the value of a Return.
+    pub(crate) fn add_relation(&mut self) {
+        self.relations += 1;
+    }
+
+    /// An effect of an instruction.
+    pub(crate) fn add_effect(&mut self, kind: EffectKind) {
+        self.relations += kind.is_relation() as usize;
+        self.mutations += kind.is_mutation() as usize;
+        self.renders += (kind == EffectKind::Render) as usize;
+    }
+
+    /// An effect of a terminal.
+    pub(crate) fn add_terminal_effect(&mut self, kind: EffectKind) {
+        self.relations += (kind == EffectKind::Alias) as usize;
+    }
+
     /// Those that are over their limit: what is counted, how many there are, and how many there
     /// may be.
     pub fn over(self) -> impl Iterator<Item = (&'static str, usize, usize)> {
@@ -155,6 +172,10 @@ impl Totals {
 impl Sheet {
     /// The sheet that these words are, or the first fault in them: which word it is, in which part
     /// of the sheet, and what was expected there.
+    ///
+    /// A sheet whose one fault is a total above its limit is read all the same, and
+    /// [`Sheet::refusal`] tells it. With another fault behind, a cut for instance, the first fault
+    /// is the word that passes the total, refusal 8.
     pub fn read(words: &[u32]) -> Result<Sheet, ReadError> {
         reading::read(words)
     }
@@ -210,13 +231,12 @@ impl Sheet {
         for block in &self.blocks {
             totals.relations += block.phis.iter().map(|phi| phi.operands.len()).sum::<usize>();
             for effect in block.instructions.iter().flat_map(Instruction::listed_effects) {
-                totals.relations += effect.kind().is_relation() as usize;
-                totals.mutations += effect.kind().is_mutation() as usize;
-                totals.renders += (effect.kind() == EffectKind::Render) as usize;
+                totals.add_effect(effect.kind());
             }
             totals.relations += matches!(block.terminal, Terminal::Return { .. }) as usize;
-            let alias = |effect: &&AliasingEffect| effect.kind() == EffectKind::Alias;
-            totals.relations += block.terminal_effects.iter().filter(alias).count();
+            for effect in &block.terminal_effects {
+                totals.add_terminal_effect(effect.kind());
+            }
         }
         totals
     }

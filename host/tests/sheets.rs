@@ -3,11 +3,12 @@
 use oracle::damage::damaged;
 use oracle::generate;
 use oracle::random::Random;
+use oracle::totals;
 use service_host::text::{self, Names};
 use service_host::{
     AliasingDiagnostic, AliasingEffect, BlockId, Effect, EvaluationOrder, FunctionId, Identifier,
-    IdentifierId, InstructionValue, MutableRange, PartError, Place, Service, Sheet, SheetBuilder,
-    Terminal, limits,
+    IdentifierId, InstructionValue, MutableRange, PartError, Place, Refusal, Service, Sheet,
+    SheetBuilder, Terminal, limits,
 };
 
 /// The generator's sheets, as words.
@@ -100,6 +101,26 @@ fn faults_are_the_librarys() {
     assert!(seen[2..9].iter().all(|&count| count > 50) && seen[10] > 50, "{seen:?}");
 }
 
+/// The word that passes a total decides, whatever is behind it; what is before it, or wrong with the
+/// word itself, comes first. A sheet with no other fault is read all the same.
+#[test]
+fn totals_while_reading() {
+    let mut service = Service::new();
+    let mut read = 0;
+    for sheet in totals::all() {
+        let refusal = match Sheet::read(&sheet.words) {
+            Ok(parts) => {
+                read += 1;
+                parts.refusal()
+            }
+            Err(error) => Some(error.refusal()),
+        };
+        assert_eq!(refusal, Refusal::from_number(sheet.refusal), "{}", sheet.name);
+        assert_eq!(service.infer(&sheet.words).err(), refusal, "{}", sheet.name);
+    }
+    assert!(read > 10, "{read}");
+}
+
 #[test]
 fn the_first_fault_in_words() {
     let error = |words: &[u32]| Sheet::read(words).unwrap_err().to_string();
@@ -118,6 +139,13 @@ fn the_first_fault_in_words() {
     assert_eq!(
         error(&with(&[2, 7, 0, 0, 0, 1, 0, 7])),
         "refused 6: word 21 (block 2 of 2): expected a block number, found 7, which was used before"
+    );
+    let renders = [17, 0, 0, 0, 0, 0, 0, 0].repeat(257);
+    let over = [&with(&[1, 7, 0, 1, 1, 0, 0, 0, 0, 0, 0, 257])[..], &renders].concat();
+    assert_eq!(
+        error(&over),
+        "refused 8: word 2074 (block 1 of 1, instruction 1 of 1, effect 257 of 257): expected at \
+         most 256 renders, found one more"
     );
     assert_eq!(
         error(&with(&[1, 7, 0, 1, 1, 0, 0, 0, 0, 0, 0, 1, 6, 0, 0, 0, 1])),

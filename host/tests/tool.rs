@@ -271,6 +271,15 @@ fn refusals_of_the_whole() {
         let words = file("totals.sheet", &output.stdout);
         assert_eq!(fault(&["answer", &words]), message.replace("totals.txt", "totals.sheet"));
     }
+    // Cut behind the word that passes, it cannot be read; the total is the news all the same.
+    let path = file("totals.txt", totals[1].0.as_bytes());
+    let words = sheet(&["words", &path]).stdout;
+    let cut = file("cut.sheet", &words[..words.len() - 4]);
+    let message = "refused 8: word 2074 (block 1 of 1, instruction 1 of 1, effect 257 of 257): \
+                   expected at most 256 renders, found one more";
+    for command in ["answer", "explain", "text"] {
+        assert_eq!(fault(&[command, &cut]), format!("sheet: {cut}: {message}\n"));
+    }
     let long = text("Freeze a", 1_018) + "instruction at 2\n";
     let path = file("long.txt", (long + &"Freeze a\n".repeat(1_024) + one).as_bytes());
     let words = 3 + 4 + 1 + 1 + 1 + 4 + 1 + 2 + 1 + 8 + 8 + 8 * 2_042 + 3;

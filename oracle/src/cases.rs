@@ -13,6 +13,7 @@ use crate::plain::sheet::{
 use crate::plain::walks::trace;
 use crate::plain::{self, Answer, Outcome};
 use crate::random::Random;
+use crate::totals;
 
 pub const CASE_1: &str = "2 0 1 / 3 0 0 0 0 0 0 0 0 0 / 0 / 1 0 0 5 / 0 / 1 2 0 0 / 1 0 0 2 1 0 0 0 0 0 0 2 9 1 0 0 0 0 0 0 5 0 0 0 1 0 0 0 2 0 0 0 0 0 0 1 3 1 0 7 0 0 0 0 1 3 1 0 0 0 0";
 
@@ -266,12 +267,8 @@ fn ordered_sheets() -> Vec<(&'static str, Vec<u32>, u32)> {
         words
     };
     let whole = good.len();
-    let past = generate::past_limit(&mut Random::new(1), Limit::Renders).words();
-    let longer: Vec<u32> = past.iter().copied().chain([0]).collect();
     let apply = Effect { kind: APPLY, ..Effect::default() };
     let applied = sheet(1, &[], 0, vec![block(0, &[one(1, 0)]), block(1, &[apply])]).words();
-    let mut applied_past = generate::past_limit(&mut Random::new(1), Limit::Renders);
-    applied_past.blocks[0].instructions[0].effects.get_or_insert_default().push(apply);
     let mut in_terminal = sheet(1, &[], 0, vec![block(0, &[])]);
     in_terminal.blocks[0].terminal = Terminal::MaybeThrow { order: 2, effects: vec![apply] };
     let applied_longer = applied.iter().copied().chain([0]).collect();
@@ -292,9 +289,6 @@ fn ordered_sheets() -> Vec<(&'static str, Vec<u32>, u32)> {
         ("Apply in a terminal", in_terminal.words(), 0),
         ("10", applied, 10),
         ("7 before 10", applied_longer, 7),
-        ("8 before 10", applied_past.words(), 8),
-        ("8", past, 8),
-        ("7 before 8", longer, 7),
     ]
 }
 
@@ -303,12 +297,16 @@ fn refusal_order() -> Result<(), String> {
     for (name, words, expected) in &sheets {
         is(name, refusal(&roomy(words))?, *expected)?;
     }
-    let [.., (_, past, _), (_, longer, _)] = &sheets[..] else { unreachable!("there are two") };
-    is("8 before 9", refusal(&Call { room: Room::None, ..roomy(past) })?, 8)?;
-    let (_, applied, _) = sheets.iter().find(|sheet| sheet.0 == "10").ok_or("no Apply")?;
+    let find = |name| sheets.iter().find(|sheet| sheet.0 == name).ok_or("no such sheet");
+    let (_, longer, _) = find("7")?;
+    let (_, applied, _) = find("10")?;
     is("10 before 9", refusal(&Call { room: Room::None, ..roomy(applied) })?, 10)?;
     is("1 before 10", refusal(&Call { workspace: 0, ..roomy(applied) })?, 1)?;
-    is("1 before 7", refusal(&Call { workspace: 0, ..roomy(longer) })?, 1)
+    is("1 before 7", refusal(&Call { workspace: 0, ..roomy(longer) })?, 1)?;
+    let past = generate::past_limit(&mut Random::new(1), Limit::Renders).words();
+    is("8", refusal(&roomy(&past))?, 8)?;
+    is("8 before 9", refusal(&Call { room: Room::None, ..roomy(&past) })?, 8)?;
+    is("1 before 8", refusal(&Call { workspace: 0, ..roomy(&past) })?, 1)
 }
 
 /// Every word at the end of its range and one past it.
@@ -317,7 +315,13 @@ fn words_in_range() -> Result<(), String> {
     sheets.iter().try_for_each(|s| is(&s.name, refusal(&roomy(&s.words))?, s.refusal))
 }
 
-/// The words of every sheet above; the first one is case 1's.
+/// Totals met and passed, with a fault before, at and behind the word that passes.
+fn totals_passed() -> Result<(), String> {
+    let sheets = totals::all();
+    sheets.iter().try_for_each(|s| is(&s.name, refusal(&roomy(&s.words))?, s.refusal))
+}
+
+/// The words of every sheet above but those of the totals; the first one is case 1's.
 pub fn sheets() -> Vec<Vec<u32>> {
     let made = without_blocks().into_iter().chain(graph_sheets()).chain(relation_sheets());
     let mut sheets = vec![case_1_words()];
@@ -327,8 +331,12 @@ pub fn sheets() -> Vec<Vec<u32>> {
     sheets
 }
 
-pub const FURTHER: [(&str, fn() -> Result<(), String>); 3] =
-    [("limits", limits), ("refusal order", refusal_order), ("words in range", words_in_range)];
+pub const FURTHER: [(&str, fn() -> Result<(), String>); 4] = [
+    ("limits", limits),
+    ("refusal order", refusal_order),
+    ("words in range", words_in_range),
+    ("totals", totals_passed),
+];
 
 pub const CASES: [fn() -> Result<(), String>; 9] =
     [case_1, case_2, case_3, case_4, case_5, case_6, case_7, case_8, case_9];

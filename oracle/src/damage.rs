@@ -1,6 +1,7 @@
 //! Damaged sheets: good ones cut, extended or changed, and buffers too short.
 
 use crate::generate::{self, Limit, PASSABLE};
+use crate::plain;
 use crate::plain::sheet::{
     ABSENT, APPLY, Diagnostic, EFFECTS, Effect, MAX_BLOCK_NUMBER, MAX_DIAGNOSTIC, MAX_ORDER,
     MAX_RANGE, MAX_TRAITS, MAX_TYPE, SHEET_WORDS, Sheet, Terminal, Value, WORKSPACE_WORDS,
@@ -276,6 +277,32 @@ fn change_effect_count(sheet: &Sheet, random: &mut Random) -> Vec<u32> {
     words
 }
 
+/// The word that passes a total, of a sheet that is refused for that: behind it the sheet may end.
+fn passing_word(words: &[u32]) -> Option<usize> {
+    if plain::read(words) != Err(8) {
+        return None;
+    }
+    let all: Vec<usize> = (0..words.len()).collect();
+    Some(all.partition_point(|&at| plain::read(&words[..=at]) == Err(3)))
+}
+
+/// Put a fault near the word that passes a total, or, if none does, anywhere.
+fn damage_total(words: &mut Vec<u32>, random: &mut Random) {
+    let whole = words.len();
+    let passing = passing_word(words).unwrap_or_else(|| random.below(whole));
+    let near = (passing + random.choose(&[0, 1, 1, 2, 3, 4, 7, 8, 9, 10, 11])).saturating_sub(3);
+    match random.below(10) {
+        0 => {}
+        1 => words.truncate(random.between(passing, whole)),
+        2 | 3 => words.truncate(passing + random.below(2)),
+        4 => words.truncate(near),
+        5 => words.push(random.choose(&EDGES)),
+        6 => words[passing] = random.choose(&EDGES),
+        7 => change_word(&mut words[passing..], random),
+        _ => words[near.min(whole - 1)] = random.choose(&EDGES),
+    }
+}
+
 /// Mostly small sheets: damage does not need large ones.
 fn good_sheet(random: &mut Random) -> Sheet {
     if random.percent(80) { generate::tiny(random) } else { generate::sheet(random) }
@@ -335,7 +362,7 @@ pub fn damaged(random: &mut Random) -> Call {
             }
         }
         // A number used a second time, at times with another fault.
-        70..82 => {
+        70..78 => {
             for _ in 0..random.between(1, 2) {
                 repeat_number(&mut sheet, random);
             }
@@ -343,6 +370,11 @@ pub fn damaged(random: &mut Random) -> Call {
             if random.percent(15) {
                 change_word(&mut call.sheet, random);
             }
+        }
+        // A total met or passed, and mostly another fault.
+        78..82 => {
+            call.sheet = generate::about_total(random).words();
+            damage_total(&mut call.sheet, random);
         }
         // A limit passed by one.
         82..86 => {

@@ -7,7 +7,7 @@ use crate::original_side;
 use crate::plain::dot::{Drawn, judge, lend};
 use crate::plain::sheet::{WORKSPACE_WORDS, read_whole};
 use crate::random::Random;
-use crate::{cases, dense, generate, text};
+use crate::{cases, dense, generate, text, totals};
 
 /// A further side that draws, such as our own library.
 pub trait Drawer {
@@ -26,10 +26,11 @@ pub trait Drawer {
 // Which sheets
 // =============================================================================
 
-/// The bench cases, the ranges of words, the sheets of smallest/ and drawings/, and those whose
-/// walks are long.
+/// The bench cases, the ranges of words, the totals, the sheets of smallest/ and drawings/, and those
+/// whose walks are long.
 pub fn fixed() -> Vec<Call> {
     let mut sheets = cases::sheets();
+    sheets.extend(totals::all().into_iter().map(|sheet| sheet.words));
     let texts = text::smallest().into_iter().chain(text::drawings());
     sheets.extend(texts.map(|text| text.words));
     sheets.extend(dense::all().iter().map(|(_, sheet)| sheet.words()));

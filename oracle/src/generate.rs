@@ -899,6 +899,65 @@ fn about_limit(random: &mut Random, limit: Limit, more: usize) -> Sheet {
     sheet
 }
 
+/// What a total counts, and how it is filled.
+#[derive(Clone, Copy, PartialEq, Eq)]
+enum Fill {
+    Operands,
+    Relations,
+    Mutations,
+    Renders,
+}
+
+impl Fill {
+    /// Effects that count to the total.
+    fn kinds(self) -> &'static [u32] {
+        match self {
+            Fill::Operands | Fill::Relations => &[5, 6, 7, 8, 10],
+            Fill::Mutations => &[1, 2, 3, 4],
+            Fill::Renders => &[17],
+        }
+    }
+}
+
+/// A sheet with a total nearly met by its first block; the others meet it or pass it, or they do
+/// not, anywhere in them. It has no Apply, and no other fault.
+pub fn about_total(random: &mut Random) -> Sheet {
+    let identifiers = random.between(2, 16);
+    let mut g = generator(random, identifiers, 2);
+    let mut sheet = g.sheet(&Size { blocks: 0, ..TINY });
+    let fill = g.random.choose(&[Fill::Operands, Fill::Relations, Fill::Mutations, Fill::Renders]);
+    let total = match fill {
+        Fill::Operands | Fill::Relations => MAX_RELATIONS,
+        Fill::Mutations => MAX_MUTATIONS,
+        Fill::Renders => MAX_RENDERS,
+    };
+    let mut left = total - g.random.choose(&[0, 0, 1, 2, 3, 5, 9]);
+    let count = g.random.between(1, 5);
+    let numbers = g.block_numbers(count);
+    let mut filled = empty_block(numbers[0]);
+    while left > 0 {
+        let part = left.min(g.random.between(1, 400));
+        left -= part;
+        if fill == Fill::Operands {
+            let base = g.random.below(60_000) as u32;
+            let operands = (base..).take(part).map(|number| (number, g.place())).collect();
+            filled.phis.push(Phi { place: g.place(), operands });
+        } else {
+            let kinds: Vec<u32> = (0..part).map(|_| g.random.choose(fill.kinds())).collect();
+            let effects = kinds.into_iter().map(|kind| g.effect_of(kind)).collect();
+            let order = g.order();
+            filled.instructions.push(Instruction::plain(order, effects));
+        }
+    }
+    sheet.blocks = vec![filled];
+    // From here on nothing but the words has a limit.
+    let words = SHEET_WORDS - sheet.words().len();
+    g.left = Left { words, relations: usize::MAX, mutations: usize::MAX, renders: usize::MAX };
+    fill.kinds().iter().for_each(|&kind| g.weights[kind as usize] += 3);
+    sheet.blocks.extend((1..count).map_while(|at| g.block(&numbers, at, &SMALL)));
+    sheet
+}
+
 /// Many function nodes handed over by many renders.
 fn many_diagnostics(g: &mut Generator) -> Sheet {
     let diagnostics = (0..64).map(|_| g.diagnostic()).collect();

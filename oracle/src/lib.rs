@@ -20,3 +20,4 @@ pub mod program;
 pub mod random;
 pub mod replay;
 pub mod text;
+pub mod totals;

@@ -11,10 +11,11 @@ use crate::cases;
 use crate::compare::{compare, roomy};
 use crate::damage::damaged;
 use crate::dense;
-use crate::generate::{self, LIMITS, PASSABLE};
+use crate::generate::{self, LIMITS, Limit, PASSABLE};
 use crate::plain::{self, Outcome, sheet::WORKSPACE_WORDS};
 use crate::random::Random;
 use crate::text;
+use crate::totals;
 
 /// The longest answer buffer that the program lends.
 pub const ROOM: usize = 18_000;
@@ -49,15 +50,30 @@ fn record(sheet: &[u32]) -> Recorded {
     Recorded { words, refusal }
 }
 
+/// Whether sheets at the limit and past it are among those of case 9.
+fn is_of_case_9(limit: &Limit) -> bool {
+    matches!(limit, Limit::Relations | Limit::PhiRelations)
+}
+
+/// Whether sheets past the limit are among those about the totals.
+fn is_total(limit: &Limit) -> bool {
+    is_of_case_9(limit) || matches!(limit, Limit::Mutations | Limit::Renders)
+}
+
 /// The bench cases, the order of refusals, every word at the end of its range and past it, the
-/// sheets of `smallest/`, those at each limit and one past it, those whose walks are long, and
-/// `count` accepted and `count` damaged sheets from a fixed seed.
+/// sheets of `smallest/`, those at each limit and one past it, those about the totals, those whose
+/// walks are long, and `count` accepted and `count` damaged sheets from a fixed seed.
 pub fn records(count: usize) -> Vec<Recorded> {
     let mut random = Random::new(15);
     let mut sheets = cases::sheets();
     sheets.extend(text::smallest().into_iter().map(|text| text.words));
-    sheets.extend(LIMITS.map(|limit| generate::at_limit(&mut random, limit).words()));
-    sheets.extend(PASSABLE.map(|limit| generate::past_limit(&mut random, limit).words()));
+    for limit in LIMITS.into_iter().filter(|limit| !is_of_case_9(limit)) {
+        sheets.push(generate::at_limit(&mut random, limit).words());
+    }
+    for limit in PASSABLE.into_iter().filter(|limit| !is_total(limit)) {
+        sheets.push(generate::past_limit(&mut random, limit).words());
+    }
+    sheets.extend(totals::chief().into_iter().map(|sheet| sheet.words));
     sheets.extend(dense::mutated(LONG_WALKS).iter().map(|(_, sheet)| sheet.words()));
     let good = std::iter::from_fn(|| Some(generate::sheet(&mut random).words()));
     sheets.extend(good.filter(|words| words.len() <= LONGEST).take(count));

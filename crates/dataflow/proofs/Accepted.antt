@@ -10,7 +10,8 @@ use borrow.Author.Tests.{ltb-false}
 use Rattle.model.specs.Limits.{mostSheet, mostIdentifiers, mostFunctions, mostParams, mostContext, returnsCount, mostBlocks, mostInnerDiagnostics, mostInnerContext}
 use Rattle.model.specs.Lists.{pick, Every}
 use Rattle.model.specs.Sheet.{BlockId, Identifier, InnerFunction, Diagnostic, Block, Sheet}
-use Rattle.model.specs.Totals.{totals, over, judged}
+use Rattle.model.specs.Totals.{totals, over}
+use Rattle.model.specs.Counting.{countedSheet}
 use Rattle.model.specs.Ranges.{SheetBelow}
 use Rattle.model.specs.Reading.{Position, got, refused, Read, count, fixed, newNumber, numbered, counted}
 use Rattle.model.specs.Sections.{flags, identifier, diagnostic, innerFunction, place, block, sheet}
@@ -71,7 +72,7 @@ short-sheet : (ws : List ℕ) (s : Sheet) → IsSheet ws s → length ws ≤ mos
 unfolding read
 short-sheet ws s h = go (ltb mostSheet (length ws)) refl (h .1)
   where
-    go : (b : Bool) → ltb mostSheet (length ws) ≡ b → pick b (refused 2) (judged (ended (sheet ws 0) (length ws))) ≡ got s (h .0) → length ws ≤ mostSheet
+    go : (b : Bool) → ltb mostSheet (length ws) ≡ b → pick b (refused 2) (ended (countedSheet ws 0) (length ws)) ≡ got s (h .0) → length ws ≤ mostSheet
     go true e f = absurd (false≢true (ap isGot f))
     go false e f = ltb-false mostSheet (length ws) e
 

@@ -11,7 +11,7 @@ use Rattle.model.specs.Graph.{object, create}
 use Rattle.model.specs.Built.{Built, changed}
 use Rattle.model.specs.Building.{firstPlaces, firstNodes, build}
 use Rattle.model.specs.Building.{block as blockStep}
-use Rattle.model.proofs.WhenRead.{not-over}
+use Rattle.model.proofs.Limited.{not-over}
 use Rattle.model.proofs.Counted.{tally-one}
 use Rattle.hir.specs.Says.{placeIs}
 use Rattle.hir.specs.Words.{several, blockFrom}

@@ -1,13 +1,13 @@
 -- The parts that the second reading gives, put together.
 use Prim.Native.Nat.{ℕ, _+_}
 use native.Mathlib.Omega.{arith}
-use mathlib.Core.Path.{_≡_, ap, _∙_}
+use mathlib.Core.Path.{_≡_, refl, sym, ap, subst, _∙_}
 use mathlib.Core.Bool.{Bool}
 use mathlib.Core.List.{List}
 use Rattle.model.specs.Sheet.{IdentifierType, Identifier, BlockId, Place, EffectKind, Effect, Operand}
 use Rattle.model.specs.Effects.{kindOf}
 use Rattle.model.specs.Reading.{Position}
-use Rattle.hir.specs.Table.{TableRow, tableRow}
+use Rattle.hir.specs.Table.{TableRow, tableRow, OwnRow}
 use Rattle.hir.specs.Words.{wordAt, placeOf, placeAt, effectAt, operandAt}
 
 abbrev placeBy : ℕ → ℕ → Bool → ℕ → Place
@@ -37,6 +37,11 @@ effect-made ws c {k} {p} {q} a b d =
 pub row-kind : (k : ℕ) {r : TableRow} → r ≡ tableRow k → r .kind ≡ kindOf k
 unfolding tableRow
 row-kind k e = ap (λ (r : TableRow). r .kind) e
+
+-- and the row is its kind's own
+pub own-row : (k : ℕ) {r : TableRow} → r ≡ tableRow k → OwnRow r
+unfolding tableRow
+own-row k e = subst OwnRow (sym e) (record { places = refl; instance = refl; extra = refl })
 
 abbrev operandBy : BlockId → Place → Operand
 operandBy b p = record { predecessor = b; place = p }

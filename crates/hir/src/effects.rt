@@ -1,10 +1,10 @@
 // An effect, held to the table of its kind.
 ghost use mathlib.Core.Path.{_≡_};
 ghost use Rattle.model.specs.Effects.{rowOf, diagnosticOf};
-ghost use Rattle.model.specs.Sections.{extra, effect};
+ghost use Rattle.model.specs.Sections.{extra, effectAfter};
 ghost use Rattle.hir.specs.Numbers.{kindSays};
 ghost use Rattle.hir.specs.Says.{wordSays, effectSays, effectIs, diagnosticIs};
-ghost use Rattle.hir.specs.Table.{roleSays, rowSays, tableRow};
+ghost use Rattle.hir.specs.Table.{roleSays, rowSays, tableRow, OwnRow};
 use crate::AliasingEffect;
 use crate::Cursor;
 use crate::Diagnostic;
@@ -210,39 +210,28 @@ fn extra(c: Cursor, s: &[u32], m: u32, row: Row) -> WordStep
     }
 }
 
-// An effect over `n` identifiers and `m` inner functions: kind, first place, second place, extra.
-pub fn effect(c: Cursor, s: &[u32], n: u32, m: u32) -> EffectStep
-    ensures { λ r. ⌜ effectSays r ≡ effect n m (now (s .entry)) (c .at) ⌝ }
+// An effect after its kind, over `n` identifiers and `m` inner functions: first place, second place, extra.
+pub fn effect_after(c: Cursor, s: &[u32], n: u32, m: u32, row: Row) -> EffectStep
+    requires { ⌜ OwnRow (rowSays row) ⌝ }
+    ensures { λ r. ⌜ effectSays r ≡ effectAfter n m (kindSays (row .kind)) (now (s .entry)) (c .at) ⌝ }
 {
-    let number: u32;
-    let c1: Cursor;
-    match c.at_most(s, MOST_KIND) {
-        WordStep::Got(w, d) => {
-            number = w;
-            c1 = d;
-        }
-        WordStep::Refused(k1) => {
-            return EffectStep::Refused(k1);
-        }
-    }
-    let row = row_of(number);
     let kind = row.kind;
-    match c1.place_if(s, n, 1 <= row.places, 0) {
-        PlaceStep::Got(first, c2) => match c2.place_if(s, n, 2 <= row.places, row.instance) {
-            PlaceStep::Got(second, c3) => match extra(c3, s, m, row) {
-                WordStep::Got(x, c4) => {
+    match c.place_if(s, n, 1 <= row.places, 0) {
+        PlaceStep::Got(first, c1) => match c1.place_if(s, n, 2 <= row.places, row.instance) {
+            PlaceStep::Got(second, c2) => match extra(c2, s, m, row) {
+                WordStep::Got(x, c3) => {
                     let e = AliasingEffect {
                         kind,
                         first,
                         second,
                         extra: x,
                     };
-                    EffectStep::Got(e, c4)
+                    EffectStep::Got(e, c3)
                 }
-                WordStep::Refused(k4) => EffectStep::Refused(k4),
+                WordStep::Refused(k3) => EffectStep::Refused(k3),
             },
-            PlaceStep::Refused(k3) => EffectStep::Refused(k3),
+            PlaceStep::Refused(k2) => EffectStep::Refused(k2),
         },
-        PlaceStep::Refused(k2) => EffectStep::Refused(k2),
+        PlaceStep::Refused(k1) => EffectStep::Refused(k1),
     }
 }

@@ -22,28 +22,30 @@ use Rattle.model.specs.Simulated.{tracked, simulation, flowEffects, simu
 use Rattle.model.specs.Size.{enough}
 use Rattle.model.specs.State.{accepts}
 use Rattle.model.specs.Summary.{copied, recorded, sheetEnds, built, realWalks, afterReal, afterRenders, collectParamEffects, captureMark, marked, createReturns}
-use Rattle.model.specs.Totals.{instructionEffects, blockRelations, totals, over, judged}
+use Rattle.model.specs.Totals.{instructionEffects, blockRelations, totals, over}
+use Rattle.model.specs.Asking.{tellBlock, effect as effect-Asking, effects as effects-Asking, operand as operand-Asking, phi as phi-Asking, instruction as instruction-Asking, terminalOf as terminalOf-Asking, terminal as terminal-Asking, block as block-Asking, sheet as sheet-Asking}
+use Rattle.model.specs.Counting.{countKind, countedSheet}
 use Rattle.model.specs.Traits.{effectOf, reactiveOf, traitsWord}
 use Rattle.model.specs.Walks.{pushes, visit, step, run, walkOf, mutate}
 
 pub table-right : T (right table)
-unfolding rangesBefore rangesAfter summary diagnosed answer middleWords operandWords answerWords instructionEffect instruction operand phiNode wake terminalEffect terminal block firstNodes build ended read applies fits answered admit outcome answerAfter workspaceAfter kindOf rowOf create enter withEdge withEntry change store relate assign createFrom withEffect captureOrRead flowMarks marksOf operandEffects markOf withMark setUnset startIf nameLvalue storeValue phisMarked phiStarts phis nameLvalues instructionMarks operandRanges instructionRanges instruction-Operands terminalPlaces terminal-Operands block-Operands sheetStarts endsBefore beforePass afterPass word count fixed atMost below newNumber times numbered counted optional timesFrom numberedFrom countedFrom renderPushes renderVisit renderStep renderRun renderWalk walksOf after rendersOf rendered reached largestEnd flag flags identifier diagnostic place innerFunction unused extra effect effects operand-Sections phi instructionValue instruction-Sections terminalOf terminal-Sections block-Sections sheet taken serves call tracked simulation flowEffects simulate enough accepts copied recorded sheetEnds built realWalks afterReal afterRenders collectParamEffects captureMark marked createReturns instructionEffects blockRelations totals over judged effectOf reactiveOf traitsWord pushes visit step run walkOf mutate right table
+unfolding rangesBefore rangesAfter summary diagnosed answer middleWords operandWords answerWords instructionEffect instruction operand phiNode wake terminalEffect terminal block firstNodes build ended read applies fits answered admit outcome answerAfter workspaceAfter kindOf rowOf create enter withEdge withEntry change store relate assign createFrom withEffect captureOrRead flowMarks marksOf operandEffects markOf withMark setUnset startIf nameLvalue storeValue phisMarked phiStarts phis nameLvalues instructionMarks operandRanges instructionRanges instruction-Operands terminalPlaces terminal-Operands block-Operands sheetStarts endsBefore beforePass afterPass word count fixed atMost below newNumber times numbered counted optional timesFrom numberedFrom countedFrom renderPushes renderVisit renderStep renderRun renderWalk walksOf after rendersOf rendered reached largestEnd flag flags identifier diagnostic place innerFunction unused extra effect effects operand-Sections phi instructionValue instruction-Sections terminalOf terminal-Sections block-Sections sheet taken serves call tracked simulation flowEffects simulate enough accepts copied recorded sheetEnds built realWalks afterReal afterRenders collectParamEffects captureMark marked createReturns instructionEffects blockRelations totals over tellBlock effect-Asking effects-Asking operand-Asking phi-Asking instruction-Asking terminalOf-Asking terminal-Asking block-Asking sheet-Asking countKind countedSheet effectOf reactiveOf traitsWord pushes visit step run walkOf mutate right table
 table-right = tt
 
 pub ours-right : T (right ours)
-unfolding rangesBefore rangesAfter summary diagnosed answer middleWords operandWords answerWords instructionEffect instruction operand phiNode wake terminalEffect terminal block firstNodes build ended read applies fits answered admit outcome answerAfter workspaceAfter kindOf rowOf create enter withEdge withEntry change store relate assign createFrom withEffect captureOrRead flowMarks marksOf operandEffects markOf withMark setUnset startIf nameLvalue storeValue phisMarked phiStarts phis nameLvalues instructionMarks operandRanges instructionRanges instruction-Operands terminalPlaces terminal-Operands block-Operands sheetStarts endsBefore beforePass afterPass word count fixed atMost below newNumber times numbered counted optional timesFrom numberedFrom countedFrom renderPushes renderVisit renderStep renderRun renderWalk walksOf after rendersOf rendered reached largestEnd flag flags identifier diagnostic place innerFunction unused extra effect effects operand-Sections phi instructionValue instruction-Sections terminalOf terminal-Sections block-Sections sheet taken serves call tracked simulation flowEffects simulate enough accepts copied recorded sheetEnds built realWalks afterReal afterRenders collectParamEffects captureMark marked createReturns instructionEffects blockRelations totals over judged effectOf reactiveOf traitsWord pushes visit step run walkOf mutate right ours
+unfolding rangesBefore rangesAfter summary diagnosed answer middleWords operandWords answerWords instructionEffect instruction operand phiNode wake terminalEffect terminal block firstNodes build ended read applies fits answered admit outcome answerAfter workspaceAfter kindOf rowOf create enter withEdge withEntry change store relate assign createFrom withEffect captureOrRead flowMarks marksOf operandEffects markOf withMark setUnset startIf nameLvalue storeValue phisMarked phiStarts phis nameLvalues instructionMarks operandRanges instructionRanges instruction-Operands terminalPlaces terminal-Operands block-Operands sheetStarts endsBefore beforePass afterPass word count fixed atMost below newNumber times numbered counted optional timesFrom numberedFrom countedFrom renderPushes renderVisit renderStep renderRun renderWalk walksOf after rendersOf rendered reached largestEnd flag flags identifier diagnostic place innerFunction unused extra effect effects operand-Sections phi instructionValue instruction-Sections terminalOf terminal-Sections block-Sections sheet taken serves call tracked simulation flowEffects simulate enough accepts copied recorded sheetEnds built realWalks afterReal afterRenders collectParamEffects captureMark marked createReturns instructionEffects blockRelations totals over tellBlock effect-Asking effects-Asking operand-Asking phi-Asking instruction-Asking terminalOf-Asking terminal-Asking block-Asking sheet-Asking countKind countedSheet effectOf reactiveOf traitsWord pushes visit step run walkOf mutate right ours
 ours-right = tt
 
 pub calls-refused : T (refusedSo calls)
-unfolding rangesBefore rangesAfter summary diagnosed answer middleWords operandWords answerWords instructionEffect instruction operand phiNode wake terminalEffect terminal block firstNodes build ended read applies fits answered admit outcome answerAfter workspaceAfter kindOf rowOf create enter withEdge withEntry change store relate assign createFrom withEffect captureOrRead flowMarks marksOf operandEffects markOf withMark setUnset startIf nameLvalue storeValue phisMarked phiStarts phis nameLvalues instructionMarks operandRanges instructionRanges instruction-Operands terminalPlaces terminal-Operands block-Operands sheetStarts endsBefore beforePass afterPass word count fixed atMost below newNumber times numbered counted optional timesFrom numberedFrom countedFrom renderPushes renderVisit renderStep renderRun renderWalk walksOf after rendersOf rendered reached largestEnd flag flags identifier diagnostic place innerFunction unused extra effect effects operand-Sections phi instructionValue instruction-Sections terminalOf terminal-Sections block-Sections sheet taken serves call tracked simulation flowEffects simulate enough accepts copied recorded sheetEnds built realWalks afterReal afterRenders collectParamEffects captureMark marked createReturns instructionEffects blockRelations totals over judged effectOf reactiveOf traitsWord pushes visit step run walkOf mutate refusedSo calls
+unfolding rangesBefore rangesAfter summary diagnosed answer middleWords operandWords answerWords instructionEffect instruction operand phiNode wake terminalEffect terminal block firstNodes build ended read applies fits answered admit outcome answerAfter workspaceAfter kindOf rowOf create enter withEdge withEntry change store relate assign createFrom withEffect captureOrRead flowMarks marksOf operandEffects markOf withMark setUnset startIf nameLvalue storeValue phisMarked phiStarts phis nameLvalues instructionMarks operandRanges instructionRanges instruction-Operands terminalPlaces terminal-Operands block-Operands sheetStarts endsBefore beforePass afterPass word count fixed atMost below newNumber times numbered counted optional timesFrom numberedFrom countedFrom renderPushes renderVisit renderStep renderRun renderWalk walksOf after rendersOf rendered reached largestEnd flag flags identifier diagnostic place innerFunction unused extra effect effects operand-Sections phi instructionValue instruction-Sections terminalOf terminal-Sections block-Sections sheet taken serves call tracked simulation flowEffects simulate enough accepts copied recorded sheetEnds built realWalks afterReal afterRenders collectParamEffects captureMark marked createReturns instructionEffects blockRelations totals over tellBlock effect-Asking effects-Asking operand-Asking phi-Asking instruction-Asking terminalOf-Asking terminal-Asking block-Asking sheet-Asking countKind countedSheet effectOf reactiveOf traitsWord pushes visit step run walkOf mutate refusedSo calls
 calls-refused = tt
 
 pub limits-right : T (refusedSo limits)
-unfolding ended read answered admit outcome judged kindOf rowOf word count fixed atMost below newNumber times numbered counted optional timesFrom numberedFrom countedFrom flag flags identifier diagnostic place innerFunction unused extra effect effects operand-Sections phi instructionValue instruction-Sections terminalOf terminal-Sections block-Sections sheet taken serves call effectOf reactiveOf refusedSo limits
+unfolding ended read answered admit outcome over tellBlock effect-Asking effects-Asking operand-Asking phi-Asking instruction-Asking terminalOf-Asking terminal-Asking block-Asking sheet-Asking countKind countedSheet kindOf rowOf word count fixed atMost below newNumber times numbered counted optional timesFrom numberedFrom countedFrom flag flags identifier diagnostic place innerFunction unused extra effect effects operand-Sections phi instructionValue instruction-Sections terminalOf terminal-Sections block-Sections sheet taken serves call effectOf reactiveOf refusedSo limits
 limits-right = tt
 
 pub effect-table-right : T (refusedSo effectTable)
-unfolding ended read answered admit outcome judged kindOf rowOf word count fixed atMost below newNumber times numbered counted optional timesFrom numberedFrom countedFrom flag flags identifier diagnostic place innerFunction unused extra effect effects operand-Sections phi instructionValue instruction-Sections terminalOf terminal-Sections block-Sections sheet taken serves call effectOf reactiveOf refusedSo effectTable
+unfolding ended read answered admit outcome over tellBlock effect-Asking effects-Asking operand-Asking phi-Asking instruction-Asking terminalOf-Asking terminal-Asking block-Asking sheet-Asking countKind countedSheet kindOf rowOf word count fixed atMost below newNumber times numbered counted optional timesFrom numberedFrom countedFrom flag flags identifier diagnostic place innerFunction unused extra effect effects operand-Sections phi instructionValue instruction-Sections terminalOf terminal-Sections block-Sections sheet taken serves call effectOf reactiveOf refusedSo effectTable
 effect-table-right = tt
 
 pub effect-rows : T (sameRows effectRows)

@@ -6,7 +6,9 @@ use Rattle.model.specs.Effects.{kindOf, rowOf}
 use Rattle.model.specs.Graph.{create, enter, withEdge, withEntry, change, store, relate, assign, createFrom}
 use Rattle.model.specs.Reading.{word, count, fixed, atMost, below, newNumber, times, numbered, counted, optional, timesFrom, numberedFrom, countedFrom}
 use Rattle.model.specs.Sections.{flag, flags, identifier, diagnostic, place, innerFunction, unused, extra, effect, effects, operand as operand-Sections, phi, instructionValue, instruction as instruction-Sections, terminalOf, terminal as terminal-Sections, block as block-Sections, sheet}
-use Rattle.model.specs.Totals.{instructionEffects, blockRelations, totals, over, judged}
+use Rattle.model.specs.Totals.{instructionEffects, blockRelations, totals, over}
+use Rattle.model.specs.Asking.{tellBlock, effect as effect-Asking, effects as effects-Asking, operand as operand-Asking, phi as phi-Asking, instruction as instruction-Asking, terminalOf as terminalOf-Asking, terminal as terminal-Asking, block as block-Asking, sheet as sheet-Asking}
+use Rattle.model.specs.Counting.{countKind, countedSheet}
 use Rattle.model.specs.Traits.{effectOf, reactiveOf}
 use Rattle.model.specs.Digits.{digitsIn, digits}
 use Rattle.model.specs.Dot.{nodeLine, edgeLine, byNode, nodeLines, edgeLines, dot, drawn, draw}
@@ -17,5 +19,5 @@ unfolding digitsIn digits nodeLine edgeLine byNode nodeLines edgeLines dot graph
 graphs-right = tt
 
 pub drawings-right : T (drawingsRight drawings)
-unfolding instructionEffect instruction operand phiNode wake terminalEffect terminal block firstNodes build ended read fits admit kindOf rowOf create enter withEdge withEntry change store relate assign createFrom word count fixed atMost below newNumber times numbered counted optional timesFrom numberedFrom countedFrom flag flags identifier diagnostic place innerFunction unused extra effect effects operand-Sections phi instructionValue instruction-Sections terminalOf terminal-Sections block-Sections sheet instructionEffects blockRelations totals over judged effectOf reactiveOf digitsIn digits nodeLine edgeLine byNode nodeLines edgeLines dot drawn draw drawings drawingsRight
+unfolding instructionEffect instruction operand phiNode wake terminalEffect terminal block firstNodes build ended read fits admit kindOf rowOf create enter withEdge withEntry change store relate assign createFrom word count fixed atMost below newNumber times numbered counted optional timesFrom numberedFrom countedFrom flag flags identifier diagnostic place innerFunction unused extra effect effects operand-Sections phi instructionValue instruction-Sections terminalOf terminal-Sections block-Sections sheet instructionEffects blockRelations totals over tellBlock effect-Asking effects-Asking operand-Asking phi-Asking instruction-Asking terminalOf-Asking terminal-Asking block-Asking sheet-Asking countKind countedSheet effectOf reactiveOf digitsIn digits nodeLine edgeLine byNode nodeLines edgeLines dot drawn draw drawings drawingsRight
 drawings-right = tt

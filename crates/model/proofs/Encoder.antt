@@ -14,13 +14,14 @@ use Rattle.model.specs.Sheet.{Flags, Identifier, IdentifierType, other, 
 use Rattle.model.specs.Traits.{reactiveOf, traitsWord}
 use Rattle.model.specs.Effects.{kindOf, rowOf, isCreateFunction}
 use Rattle.model.specs.Reading.{got, Read, _>>=_, pure, word, count, fixed, atMost, below, numbered, counted, optional}
-use Rattle.model.specs.Sections.{flag, flags, typeOf, identifier, diagnostic, innerFunction, place, unused, extra, effect, effects, operand, phi, valueBy, instructionValue, instruction, terminalOf, terminal, block, sheet}
+use Rattle.model.specs.Sections.{flag, flags, typeOf, identifier, diagnostic, innerFunction, place, unused, extra, effectAfter, effect, effects, operand, phi, valueBy, instructionValue, instruction, terminalOf, terminal, block, sheet}
 use Rattle.model.specs.Answer.{placeWords, diagnosticWords, effectWords, section}
-use Rattle.model.specs.Totals.{totals, over, judged}
+use Rattle.model.specs.Totals.{totals, over}
 use Rattle.model.specs.Call.{ended, read, IsSheet}
 use Rattle.model.specs.Encoder.{flagsWords, typeWord, identifierWords, functionWords, effectsWords, listedWords, operandWords, phiWords, valueWords, instructionWords, terminalWords, blockRest, blockWords, sheetWords, IdentifierFits, DiagnosticFits, PlaceFits, PlacesFit, FunctionFits, UsedFits, ExtraFits, EffectFits, EffectsFit, OperandFits, PhiFits, ValueFits, InstructionFits, TerminalFits, BlockFits, SheetFits}
 use Rattle.model.proofs.Everywhere.{every-mem}
 use Rattle.model.proofs.Traits.{traits-few, effect-of-traits, reactive-of-traits}
+use Rattle.model.proofs.CountedSheet.{counted-within}
 use Rattle.model.proofs.BackLaws.{Back, pure-back, bind-back, word-back, atMost-back, below-back, count-back, fixed-back, absent-back, present-back, counted-back, numbered-back}
 
 -- ---- flags and identifiers
@@ -158,19 +159,13 @@ extra-back m k x h = go (isCreateFunction k) h
     go true i = below-back m x i
     go false i = atMost-back (rowOf k .extra) x i
 
--- an effect after its kind
-abbrev afterKind : ℕ → ℕ → EffectKind → Read Effect
-afterKind n m k =
-    pick (leb 1 (rowOf k .places)) (place n) (unused 0) >>= λ (p : Place). pick (leb 2 (rowOf k .places)) (place n) (unused (rowOf k .instance)) >>= λ (q : Place). extra m k
-    >>= λ (x : ℕ). pure (record { kind = k; first = p; second = q; extra = x })
-
 effect-back : (n m : ℕ) (e : Effect) → EffectFits n m e → Back (effect n m) (effectWords e) e
 unfolding effect
 effect-back n m e h =
     let k : EffectKind = e .kind in
     let rest : List ℕ = placeWords (e .first) ++ (placeWords (e .second) ++ (e .extra ∷ [])) in
-    bind-back (atMost mostKind) (λ (w : ℕ). afterKind n m (kindOf w)) (rowOf k .number ∷ []) rest (rowOf k .number) e (atMost-back mostKind (rowOf k .number) (kind-few k))
-    (subst (λ (j : EffectKind). Back (afterKind n m j) rest e) (sym (kind-back k))
+    bind-back (atMost mostKind) (λ (w : ℕ). effectAfter n m (kindOf w)) (rowOf k .number ∷ []) rest (rowOf k .number) e (atMost-back mostKind (rowOf k .number) (kind-few k))
+    (subst (λ (j : EffectKind). Back (effectAfter n m j) rest e) (sym (kind-back k))
     (bind-back (pick (leb 1 (rowOf k .places)) (place n) (unused 0)) _ (placeWords (e .first)) (placeWords (e .second) ++ (e .extra ∷ [])) (e .first) e (used-back (leb 1 (rowOf k .places)) n 0 (e .first) (h .0))
     (bind-back (pick (leb 2 (rowOf k .places)) (place n) (unused (rowOf k .instance))) _ (placeWords (e .second)) (e .extra ∷ []) (e .second) e (used-back (leb 2 (rowOf k .places)) n (rowOf k .instance) (e .second) (h .1))
     (bind-back (extra m k) _ (e .extra ∷ []) [] (e .extra) e (extra-back m k (e .extra) (h .2)) (pure-back e)))))
@@ -307,7 +302,7 @@ reads-back s h =
 
 -- so a sheet of no more words and no higher totals than a call allows is accepted
 pub accepts-words : (s : Sheet) → SheetFits s → length (sheetWords s) ≤ mostSheet → over (totals s) ≡ false → IsSheet (sheetWords s) s
-unfolding read ended judged
+unfolding read ended
 accepts-words s h short few =
     let n : ℕ = length (sheetWords s) in
-    (n, rw (le-ltb mostSheet n short, reads-back s h, le-ltb n n (omega arith), few))
+    (n, rw (le-ltb mostSheet n short, counted-within (sheetWords s) 0 s n (reads-back s h) few, le-ltb n n (omega arith)))

@@ -39,6 +39,11 @@ pub mod Distinct
 pub mod WhenRead
 pub mod Refusing
 pub mod Asked
+pub mod Ahead
+pub mod Limited
+pub mod TotalsAdded
+pub mod CountedSheet
+pub mod Overlap
 pub mod Numbers
 pub mod BackLaws
 pub mod Encoder

@@ -24,7 +24,8 @@ use Rattle.model.proofs.Either.{and-left, and-right}
 use Rattle.model.proofs.Everywhere.{every-mem, every-replicate, every-gather}
 use Rattle.model.proofs.Gathers.{gather-none}
 use Rattle.model.proofs.Tallies.{tally-each, role-most, keep-none}
-use Rattle.model.proofs.WhenRead.{few-not-over}
+use Rattle.model.proofs.Limited.{few-not-over}
+use Rattle.model.proofs.CountedSheet.{counted-within}
 use Rattle.model.proofs.AllRefusals.{then-accepted}
 use Rattle.model.proofs.Encoder.{reads-back, accepts-words}
 use Rattle.model.proofs.Lengths.{section-each, sheet-words, block-words, answer-words, answer-effects, answer-walks}
@@ -232,7 +233,7 @@ module _ (seed n m : ℕ) (h : Loadable n m) where
   call-accepted workspace room w r =
       let s : Sheet = classLoad seed n m in
       let ws : List ℕ = sheetWords s in
-      then-accepted ws workspace room w load-short s (length ws) (reads-back s load-fits) (omega arith) load-not-over no-apply r
+      then-accepted ws workspace room w load-short s (length ws) (counted-within ws 0 s (length ws) (reads-back s load-fits) load-not-over) (omega arith) no-apply r
 
   within-bounds : LoadAccepted seed n m
   within-bounds = record {

@@ -1,8 +1,9 @@
--- Every call is accepted, or refused with one of the numbers, a drawing from 1 to 9; the reading refuses with 3 to 6 alone; and 0 is told of accepted calls alone.
+-- Every call is accepted, or refused with one of the numbers, a drawing from 1 to 9; the words of a sheet are refused with 3 to 6 alone, but for its totals; and 0 is told of accepted calls alone.
 use Prim.Native.Nat.{ℕ, _≤_}
 use native.Mathlib.Omega.{arith}
 use mathlib.Core.Path.{_≡_, refl}
 use mathlib.Core.Bool.{Bool, true, false}
+use mathlib.Core.Logic.{_⊎_, inl, inr}
 use mathlib.Core.List.{List}
 use lib.ListN.{length}
 use lib.Dec.{ltb}
@@ -11,12 +12,13 @@ use Rattle.model.specs.Lists.{pick}
 use Rattle.model.specs.Sheet.{Sheet}
 use Rattle.model.specs.Reading.{Position, Result, got, refused}
 use Rattle.model.specs.Sections.{sheet}
-use Rattle.model.specs.Totals.{totals, over, judged}
+use Rattle.model.specs.Counting.{countedSheet}
 use Rattle.model.specs.Building.{build}
 use Rattle.model.specs.Answer.{answer, answerWords}
 use Rattle.model.specs.Call.{applies, Outcome, refusal, accepted, ended, read, fits, answered, admit, outcome, numberOf}
 use Rattle.model.specs.Dot.{dot, drawn, draw}
 use Rattle.model.specs.Numbers.{FromReading, Numbered, DrawingNumbered}
+use Rattle.model.proofs.CountedSheet.{counted-refused}
 use Rattle.model.proofs.Refusing.{sheet-refuses}
 
 pub reading-numbers : (ws : List ℕ) (c : Position) (k : ℕ) → sheet ws c ≡ refused k → FromReading k
@@ -27,9 +29,13 @@ abbrev NumberedRead : Result Sheet → Type 0
 NumberedRead (got s c) = Unit {0}
 NumberedRead (refused k) = (1 ≤ k) × (k ≤ 8)
 
-sheet-numbered : (ws : List ℕ) (r : Result Sheet) → sheet ws 0 ≡ r → NumberedRead r
+sheet-numbered : (ws : List ℕ) (r : Result Sheet) → countedSheet ws 0 ≡ r → NumberedRead r
 sheet-numbered ws (got s c) e = tt
-sheet-numbered ws (refused k) e = let h : FromReading k = reading-numbers ws 0 k e in (omega (arith, h .0), omega (arith, h .1))
+sheet-numbered ws (refused k) e = go (counted-refused ws 0 k e)
+  where
+    go : (sheet ws 0 ≡ refused k) ⊎ (k ≡ 8) → (1 ≤ k) × (k ≤ 8)
+    go (inl f) = let h : FromReading k = reading-numbers ws 0 k f in (omega (arith, h .0), omega (arith, h .1))
+    go (inr f) = (omega (arith, f), omega (arith, f))
 
 ended-numbered : (r : Result Sheet) (l : ℕ) → NumberedRead r → NumberedRead (ended r l)
 unfolding ended
@@ -40,22 +46,13 @@ ended-numbered (got s c) l h = go (ltb c l)
     go false = tt
 ended-numbered (refused k) l h = h
 
-judged-numbered : (r : Result Sheet) → NumberedRead r → NumberedRead (judged r)
-unfolding judged
-judged-numbered (got s c) h = go (over (totals s))
-  where
-    go : (b : Bool) → NumberedRead (pick b (refused 8) (got s c))
-    go true = (omega arith, omega arith)
-    go false = tt
-judged-numbered (refused k) h = h
-
 read-numbered : (ws : List ℕ) → NumberedRead (read ws)
 unfolding read
 read-numbered ws = go (ltb mostSheet (length ws))
   where
-    go : (b : Bool) → NumberedRead (pick b (refused 2) (judged (ended (sheet ws 0) (length ws))))
+    go : (b : Bool) → NumberedRead (pick b (refused 2) (ended (countedSheet ws 0) (length ws)))
     go true = (omega arith, omega arith)
-    go false = judged-numbered (ended (sheet ws 0) (length ws)) (ended-numbered (sheet ws 0) (length ws) (sheet-numbered ws (sheet ws 0) refl))
+    go false = ended-numbered (countedSheet ws 0) (length ws) (sheet-numbered ws (countedSheet ws 0) refl)
 
 answered-numbered : (room : ℕ) (r : Result Sheet) → NumberedRead r → Numbered (answered room r)
 unfolding answered fits

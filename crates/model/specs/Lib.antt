@@ -9,6 +9,7 @@ pub mod Reading
 pub mod Sections
 pub mod Asking
 pub mod Totals
+pub mod Counting
 pub mod Files
 -- "Building"
 pub mod Graph
@@ -29,6 +30,7 @@ pub mod Operands
 -- "The answer", and the call and the service of "Answers and refusals"
 pub mod Answer
 pub mod Call
+pub mod Overlap
 pub mod Service
 -- document 02, order 2: a class load from a seed
 pub mod Load

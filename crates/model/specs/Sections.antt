@@ -82,15 +82,20 @@ unused instance = do
 unfoldable pub extra : ℕ → EffectKind → Read ℕ
 extra m k = pick (isCreateFunction k) (below m) (atMost (rowOf k .extra))
 
+-- an effect of this kind after its kind: "first place, second place, extra"
+abbrev pub effectAfter : ℕ → ℕ → EffectKind → Read Effect
+effectAfter n m k = do
+  p ← pick (leb 1 (rowOf k .places)) (place n) (unused 0)
+  q ← pick (leb 2 (rowOf k .places)) (place n) (unused (rowOf k .instance))
+  x ← extra m k
+  pure (record { kind = k; first = p; second = q; extra = x })
+
 -- "An effect is eight words: kind, first place, second place, extra"
 abbrev pub effectAsking : (EffectKind → Read (Unit {0})) → ℕ → ℕ → Read Effect
 effectAsking ask n m = do
   w ← atMost mostKind
   u ← ask (kindOf w)
-  p ← pick (leb 1 (rowOf (kindOf w) .places)) (place n) (unused 0)
-  q ← pick (leb 2 (rowOf (kindOf w) .places)) (place n) (unused (rowOf (kindOf w) .instance))
-  x ← extra m (kindOf w)
-  pure (record { kind = kindOf w; first = p; second = q; extra = x })
+  effectAfter n m (kindOf w)
 
 -- the effect, over n identifiers and m inner functions
 unfoldable pub effect : ℕ → ℕ → Read Effect

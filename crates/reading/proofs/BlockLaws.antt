@@ -1,19 +1,24 @@
 -- The parts of a block, judged: what is left to read once the words so far were read.
 use Prim.Native.Nat.{ℕ, _+_, _<_}
 use native.Mathlib.Numerals.{add-one}
-use mathlib.Core.Path.{_≡_, _∙_}
+use mathlib.Core.Path.{_≡_, _∙_, refl, sym, ap}
 use mathlib.Core.Bool.{Bool, true, false, _||_, or-false, or-assoc, or-comm}
 use mathlib.Core.List.{List, []}
 use lib.ListN.{length, drop, getD}
 use lib.Seq.{drop-length, drop-cons}
 use lib.Dec.{eqb}
-use Rattle.model.specs.Limits.{mostCount, mostOrder, mostLvalues, mostOperands, noOperands, mostTerminal, mostBlocks, absentCount}
-use Rattle.model.specs.Lists.{each, among}
-use Rattle.model.specs.Sheet.{Place, Effect, Operand, Phi, Instruction, Terminal, BlockId}
-use Rattle.model.specs.Reading.{Position, got, refused, _>>=_, pure, Read, count, fixed, word, atMost, counted, optional, numberedFrom, countedFrom}
-use Rattle.model.specs.Sections.{place, effect as plainEffect, instructionValue}
+use Rattle.model.specs.Limits.{mostCount, mostKind, mostTraits, mostOrder, mostLvalues, mostOperands, noOperands, mostTerminal, mostBlocks, absentCount}
+use Rattle.model.specs.Lists.{pick, each, among}
+use Rattle.model.specs.Sheet.{Place, EffectKind, Effect, Operand, Phi, Instruction, Terminal, BlockId}
+use Rattle.model.specs.Reading.{Position, got, refused, _>>=_, pure, refuse, Read, count, fixed, word, atMost, below, counted, optional, numberedFrom, countedFrom}
+use Rattle.model.specs.Sections.{place, placeAsking, effectAfter, instructionValue}
+use Rattle.model.specs.Effects.{kindOf}
+use Rattle.model.specs.Totals.{over}
+use Rattle.model.specs.Traits.{effectOf, reactiveOf}
+use Rattle.model.proofs.Ahead.{after-kind}
+use Rattle.model.proofs.Got.{got-next, not-both, bind-got}
 use Rattle.model.specs.Asking.{effect, effects, operand, phi, instruction, terminalOf, terminal, block, tellEffect, tellOperand, tellPhi, tellInstruction, tellTerminal, tellBlock}
-use Rattle.reading.specs.Judging.{Told, telling, judge, withRelation, tellKind, counting, instructionEffects, terminalEffects, blocksOf}
+use Rattle.reading.specs.Judging.{Told, telling, judge, withRelation, tellKind, totalsOf, askTold, counting, judgedValue, instructionEffects, terminalEffects, blocksOf}
 use Rattle.reading.specs.Whole.{lengthOf, uses, judgedInstruction}
 use Rattle.reading.proofs.JudgeLaws.{result-case, judge-got, judge-refused, got-judged, refused-judged, then-got, then-refused, then-made}
 
@@ -32,24 +37,118 @@ phis n = countedFrom mostCount (phi counting n) (tellPhi counting)
 abbrev instructions : ℕ → ℕ → Told → Read (List Instruction)
 instructions n m = countedFrom mostCount (instruction counting n m) (tellInstruction counting)
 
--- an effect, of which nothing is asked
-module _ (n m : ℕ) (terminal : Bool) (t : Told) (ws : List ℕ) (c : Position) where
-  pub effect-got : (e : Effect) (d : Position) → plainEffect n m ws c ≡ got e d → judge (effect counting terminal n m) (tellEffect counting terminal) t ws c ≡ got (tellKind terminal (e .kind) t) d
-  unfolding effect plainEffect
-  effect-got e d x = judge-got (effect counting terminal n m t) (tellEffect counting terminal) t ws c e d x
+-- what is asked at a counted word
+asked-on : (t : Told) (ws : List ℕ) (c : Position) → over (totalsOf t) ≡ false → askTold t ws c ≡ got tt c
+asked-on t ws c o = ap (λ (b : Bool). pick b (refuse 8) (pure tt) ws c) o
 
-  pub effect-refused : (k : ℕ) → plainEffect n m ws c ≡ refused k → judge (effect counting terminal n m) (tellEffect counting terminal) t ws c ≡ refused k
-  unfolding effect plainEffect
-  effect-refused k x = judge-refused (effect counting terminal n m t) (tellEffect counting terminal) t ws c k x
+asked-off : (t : Told) (ws : List ℕ) (c : Position) → over (totalsOf t) ≡ true → askTold t ws c ≡ refused 8
+asked-off t ws c o = ap (λ (b : Bool). pick b (refuse 8) (pure tt) ws c) o
+
+-- a place by its three words
+abbrev placeOf : ℕ → ℕ → ℕ → Place
+placeOf i r s = record { identifier = i; effect = effectOf r; reactive = reactiveOf r; span = s }
+
+-- an effect: its kind, the question, the rest
+module _ (n m : ℕ) (terminal : Bool) (t : Told) (ws : List ℕ) (c : Position) where
+  -- the totals with an effect of this kind
+  abbrev kindTold : EffectKind → Told
+  kindTold k = tellKind terminal k t
+
+  effect-on : (w : ℕ) (d : Position) → atMost mostKind ws c ≡ got w d → over (totalsOf (kindTold (kindOf w))) ≡ false
+      → judge (effect counting terminal n m) (tellEffect counting terminal) t ws c ≡ telling (effectAfter n m (kindOf w)) (tellEffect counting terminal) t ws d
+  unfolding effect
+  effect-on w d e o =
+      then-got (atMost mostKind) _ (tellEffect counting terminal) t ws c w d e
+      ∙ then-got (askTold (kindTold (kindOf w))) _ (tellEffect counting terminal) t ws d tt d (asked-on (kindTold (kindOf w)) ws d o)
+
+  module _ (w : ℕ) (d : Position) (e : atMost mostKind ws c ≡ got w d) (k : EffectKind) (is : k ≡ kindOf w) where
+    pub effect-got : (x : Effect) (f : Position) → over (totalsOf (kindTold k)) ≡ false → effectAfter n m k ws d ≡ got x f
+        → judge (effect counting terminal n m) (tellEffect counting terminal) t ws c ≡ got (kindTold k) f
+    effect-got x f o r =
+        effect-on w d e (ap (λ (j : EffectKind). over (totalsOf (kindTold j))) (sym is) ∙ o)
+        ∙ ap (λ (j : EffectKind). telling (effectAfter n m j) (tellEffect counting terminal) t ws d) (sym is)
+        ∙ judge-got (effectAfter n m k) (tellEffect counting terminal) t ws d x f r ∙ ap (λ (j : EffectKind). got (kindTold j) f) (after-kind n m k ws d x f r)
+
+    pub effect-refused : (i : ℕ) → over (totalsOf (kindTold k)) ≡ false → effectAfter n m k ws d ≡ refused i → judge (effect counting terminal n m) (tellEffect counting terminal) t ws c ≡ refused i
+    effect-refused i o r =
+        effect-on w d e (ap (λ (j : EffectKind). over (totalsOf (kindTold j))) (sym is) ∙ o)
+        ∙ ap (λ (j : EffectKind). telling (effectAfter n m j) (tellEffect counting terminal) t ws d) (sym is)
+        ∙ judge-refused (effectAfter n m k) (tellEffect counting terminal) t ws d i r
+
+    pub effect-8 : over (totalsOf (kindTold k)) ≡ true → judge (effect counting terminal n m) (tellEffect counting terminal) t ws c ≡ refused 8
+    unfolding effect
+    effect-8 o =
+        then-got (atMost mostKind) _ (tellEffect counting terminal) t ws c w d e
+        ∙ then-refused (askTold (kindTold (kindOf w))) _ (tellEffect counting terminal) t ws d 8
+        (asked-off (kindTold (kindOf w)) ws d (ap (λ (j : EffectKind). over (totalsOf (kindTold j))) (sym is) ∙ o))
+
+  pub effect-kind-refused : (k : ℕ) → atMost mostKind ws c ≡ refused k → judge (effect counting terminal n m) (tellEffect counting terminal) t ws c ≡ refused k
+  unfolding effect
+  effect-kind-refused k e = then-refused (atMost mostKind) _ (tellEffect counting terminal) t ws c k e
 
 module _ (n : ℕ) (t : Told) (ws : List ℕ) (c : Position) where
-  pub operand-got : (x : BlockId) (p : Place) (d : Position) → place n ws c ≡ got p d → judge (operand counting n x) (tellOperand counting) t ws c ≡ got (withRelation t) d
-  unfolding operand telling
-  operand-got x p d e = rw e
+  -- an operand after its number: the question, the place
+  operand-on : (x : BlockId) → over (totalsOf (withRelation t)) ≡ false
+      → judge (operand counting n x) (tellOperand counting) t ws c ≡ telling (place n >>= λ (p : Place). pure (record { predecessor = x; place = p })) (tellOperand counting) t ws c
+  unfolding operand
+  operand-on x o = then-got (askTold (withRelation t)) _ (tellOperand counting) t ws c tt c (asked-on (withRelation t) ws c o)
 
-  pub operand-refused : (x : BlockId) (k : ℕ) → place n ws c ≡ refused k → judge (operand counting n x) (tellOperand counting) t ws c ≡ refused k
-  unfolding operand telling
-  operand-refused x k e = rw e
+  pub operand-got : (x : BlockId) (p : Place) (d : Position) → over (totalsOf (withRelation t)) ≡ false → place n ws c ≡ got p d → judge (operand counting n x) (tellOperand counting) t ws c ≡ got (withRelation t) d
+  unfolding telling
+  operand-got x p d o e = operand-on x o ∙ rw e
+
+  pub operand-refused : (x : BlockId) (k : ℕ) → over (totalsOf (withRelation t)) ≡ false → place n ws c ≡ refused k → judge (operand counting n x) (tellOperand counting) t ws c ≡ refused k
+  unfolding telling
+  operand-refused x k o e = operand-on x o ∙ rw e
+
+  pub operand-8 : (x : BlockId) → over (totalsOf (withRelation t)) ≡ true → judge (operand counting n x) (tellOperand counting) t ws c ≡ refused 8
+  unfolding operand
+  operand-8 x o = then-refused (askTold (withRelation t)) _ (tellOperand counting) t ws c 8 (asked-off (withRelation t) ws c o)
+
+  -- what was read of it, if it was
+  pub operand-place : {P : Type 0} (x : BlockId) (u : Told) (d : Position) → judge (operand counting n x) (tellOperand counting) t ws c ≡ got u d → ((p : Place) → place n ws c ≡ got p d → P) → P
+  unfolding operand
+  operand-place x u d q k =
+      got-judged (operand counting n x t) (tellOperand counting) t ws c u d q
+      (λ a e w. let i = bind-got (askTold (withRelation t)) (λ (z : Unit {0}). place n >>= λ (p : Place). pure (record { predecessor = x; place = p })) ws c a d e in
+      let j = bind-got (place n) (λ (p : Place). pure (record { predecessor = x; place = p })) ws (i .next) a d (i .second) in
+      k (j .value) (ap (place n ws) (asked-here (withRelation t) ws c (i .value) (i .next) (i .first)) ∙ j .first ∙ ap (got (j .value)) (got-next (j .second))))
+    where
+      asked-here : (u : Told) (ws : List ℕ) (c : Position) (v : Unit {0}) (d : Position) → askTold u ws c ≡ got v d → c ≡ d
+      asked-here u ws c v d e = go (over (totalsOf u)) e
+        where
+          go : (b : Bool) → pick b (refuse 8) (pure tt) ws c ≡ got v d → c ≡ d
+          go true f = absurd (not-both f refl)
+          go false f = got-next f
+
+  -- a Return value: its identifier, the question, the rest
+  value-on : (i : ℕ) (d : Position) → below n ws c ≡ got i d → over (totalsOf (withRelation t)) ≡ false
+      → judgedValue n t ws c ≡ telling (atMost mostTraits >>= λ (r : ℕ). word >>= λ (s : ℕ). pure (placeOf i r s)) (λ (p : Place) (u : Told). withRelation u) t ws d
+  value-on i d e o =
+      then-got (below n) _ (λ (p : Place) (u : Told). withRelation u) t ws c i d e
+      ∙ then-got (askTold (withRelation t)) _ (λ (p : Place) (u : Told). withRelation u) t ws d tt d (asked-on (withRelation t) ws d o)
+
+  pub value-got : (i : ℕ) (d : Position) (r : ℕ) (f : Position) (s : ℕ) (g : Position) → below n ws c ≡ got i d → over (totalsOf (withRelation t)) ≡ false → atMost mostTraits ws d ≡ got r f → word ws f ≡ got s g
+      → judgedValue n t ws c ≡ got (withRelation t) g
+  unfolding telling
+  value-got i d r f s g e o x y = value-on i d e o ∙ rw (x, y)
+
+  pub value-traits-refused : (i : ℕ) (d : Position) (k : ℕ) → below n ws c ≡ got i d → over (totalsOf (withRelation t)) ≡ false → atMost mostTraits ws d ≡ refused k → judgedValue n t ws c ≡ refused k
+  unfolding telling
+  value-traits-refused i d k e o x = value-on i d e o ∙ rw x
+
+  pub value-span-refused : (i : ℕ) (d : Position) (r : ℕ) (f : Position) (k : ℕ) → below n ws c ≡ got i d → over (totalsOf (withRelation t)) ≡ false → atMost mostTraits ws d ≡ got r f → word ws f ≡ refused k
+      → judgedValue n t ws c ≡ refused k
+  unfolding telling
+  value-span-refused i d r f k e o x y = value-on i d e o ∙ rw (x, y)
+
+  pub value-8 : (i : ℕ) (d : Position) → below n ws c ≡ got i d → over (totalsOf (withRelation t)) ≡ true → judgedValue n t ws c ≡ refused 8
+  value-8 i d e o =
+      then-got (below n) _ (λ (p : Place) (u : Told). withRelation u) t ws c i d e
+      ∙ then-refused (askTold (withRelation t)) _ (λ (p : Place) (u : Told). withRelation u) t ws d 8 (asked-off (withRelation t) ws d o)
+
+  pub value-refused : (k : ℕ) → below n ws c ≡ refused k → judgedValue n t ws c ≡ refused k
+  value-refused k e = then-refused (below n) _ (λ (p : Place) (u : Told). withRelation u) t ws c k e
 
   pub phi-got : (p : Place) (d : Position) (k : ℕ) (e : Position) → place n ws c ≡ got p d → count mostCount ws d ≡ got k e →
       judge (phi counting n) (tellPhi counting) t ws c ≡ judge (numberedFrom k [] (operand counting n) (tellOperand counting)) (each (tellOperand counting)) t ws e
@@ -138,10 +237,10 @@ module _ (n m : ℕ) (t : Told) (ws : List ℕ) (c : Position) where
       (λ k e2. rw (e1, e2)))
       (λ k e1. rw e1)
 
-  pub return-judged : (o : ℕ) → telling (terminalOf counting n m t 1 o) (tellTerminal counting) t ws c ≡ (place n >>= λ (p : Place). terminalEffects n m (withRelation t)) ws c
-  unfolding terminalOf terminalEffects place telling
+  pub return-judged : (o : ℕ) → telling (terminalOf counting n m t 1 o) (tellTerminal counting) t ws c ≡ (judgedValue n t >>= λ (u : Told). terminalEffects n m u) ws c
+  unfolding terminalOf terminalEffects telling
   return-judged o =
-      result-case (place n ws c)
+      result-case (placeAsking (askTold (withRelation t)) n ws c)
       (λ p d1 e1. result-case (effects counting true n m (withRelation t) ws d1)
       (λ l d2 e2. result-case (fixed noOperands ws d2)
       (λ k d3 e3. rw (e1, e2, e3))

@@ -1,4 +1,4 @@
--- The running totals are document 01's totals, each stopped one above its limit, and the counts of diagnoses and of Apply, stopped at 1; so refusal 8 is the same for both, and without it both are one.
+-- The running totals are document 01's totals, each stopped one above its limit, and the counts of diagnoses and of Apply, stopped at 1; so without refusal 8 both are one.
 use Prim.Native.Nat.{ℕ, zero, suc, _+_, _≤_, _<_}
 use native.Mathlib.Omega.{arith}
 use mathlib.Core.Path.{_≡_, _∙_, refl, sym, ap}
@@ -7,15 +7,14 @@ use mathlib.Core.List.{List, [], _∷_}
 use lib.ListN.{length}
 use lib.Dec.{ltb}
 use borrow.Author.Tests.{ltb-true, ltb-false, lt-ltb, le-ltb}
-use Rattle.model.specs.Limits.{mostRelations, mostMutations, mostRenders}
 use Rattle.model.specs.Lists.{pick, each, tally, oneIf}
 use Rattle.model.specs.Sheet.{Effect, Operand, Phi, Instruction, listOf, Terminal, Other, Return, MaybeThrow, Block, Sheet}
 use Rattle.model.specs.Effects.{Role, relation, mutation, render, diagnosis, nothing, rowOf, isApply, isAlias, isRelation, isMutation, isRender, isDiagnosis}
 use Rattle.model.specs.Totals.{withRole, aliasesIn, terminalRelations, blockRelations, totals, over}
 use Rattle.model.specs.Asking.{tellEffect, tellOperand, tellPhi, tellInstruction, tellTerminal, tellBlock}
-use Rattle.model.proofs.WhenRead.{not-over}
+use Rattle.model.proofs.Limited.{not-over}
 use Rattle.reading.specs.Judging.{bump, relationStop, mutationStop, renderStop, Told, withRelation, withMutation, withRender, withDiagnosis, withApply, tellRole, tellKind, noTotals, counting}
-use Rattle.reading.specs.Whole.{tellSheet, totalsOf, diagnoses, told}
+use Rattle.reading.specs.Whole.{tellSheet, diagnoses, told}
 use Rattle.reading.proofs.EffectTallies.{tallyIn}
 use Rattle.reading.proofs.ApplyLaws.{ifNothing, apply-role, oneApply, countApplies, applies-counted}
 
@@ -215,21 +214,7 @@ up-one : (n : ℕ) → upTo 1 n ≡ oneIf (ltb 0 n)
 up-one zero = up-below 1 0 (omega arith)
 up-one (suc n) = up-above 1 (suc n) (omega arith) ∙ sym (ap oneIf (lt-ltb 0 (suc n) (omega arith)))
 
-over-one : (most n : ℕ) → ltb most (upTo (1 + most) n) ≡ ltb most n
-over-one most n = go (ltb n (1 + most)) refl
-  where
-    go : (b : Bool) → ltb n (1 + most) ≡ b → ltb most (upTo (1 + most) n) ≡ ltb most n
-    go true e = rw (up-below (1 + most) n (ltb-true n (1 + most) e))
-    go false e =
-        let h : 1 + most ≤ n = ltb-false n (1 + most) e in
-        rw (up-above (1 + most) n h, lt-ltb most (1 + most) (omega arith), lt-ltb most n (omega arith))
-
--- refusal 8 for the running totals is refusal 8
-pub told-over : (s : Sheet) → over (totalsOf (tellSheet s noTotals)) ≡ over (totals s)
-unfolding over capped
-told-over s = rw (sheet-told s, over-one mostRelations (totals s .relations), over-one mostMutations (totals s .mutations), over-one mostRenders (totals s .renders))
-
--- and where it does not apply, they are the totals
+-- where no total is over its limit, they are the totals
 pub told-totals : (s : Sheet) → over (totals s) ≡ false → tellSheet s noTotals ≡ told s
 unfolding capped told
 told-totals s h =

@@ -1,5 +1,5 @@
 -- Reading that keeps no tree: what was read is told to running totals as it comes, and only they go on.
--- Refusal 8 asks whether a total is over its limit, so a total stops one above it; of diagnoses and of Apply it is told only whether there is one.
+-- Refusal 8 asks at each counted word whether a total is over its limit, so a total stops one above it; of diagnoses and of Apply it is told only whether there is one.
 use Prim.Native.Nat.{ℕ, _+_}
 use mathlib.Core.Bool.{Bool, true, false}
 use mathlib.Core.List.{List, []}
@@ -7,10 +7,11 @@ use mathlib.Core.Option.{Option}
 use lib.Dec.{ltb}
 use Rattle.model.specs.Limits.{mostBlocks, noOperands, mostRelations, mostMutations, mostRenders}
 use Rattle.model.specs.Lists.{pick, each}
-use Rattle.model.specs.Sheet.{EffectKind, EffectList, present, Block}
+use Rattle.model.specs.Sheet.{Place, EffectKind, EffectList, present, Block}
 use Rattle.model.specs.Effects.{Role, relation, mutation, render, diagnosis, nothing, rowOf, isApply, isAlias}
-use Rattle.model.specs.Reading.{Result, got, refused, Read, _>>=_, pure, count, fixed, optional, numberedFrom}
-use Rattle.model.specs.Sections.{noQuestion, innerFunction}
+use Rattle.model.specs.Reading.{Result, got, refused, Read, _>>=_, pure, refuse, count, fixed, optional, numberedFrom}
+use Rattle.model.specs.Sections.{placeAsking, innerFunction}
+use Rattle.model.specs.Totals.{Totals, over}
 use Rattle.model.specs.Asking.{Asks, tellEffect, tellBlock, effects, block}
 
 module _ {A B : Type 0} where
@@ -87,9 +88,21 @@ tellKind terminal k t = pick terminal (pick (isAlias k) (withRelation t) t) (tel
 abbrev pub noTotals : Told
 noTotals = record { relations = 0; mutations = 0; renders = 0; diagnoses = 0; applies = 0 }
 
--- what is counted while reading; nothing is asked
+-- what refusal 8 counts
+abbrev pub totalsOf : Told → Totals
+totalsOf t = record { relations = t .relations; mutations = t .mutations; renders = t .renders }
+
+-- 8, if a total is passed
+abbrev pub askTold : Told → Read (Unit {0})
+askTold t = pick (over (totalsOf t)) (refuse 8) (pure tt)
+
+-- what is counted while reading, and asked at each counted word
 abbrev pub counting : Asks
-counting = record { Tally = Told; none = noTotals; effect = tellKind; relation = withRelation; ask = λ t. noQuestion; inner = innerFunction }
+counting = record { Tally = Told; none = noTotals; effect = tellKind; relation = withRelation; ask = askTold; inner = innerFunction }
+
+-- a Return value: asked after its first word
+abbrev pub judgedValue : ℕ → Told → Read Told
+judgedValue n t = judge (λ (u : Told). placeAsking (askTold (withRelation u)) n) (λ (p : Place) (u : Told). withRelation u) t
 
 -- the effects of an instruction: an absent list has none
 abbrev pub instructionEffects : ℕ → ℕ → Told → Read Told

@@ -10,7 +10,7 @@ use Rattle.model.specs.Effects.{isDiagnosis}
 use Rattle.model.specs.Reading.{Result, got, refused, Read, _>>=_, pure, fixed, atMost, counted, timesFrom}
 use Rattle.model.specs.Sections.{flags, identifier, innerFunction, place, instructionValue}
 use Rattle.model.specs.Asking.{tellBlock}
-use Rattle.model.specs.Totals.{withRole, Totals, totals}
+use Rattle.model.specs.Totals.{withRole, totals}
 use Rattle.model.specs.Call.{applies}
 use Rattle.reading.specs.Judging.{mapResult, judge, Told, noTotals, counting, instructionEffects, blocksOf}
 
@@ -74,10 +74,6 @@ judgedSheet = do
 -- a sheet: its blocks
 abbrev pub tellSheet : Sheet → Told → Told
 tellSheet s t = each (tellBlock counting) (s .blocks) t
-
--- what refusal 8 counts
-abbrev pub totalsOf : Told → Totals
-totalsOf t = record { relations = t .relations; mutations = t .mutations; renders = t .renders }
 
 -- how many effects of instructions have a kind from 14 to 16
 unfoldable pub diagnoses : Sheet → ℕ

@@ -2,9 +2,9 @@
 ghost use mathlib.Core.Path.{_≡_};
 ghost use Rattle.model.specs.Lists.{each};
 ghost use Rattle.model.specs.Reading.{countedFrom};
-ghost use Rattle.model.specs.Asking.{effects, instruction, terminal, block, tellEffect, tellInstruction, tellTerminal, tellBlock};
+ghost use Rattle.model.specs.Asking.{effect, effects, instruction, terminal, block, tellEffect, tellInstruction, tellTerminal, tellBlock};
 ghost use Rattle.model.specs.Limits.{mostCount};
-ghost use Rattle.reading.specs.Judging.{judge, counting, noTotals, instructionEffects, terminalEffects, blocksOf};
+ghost use Rattle.reading.specs.Judging.{judge, counting, noTotals, judgedValue, instructionEffects, terminalEffects, blocksOf};
 ghost use Rattle.reading.specs.TotalsSays.{totalsAre, totalsSays};
 ghost use Rattle.reading.specs.Says.{cursorSays};
 ghost use Rattle.reading.specs.Whole.{uses};
@@ -18,11 +18,15 @@ use hir::PlaceStep;
 use hir::TerminalKind;
 use hir::ValueStep;
 use hir::WordStep;
+use hir::effects::effect_after;
+use hir::effects::row_of;
 use hir::limits::ABSENT_COUNT;
 use hir::limits::MOST_BLOCKS;
 use hir::limits::MOST_COUNT;
+use hir::limits::MOST_KIND;
 use hir::limits::MOST_LVALUES;
 use hir::limits::MOST_OPERANDS;
+use hir::limits::MOST_TRAITS;
 use hir::limits::NO_OPERANDS;
 
 // The relation effects, mutations and renders so far, each no higher than one above its limit; 1 if an instruction had a diagnosis; 1 if one had an Apply.
@@ -38,6 +42,27 @@ pub struct Totals {
 pub enum TotalsStep {
     Got(Totals, Cursor),
     Refused(u32),
+}
+
+// An effect of an instruction or of a terminal: counted at its kind, where refusal 8 may come, before its places.
+fn effect(c: Cursor, s: &[u32], n: u32, m: u32, terminal: bool, totals: Totals) -> TotalsStep
+    ensures { λ r. ⌜ totalsSays r ≡ judge (effect counting terminal n m) (tellEffect counting terminal) (totalsAre totals) (now (s .entry)) (c .at) ⌝ }
+{
+    match c.at_most(s, MOST_KIND) {
+        WordStep::Got(number, c1) => {
+            let row = row_of(number);
+            let kind = row.kind;
+            let t = totals.effect(kind, terminal);
+            if t.over() {
+                return TotalsStep::Refused(8);
+            }
+            match effect_after(c1, s, n, m, row) {
+                EffectStep::Got(_, c2) => TotalsStep::Got(t, c2),
+                EffectStep::Refused(k2) => TotalsStep::Refused(k2),
+            }
+        }
+        WordStep::Refused(k1) => TotalsStep::Refused(k1),
+    }
 }
 
 // An effect count and the effects, of an instruction or of a terminal.
@@ -57,13 +82,12 @@ fn effects(start: Cursor, s: &[u32], n: u32, m: u32, terminal: bool, totals: Tot
     }
     let mut t = totals;
     while 0 < left {
-        match hir::effects::effect(c, s, n, m) {
-            EffectStep::Got(e, d2) => {
-                let kind = e.kind;
-                t = t.effect(kind, terminal);
+        match effect(c, s, n, m, terminal, t) {
+            TotalsStep::Got(u, d2) => {
+                t = u;
                 c = d2;
             }
-            EffectStep::Refused(k2) => {
+            TotalsStep::Refused(k2) => {
                 return TotalsStep::Refused(k2);
             }
         }
@@ -163,6 +187,28 @@ fn terminal_effects(c: Cursor, s: &[u32], n: u32, m: u32, totals: Totals) -> Tot
     }
 }
 
+// A Return value: counted at its identifier, where refusal 8 may come, before its traits.
+fn value(c: Cursor, s: &[u32], n: u32, totals: Totals) -> TotalsStep
+    ensures { λ r. ⌜ totalsSays r ≡ judgedValue n (totalsAre totals) (now (s .entry)) (c .at) ⌝ }
+{
+    match c.below(s, n) {
+        WordStep::Got(_, c1) => {
+            let t = totals.relation();
+            if t.over() {
+                return TotalsStep::Refused(8);
+            }
+            match c1.at_most(s, MOST_TRAITS) {
+                WordStep::Got(_, c2) => match c2.word(s) {
+                    WordStep::Got(_, c3) => TotalsStep::Got(t, c3),
+                    WordStep::Refused(k3) => TotalsStep::Refused(k3),
+                },
+                WordStep::Refused(k5) => TotalsStep::Refused(k5),
+            }
+        }
+        WordStep::Refused(k1) => TotalsStep::Refused(k1),
+    }
+}
+
 // Kind and order; of a Return its value; of a Return and a MaybeThrow the effects; the operands.
 fn terminal(c: Cursor, s: &[u32], n: u32, m: u32, totals: Totals) -> TotalsStep
     ensures { λ r. ⌜ totalsSays r ≡ judge (terminal counting n m) (tellTerminal counting) (totalsAre totals) (now (s .entry)) (c .at) ⌝ }
@@ -192,9 +238,9 @@ fn terminal(c: Cursor, s: &[u32], n: u32, m: u32, totals: Totals) -> TotalsStep
             WordStep::Got(_, c3) => TotalsStep::Got(totals, c3),
             WordStep::Refused(k3) => TotalsStep::Refused(k3),
         },
-        TerminalKind::Return => match c2.place(s, n) {
-            PlaceStep::Got(_, c4) => terminal_effects(c4, s, n, m, totals.relation()),
-            PlaceStep::Refused(k4) => TotalsStep::Refused(k4),
+        TerminalKind::Return => match value(c2, s, n, totals) {
+            TotalsStep::Got(t4, c4) => terminal_effects(c4, s, n, m, t4),
+            TotalsStep::Refused(k4) => TotalsStep::Refused(k4),
         },
         TerminalKind::MaybeThrow => terminal_effects(c2, s, n, m, totals),
     }

@@ -1,7 +1,8 @@
 // What refusal 8 counts, and whether there is a diagnosis or an Apply.
 ghost use mathlib.Core.Path.{_≡_};
 ghost use Rattle.hir.specs.Numbers.{kindSays};
-ghost use Rattle.reading.specs.Judging.{bump, withRelation, withMutation, withRender, withDiagnosis, withApply, tellKind};
+ghost use Rattle.reading.specs.Judging.{bump, withRelation, withMutation, withRender, withDiagnosis, withApply, tellKind, totalsOf};
+ghost use Rattle.model.specs.Totals.{over};
 ghost use Rattle.reading.specs.TotalsSays.{totalsAre};
 use crate::blocks::Totals;
 use hir::EffectKind;
@@ -54,6 +55,14 @@ impl Totals {
     {
         self.applies = 1;
         self
+    }
+
+    // Whether refusal 8 applies.
+    pub fn over(self) -> bool
+        ensures { λ r. ⌜ r ≡ over (totalsOf (totalsAre self)) ⌝ }
+    {
+        (MOST_RELATIONS < self.relations)
+            | ((MOST_MUTATIONS < self.mutations) | (MOST_RENDERS < self.renders))
     }
 
     // An effect of this kind, of an instruction or of a terminal.

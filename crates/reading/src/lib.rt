@@ -1,10 +1,9 @@
 // Reads a whole sheet and says why it is refused, or what it holds.
 ghost use mathlib.Core.Path.{_≡_};
 ghost use Rattle.model.specs.Call.{read};
-ghost use Rattle.model.specs.Totals.{over};
 ghost use Rattle.hir.specs.Says.{placeSays};
-ghost use Rattle.reading.specs.TotalsSays.{totalsAre, totalsSays};
-ghost use Rattle.reading.specs.Whole.{heading, placeLists, judgedSheet, totalsOf, judgementOf};
+ghost use Rattle.reading.specs.TotalsSays.{totalsSays};
+ghost use Rattle.reading.specs.Whole.{heading, placeLists, judgedSheet, judgementOf};
 ghost use Rattle.reading.specs.Says.{headingSays, verdictSays};
 use crate::blocks::Totals;
 use crate::blocks::TotalsStep;
@@ -13,10 +12,7 @@ use hir::FlagsStep;
 use hir::PlaceStep;
 use hir::WordStep;
 use hir::limits::MOST_CONTEXT;
-use hir::limits::MOST_MUTATIONS;
 use hir::limits::MOST_PARAMS;
-use hir::limits::MOST_RELATIONS;
-use hir::limits::MOST_RENDERS;
 use hir::limits::MOST_SHEET;
 use hir::limits::RETURNS_COUNT;
 
@@ -106,13 +102,6 @@ pub fn sheet(s: &[u32]) -> TotalsStep
     }
 }
 
-// Whether refusal 8 applies.
-fn over(t: Totals) -> bool
-    ensures { λ r. ⌜ r ≡ over (totalsOf (totalsAre t)) ⌝ }
-{
-    (MOST_RELATIONS < t.relations) | ((MOST_MUTATIONS < t.mutations) | (MOST_RENDERS < t.renders))
-}
-
 // Refusals 2 to 8, or acceptance.
 pub fn read(s: &[u32]) -> Verdict
     ensures { λ r. ⌜ verdictSays r ≡ judgementOf (read (now (s .entry))) ⌝ }
@@ -125,9 +114,6 @@ pub fn read(s: &[u32]) -> Verdict
             let at = c.at;
             if at < s.len() {
                 return Verdict::Refused(7);
-            }
-            if over(t) {
-                return Verdict::Refused(8);
             }
             Verdict::Accepted(t)
         }

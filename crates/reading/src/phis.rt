@@ -84,6 +84,20 @@ fn repeated_operand(s: &[u32], from: usize, to: usize, above: u32, number: u32) 
     }
 }
 
+// An operand after its number, which counts it: refusal 8 may come there, before the place.
+fn operand(c: Cursor, s: &[u32], n: u32, number: u32, totals: Totals) -> TotalsStep
+    ensures { λ r. ⌜ totalsSays r ≡ judge (operand counting n number) (tellOperand counting) (totalsAre totals) (now (s .entry)) (c .at) ⌝ }
+{
+    let t = totals.relation();
+    if t.over() {
+        return TotalsStep::Refused(8);
+    }
+    match c.place(s, n) {
+        PlaceStep::Got(_, c1) => TotalsStep::Got(t, c1),
+        PlaceStep::Refused(k1) => TotalsStep::Refused(k1),
+    }
+}
+
 // `count` operands: a predecessor's number that none before had, and a place.
 fn operands(start: Cursor, s: &[u32], n: u32, count: u32, totals: Totals) -> TotalsStep
     ensures { λ r. ⌜ totalsSays r ≡ judge (numberedFrom count [] (operand counting n) (tellOperand counting)) (each (tellOperand counting)) (totalsAre totals) (now (s .entry)) (start .at) ⌝ }
@@ -109,12 +123,12 @@ fn operands(start: Cursor, s: &[u32], n: u32, count: u32, totals: Totals) -> Tot
             return TotalsStep::Refused(6);
         }
         above = raised(above, number);
-        match c1.place(s, n) {
-            PlaceStep::Got(_, d2) => {
-                t = t.relation();
+        match operand(c1, s, n, number, t) {
+            TotalsStep::Got(u, d2) => {
+                t = u;
                 c = d2;
             }
-            PlaceStep::Refused(k2) => {
+            TotalsStep::Refused(k2) => {
                 return TotalsStep::Refused(k2);
             }
         }

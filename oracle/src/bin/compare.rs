@@ -3,7 +3,7 @@
 //!
 //! Makes N accepted sheets and M damaged calls from a seed and compares the
 //! original, the plain reader and, with the feature `service`, our own library on
-//! them, and on the fixed sheets: bench cases, ranges of words, smallest/ and long
+//! them, and on the fixed sheets: bench cases, ranges of words, totals, smallest/ and long
 //! walks. Then class loads: those at the corners of the bounds, arguments outside, and
 //! L from the seed. Then drawings: of the fixed sheets, and of D sheets and D damaged calls
 //! from the seed; G texts of sheets from the seed are given to Graphviz. Then runs of the
@@ -23,7 +23,7 @@ use oracle::plain;
 use oracle::plain::sheet::WORKSPACE_WORDS;
 use oracle::program::{self, compare_run, file_words};
 use oracle::random::Random;
-use oracle::{cases, dense, generate, text};
+use oracle::{cases, dense, generate, text, totals};
 
 const REPORT: &str = "difference.txt";
 
@@ -307,11 +307,13 @@ fn report(call: &Call, difference: &Difference) {
     }
 }
 
-/// The bench cases, the ranges of words, the sheets of smallest/, and those whose walks are long.
+/// The bench cases, the ranges of words, the totals, the sheets of smallest/, and those whose walks
+/// are long.
 fn compare_fixed() -> Counts {
     let mut sides = sides();
     let mut counts = Counts::default();
     let mut sheets = cases::sheets();
+    sheets.extend(totals::all().into_iter().map(|sheet| sheet.words));
     sheets.extend(text::smallest().into_iter().map(|text| text.words));
     sheets.extend(dense::all().iter().map(|(_, sheet)| sheet.words()));
     for sheet in &sheets {

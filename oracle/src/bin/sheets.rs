@@ -158,23 +158,32 @@ fn write_drawings(folder: &Path, count: usize) -> std::io::Result<()> {
 // Replay
 // =============================================================================
 
-/// The records in parts of that many words, each filled up with zeros: no record stands in two.
-fn parts<'a>(records: impl Iterator<Item = &'a Words>, part: usize) -> Words {
-    let mut words = Vec::new();
+/// The words of a part, and how many parts the program reads.
+const PART: usize = 32_768;
+const MOST_PARTS: usize = 32;
+
+/// The records in parts, each filled up with zeros: a record goes into the first that has room.
+fn parts<'a>(records: impl Iterator<Item = &'a Words>) -> Vec<Words> {
+    let mut parts: Vec<Words> = Vec::new();
     for record in records {
-        if words.len() % part + record.len() > part {
-            words.resize(words.len().next_multiple_of(part), 0);
+        match parts.iter_mut().find(|part| part.len() + record.len() <= PART) {
+            Some(part) => part.extend(record),
+            None => parts.push(record.clone()),
         }
-        words.extend(record);
     }
-    words.resize(words.len().next_multiple_of(part), 0);
-    words
+    parts.iter_mut().for_each(|part| part.resize(PART, 0));
+    parts
 }
 
 fn write_replay(folder: &Path, count: usize) -> std::io::Result<()> {
     let records = replay::records(count);
     let line = replay::line(&records);
-    let words = parts(records.iter().map(|r| &r.words), 32_768);
+    let parts = parts(records.iter().map(|r| &r.words));
+    if parts.len() > MOST_PARTS {
+        let error = format!("{} parts, and the program reads {MOST_PARTS}", parts.len());
+        return Err(std::io::Error::other(error));
+    }
+    let words = parts.concat();
     std::fs::create_dir_all(folder.join("data"))?;
     std::fs::write(folder.join("data/answers.bin"), bytes(&words))?;
     std::fs::write(folder.join("stdout"), &line)?;

@@ -39,10 +39,8 @@ pub fn dot(built: &Built) -> Vec<u8> {
 
 /// What the sheet alone decides: the text, or refusals 2 to 8. The drawing "never gives 10".
 pub fn judge(sheet: &[u32]) -> Result<Vec<u8>, u32> {
-    match read_whole(sheet)? {
-        (sheet, 0 | 10) => Ok(dot(&build(&sheet))),
-        (_, refusal) => Err(refusal),
-    }
+    let (sheet, _) = read_whole(sheet)?;
+    Ok(dot(&build(&sheet)))
 }
 
 /// What is then decided by the lengths of the lent buffers: "9 compares the lent bytes with this text's

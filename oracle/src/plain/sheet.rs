@@ -387,9 +387,18 @@ struct Reader<'s> {
     /// Number of identifiers and of inner functions, once read.
     identifiers: u32,
     functions: u32,
+    /// What has been counted so far.
+    totals: Totals,
 }
 
 type Read<T> = Result<T, u32>;
+
+/// Whose effect it is: in terminals Alias alone counts.
+#[derive(Clone, Copy, PartialEq, Eq)]
+enum Of {
+    Instruction,
+    Terminal,
+}
 
 impl Reader<'_> {
     fn word(&mut self) -> Read<u32> {
@@ -445,8 +454,40 @@ impl Reader<'_> {
         Ok(InnerFunction { diagnostics, context })
     }
 
+    /// One more relation, at the word read last.
+    fn one_relation(&mut self) -> Read<()> {
+        self.totals.relations += 1;
+        if self.totals.relations > MAX_RELATIONS { Err(8) } else { Ok(()) }
+    }
+
+    /// The effect of the kind read last counts.
+    fn one_effect(&mut self, kind: u32, of: Of) -> Read<()> {
+        if of == Of::Terminal {
+            return if kind == 6 { self.one_relation() } else { Ok(()) };
+        }
+        if is_relation(kind) {
+            self.one_relation()?;
+        }
+        self.totals.mutations += is_mutation(kind) as usize;
+        self.totals.renders += is_render(kind) as usize;
+        let over = self.totals.mutations > MAX_MUTATIONS || self.totals.renders > MAX_RENDERS;
+        if over { Err(8) } else { Ok(()) }
+    }
+
     fn place(&mut self) -> Read<Place> {
         let identifier = self.below(self.identifiers)?;
+        self.place_of(identifier)
+    }
+
+    /// The value of a Return, which counts at its identifier.
+    fn returned(&mut self) -> Read<Place> {
+        let identifier = self.below(self.identifiers)?;
+        self.one_relation()?;
+        self.place_of(identifier)
+    }
+
+    /// The rest of a place.
+    fn place_of(&mut self, identifier: u32) -> Read<Place> {
         let traits = self.at_most(MAX_TRAITS)?;
         let span = self.word()?;
         Ok(Place { identifier, traits, span })
@@ -466,8 +507,9 @@ impl Reader<'_> {
         Ok(Place { identifier, ..Place::default() })
     }
 
-    fn effect(&mut self) -> Read<Effect> {
+    fn effect(&mut self, of: Of) -> Read<Effect> {
         let kind = self.at_most(MAX_KIND)?;
+        self.one_effect(kind, of)?;
         let (places, instance, most) = EFFECTS[kind as usize];
         let first = if places >= 1 { self.place()? } else { self.unused_place(0)? };
         let second = if places >= 2 { self.place()? } else { self.unused_place(instance)? };
@@ -478,9 +520,9 @@ impl Reader<'_> {
         Ok(Effect { kind, first, second, extra })
     }
 
-    fn effects(&mut self) -> Read<Vec<Effect>> {
+    fn effects(&mut self, of: Of) -> Read<Vec<Effect>> {
         let count = self.count(MAX_COUNT)?;
-        self.times(count, Self::effect)
+        self.times(count, |r| r.effect(of))
     }
 
     /// The effects of an instruction, whose list can be absent.
@@ -489,7 +531,7 @@ impl Reader<'_> {
             self.at += 1;
             return Ok(None);
         }
-        self.effects().map(Some)
+        self.effects(Of::Instruction).map(Some)
     }
 
     /// A block number that is not among those before it.
@@ -505,6 +547,7 @@ impl Reader<'_> {
         let operands = self.times(count, |r| {
             let predecessor = r.fresh_number(&predecessors)?;
             predecessors.push(predecessor);
+            r.one_relation()?;
             Ok((predecessor, r.place()?))
         })?;
         Ok(Phi { place, operands })
@@ -534,13 +577,13 @@ impl Reader<'_> {
         Ok(match kind {
             0 => Terminal::Other { order, operands: self.places()? },
             1 => {
-                let value = self.place()?;
-                let effects = self.effects()?;
+                let value = self.returned()?;
+                let effects = self.effects(Of::Terminal)?;
                 self.fixed_count(0)?;
                 Terminal::Return { order, value, effects }
             }
             _ => {
-                let effects = self.effects()?;
+                let effects = self.effects(Of::Terminal)?;
                 self.fixed_count(0)?;
                 Terminal::MaybeThrow { order, effects }
             }
@@ -588,25 +631,18 @@ impl Reader<'_> {
     }
 }
 
-/// The sheet's parts with its verdict, 0, 8 or 10; or the refusal, 2 to 7.
+/// The sheet's parts with its verdict, 0 or 10; or the refusal, 2 to 8.
 pub fn read_whole(words: &[u32]) -> Result<(Sheet, u32), u32> {
     if words.len() > SHEET_WORDS {
         return Err(2);
     }
-    let mut reader = Reader { words, at: 0, identifiers: 0, functions: 0 };
+    let totals = Totals::default();
+    let mut reader = Reader { words, at: 0, identifiers: 0, functions: 0, totals };
     let sheet = reader.sheet()?;
     if reader.at < words.len() {
         return Err(7);
     }
-    let totals = sheet.totals();
-    let over = totals.relations > MAX_RELATIONS
-        || totals.mutations > MAX_MUTATIONS
-        || totals.renders > MAX_RENDERS;
-    let verdict = match (over, sheet.applies()) {
-        (true, _) => 8,
-        (false, true) => 10,
-        (false, false) => 0,
-    };
+    let verdict = if sheet.applies() { 10 } else { 0 };
     Ok((sheet, verdict))
 }
 

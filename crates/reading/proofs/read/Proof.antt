@@ -1,6 +1,5 @@
-use Rattle.reading.proofs.VerdictLaws.{judged-refused, judged-seven, judged-eight, judged-accepted}
+use Rattle.reading.proofs.VerdictLaws.{judged-refused, judged-seven, judged-accepted}
 use Rattle.reading.specs.TotalsSays.{totalsSays}
-use mathlib.Core.Path.{_∙_, sym}
 use borrow.Author.Tests.{lt-ltb, le-ltb}
 use Rattle.model.specs.Call.{read}
 use Rattle.hir.proofs.Answers.{says}
@@ -26,33 +25,20 @@ returns-2 c =
     let b5 = b4 .before in
     rw (le-ltb _ _ (b5 .if1 .left)) (judged-seven _ _ _ (says totalsSays (c .before .before .t .given .1) (b4 .sheet .ensures)) (c .if2 .taken))
 
-over-requires : tie.Need-over-requires
-over-requires c κs = search needs
+enum-known-k : tie.Need-enum-known-k
+enum-known-k c = search needs
 
 returns-3 : tie.Need-returns-3
 unfolding read
 returns-3 c =
     let b3 = c .before .before .before in
     let b4 = b3 .before in
-    let b6 = b4 .before .before in
-    let b7 = b6 .before in
-    rw (le-ltb _ _ (b7 .if1 .left)) (judged-eight _ _ _ (says totalsSays (b4 .t .given .1) (b6 .sheet .ensures)) (c .before .before .if2 .left) (sym (c .before .over .ensures) ∙ c .if3 .taken))
-
-enum-known-k : tie.Need-enum-known-k
-enum-known-k c = search needs
+    let b5 = b4 .before in
+    rw (le-ltb _ _ (b5 .if1 .left)) (judged-accepted _ _ _ (says totalsSays (c .before .before .t .given .1) (b4 .sheet .ensures)) (c .if2 .left))
 
 returns-4 : tie.Need-returns-4
 unfolding read
 returns-4 c =
-    let b3 = c .before .before .before in
-    let b4 = b3 .before in
-    let b6 = b4 .before .before in
-    let b7 = b6 .before in
-    rw (le-ltb _ _ (b7 .if1 .left)) (judged-accepted _ _ _ (says totalsSays (b4 .t .given .1) (b6 .sheet .ensures)) (c .before .before .if2 .left) (sym (c .before .over .ensures) ∙ c .if3 .left))
-
-returns-5 : tie.Need-returns-5
-unfolding read
-returns-5 c =
     let b3 = c .before .before .before in
     let b4 = b3 .before in
     rw (le-ltb _ _ (b4 .if1 .left)) (judged-refused _ _ (says totalsSays (c .before .k .given .1) (b3 .sheet .ensures)))
@@ -65,8 +51,6 @@ read-spec =
     sheet-requires
     enum-known-t
     returns-2
-    over-requires
-    returns-3
     enum-known-k
-    returns-4
-    returns-5)
+    returns-3
+    returns-4)

@@ -1,8 +1,7 @@
-use Rattle.reading.proofs.BlockLaws.{effect-got, effect-refused}
 use Rattle.reading.proofs.JudgeLaws.{times-next, times-stop, times-done, section-got, section-refused}
-use Rattle.reading.specs.TotalsSays.{totalsAre}
+use Rattle.reading.specs.TotalsSays.{totalsAre, totalsSays}
 use Rattle.reading.specs.Judging.{judge, counting}
-use Rattle.hir.specs.Says.{wordSays, effectSays}
+use Rattle.hir.specs.Says.{wordSays}
 use Rattle.model.specs.Asking.{effect, effects, tellEffect}
 use Rattle.model.specs.Reading.{timesFrom}
 use Rattle.model.specs.Lists.{each}
@@ -41,11 +40,8 @@ loop-holds c = refl
 effect-requires : tie.Need-effect-requires Inv-loop μ-loop
 effect-requires c κs = tt
 
-enum-known-e : tie.Need-enum-known-e Inv-loop μ-loop
-enum-known-e c = search needs
-
-effect-requires-2 : tie.Need-effect-requires-2 Inv-loop μ-loop
-effect-requires-2 c κs = tt
+enum-known-u : tie.Need-enum-known-u Inv-loop μ-loop
+enum-known-u c = search needs
 
 enum-known-k2 : tie.Need-enum-known-k2 Inv-loop μ-loop
 enum-known-k2 c = search needs
@@ -60,7 +56,7 @@ returns-2 c =
     let b9 = b7 .before .before in
     sym (section-got _ _ _ _ _ _ _ _ (says wordSays (b7 .count2 .given .1) (b9 .count .ensures))
     ∙ b5 .loop .inv
-    ∙ times-stop _ _ _ _ _ _ _ (b4 .loop-test .taken) (effect-refused _ _ _ _ _ _ _ (says effectSays (c .before .k2 .given .1) (b3 .effect .ensures))))
+    ∙ times-stop _ _ _ _ _ _ _ (b4 .loop-test .taken) (says totalsSays (c .before .k2 .given .1) (b3 .effect .ensures)))
 
 sub-left : tie.Need-sub-left Inv-loop μ-loop
 sub-left c = omega arith
@@ -70,10 +66,10 @@ loop-less c = omega arith
 
 loop-again : tie.Need-loop-again Inv-loop μ-loop
 loop-again c =
-    let b4 = c .before .before .before .before in
-    let b5 = b4 .before in
-    rw (c .effect2 .ensures) (b5 .before .loop .inv
-    ∙ times-next _ _ _ _ _ _ _ _ (b5 .loop-test .taken) (effect-got _ _ _ _ _ _ _ _ (says effectSays (c .before .before .e .given .1) (b4 .effect .ensures))))
+    let b3 = c .before .before .before in
+    let b4 = b3 .before in
+    b4 .before .loop .inv
+    ∙ times-next _ _ _ _ _ _ _ _ (b4 .loop-test .taken) (says totalsSays (c .before .u .given .1) (b3 .effect .ensures))
 
 returns-3 : tie.Need-returns-3 Inv-loop μ-loop
 unfolding effects
@@ -96,8 +92,7 @@ effects-spec =
     returns
     loop-holds
     effect-requires
-    enum-known-e
-    effect-requires-2
+    enum-known-u
     enum-known-k2
     returns-2
     sub-left

@@ -1,5 +1,6 @@
 use Rattle.reading.proofs.BlockLaws.{terminal-got, terminal-kind-refused, terminal-order-refused, other-judged, return-judged, throw-judged}
-use Rattle.hir.specs.Says.{wordSays, kindStepSays, orderSays, placeSays}
+use Rattle.hir.specs.Says.{wordSays, kindStepSays, orderSays}
+use Rattle.reading.specs.TotalsSays.{totalsSays}
 use mathlib.Core.Path.{sym}
 use Rattle.hir.proofs.Answers.{says}
 use borrow.Author.Needs.{needs}
@@ -51,14 +52,11 @@ enum-known-k3 c = search needs
 enum-told-2 : tie.Need-enum-told-2
 enum-told-2 c = search needs
 
-place-requires : tie.Need-place-requires
-place-requires c κs = search needs
+value-requires : tie.Need-value-requires
+value-requires c κs = search needs
 
-enum-known-c4 : tie.Need-enum-known-c4
-enum-known-c4 c = search needs
-
-relation-requires : tie.Need-relation-requires
-relation-requires c κs = search needs
+enum-known-t4 : tie.Need-enum-known-t4
+enum-known-t4 c = search needs
 
 terminal-effects-requires : tie.Need-terminal-effects-requires
 terminal-effects-requires c κs = search needs
@@ -103,17 +101,16 @@ returns-4 c =
 returns-5 : tie.Need-returns-5
 returns-5 c =
     let b3 = c .before .before .before in
-    let b5 = b3 .before .before in
-    let b6 = b5 .before in
-    let b9 = b6 .before .before .before in
-    let b11 = b9 .before .before in
-    let b13 = b11 .before .before in
-    let b15 = b13 .before .before in
+    let b4 = b3 .before in
+    let b5 = b4 .before in
+    let b8 = b5 .before .before .before in
+    let b10 = b8 .before .before in
+    let b12 = b10 .before .before in
+    let b14 = b12 .before .before in
     rw (
-      terminal-got _ _ _ _ _ _ _ _ _ (rw (b6 .enum-told2 .given .1) at (says kindStepSays (b13 .t .given .1) (b15 .terminal-kind .ensures))) (says orderSays (b9 .d2 .given .1) (b11 .order .ensures)),
+      terminal-got _ _ _ _ _ _ _ _ _ (rw (b5 .enum-told2 .given .1) at (says kindStepSays (b12 .t .given .1) (b14 .terminal-kind .ensures))) (says orderSays (b8 .d2 .given .1) (b10 .order .ensures)),
       return-judged _ _ _ _ _ _,
-      says placeSays (b3 .c4 .given .1) (b5 .place .ensures),
-      ← c .before .relation .ensures,
+      says totalsSays (c .before .before .t4 .given .1) (b4 .value .ensures),
     ) (c .terminal-effects .ensures)
 
 returns-6 : tie.Need-returns-6
@@ -127,7 +124,7 @@ returns-6 c =
     rw (
       terminal-got _ _ _ _ _ _ _ _ _ (rw (b4 .enum-told2 .given .1) at (says kindStepSays (b11 .t .given .1) (b13 .terminal-kind .ensures))) (says orderSays (b7 .d2 .given .1) (b9 .order .ensures)),
       return-judged _ _ _ _ _ _,
-      says placeSays (c .before .k4 .given .1) (b3 .place .ensures),
+      says totalsSays (c .before .k4 .given .1) (b3 .value .ensures),
     )
 
 returns-7 : tie.Need-returns-7
@@ -155,9 +152,8 @@ terminal-spec =
     enum-known-c3
     enum-known-k3
     enum-told-2
-    place-requires
-    enum-known-c4
-    relation-requires
+    value-requires
+    enum-known-t4
     terminal-effects-requires
     enum-known-k4
     enum-told-3

@@ -1,11 +1,11 @@
 use Rattle.model.proofs.ReadLaws.{atMost-reads}
-use Rattle.reading.proofs.BlockLaws.{operand-got, operand-refused}
+use Rattle.reading.proofs.BlockLaws.{operand-place}
 use Rattle.reading.proofs.JudgeLaws.{numbered-next, numbered-refused, numbered-stop, numbered-done, new-got, new-used, new-refused, used-as}
 use Rattle.reading.proofs.OperandLaws.{none-before, at-most-read, whole-next, one-read, below-read}
 use Rattle.reading.specs.Operands.{Whole, predecessors}
-use Rattle.reading.specs.TotalsSays.{totalsAre}
+use Rattle.reading.specs.TotalsSays.{totalsAre, totalsSays}
 use Rattle.reading.specs.Judging.{judge, counting}
-use Rattle.hir.specs.Says.{blockSays, placeSays}
+use Rattle.hir.specs.Says.{blockSays}
 use Rattle.model.specs.Asking.{operand, tellOperand}
 use Rattle.model.specs.Reading.{numberedFrom}
 use Rattle.model.specs.Lists.{each, Every}
@@ -72,14 +72,11 @@ raised-requires c κs =
     let b3 = c .before .before .before in
     atMost-reads mostBlockNumber _ _ _ _ (says blockSays (b3 .b .given .1) (b3 .before .before .block-number .ensures))
 
-place-requires : tie.Need-place-requires Inv-loop μ-loop
-place-requires c κs = tt
+operand-requires : tie.Need-operand-requires Inv-loop μ-loop
+operand-requires c κs = tt
 
-enum-known-d2 : tie.Need-enum-known-d2 Inv-loop μ-loop
-enum-known-d2 c = search needs
-
-relation-requires : tie.Need-relation-requires Inv-loop μ-loop
-relation-requires c κs = tt
+enum-known-u : tie.Need-enum-known-u Inv-loop μ-loop
+enum-known-u c = search needs
 
 enum-known-k2 : tie.Need-enum-known-k2 Inv-loop μ-loop
 enum-known-k2 c = search needs
@@ -94,7 +91,7 @@ returns-3 c =
     let b11 = b10 .before in
     sym (b11 .before .loop .inv .0
     ∙ numbered-stop _ _ _ _ _ _ _ _ _ _ (b11 .loop-test .taken) (new-got _ _ _ _ _ (says blockSays (b8 .b .given .1) (b10 .block-number .ensures)) (sym (b6 .repeated-operand .ensures)
-    ∙ b5 .if1 .left)) (operand-refused _ _ _ _ _ _ (says placeSays (c .before .k2 .given .1) (b3 .place .ensures))))
+    ∙ b5 .if1 .left)) (says totalsSays (c .before .k2 .given .1) (b3 .operand .ensures)))
 
 sub-left : tie.Need-sub-left Inv-loop μ-loop
 sub-left c = omega arith
@@ -104,19 +101,19 @@ loop-less c = omega arith
 
 loop-again : tie.Need-loop-again Inv-loop μ-loop
 loop-again c =
-    let b4 = c .before .before .before .before in
+    let b3 = c .before .before .before in
+    let b4 = b3 .before in
     let b5 = b4 .before in
     let b6 = b5 .before in
-    let b7 = b6 .before in
-    let b9 = b7 .before .before in
-    let b11 = b9 .before .before in
+    let b8 = b6 .before .before in
+    let b10 = b8 .before .before in
+    let b11 = b10 .before in
     let b12 = b11 .before in
-    let b13 = b12 .before in
-    let l = b13 .loop in
-    let a = b13 .before .before .args in
-    let q = says blockSays (b9 .b .given .1) (b11 .block-number .ensures) in
-    let r = says placeSays (c .before .before .d2 .given .1) (b4 .place .ensures) in
-    (rw (c .relation .ensures) (l .inv .0 ∙ numbered-next _ _ _ _ _ _ _ _ _ _ _ (b12 .loop-test .taken) (new-got _ _ _ _ _ q (sym (b7 .repeated-operand .ensures) ∙ b6 .if1 .left)) (operand-got _ _ _ _ _ _ _ r) ∙ used-as _ _ _ _ _ _ _ _ (one-read (a .s .now) (a .start .at) (l .c .at) _ _ _ _ _ q r (l .inv .1))), whole-next (a .s .now) (a .start .at) (l .c .at) _ _ _ _ _ q r (l .inv .1), below-read (a .s .now) (a .start .at) (l .c .at) _ _ _ _ _ q r (l .inv .1) _ _ (l .inv .2) (b5 .raised .ensures))
+    let l = b12 .loop in
+    let a = b12 .before .before .args in
+    let q = says blockSays (b8 .b .given .1) (b10 .block-number .ensures) in
+    let o = says totalsSays (c .before .u .given .1) (b3 .operand .ensures) in
+    operand-place _ _ _ _ _ _ _ o (λ p r. (l .inv .0 ∙ numbered-next _ _ _ _ _ _ _ _ _ _ _ (b11 .loop-test .taken) (new-got _ _ _ _ _ q (sym (b6 .repeated-operand .ensures) ∙ b5 .if1 .left)) o ∙ used-as _ _ _ _ _ _ _ _ (one-read (a .s .now) (a .start .at) (l .c .at) _ _ _ _ _ q r (l .inv .1)), whole-next (a .s .now) (a .start .at) (l .c .at) _ _ _ _ _ q r (l .inv .1), below-read (a .s .now) (a .start .at) (l .c .at) _ _ _ _ _ q r (l .inv .1) _ _ (l .inv .2) (b4 .raised .ensures)))
 
 returns-4 : tie.Need-returns-4 Inv-loop μ-loop
 returns-4 c = sym (c .before .loop .inv .0 ∙ numbered-done _ _ _ _ _ _ _ (c .loop-test .left))
@@ -135,9 +132,8 @@ operands-spec =
     repeated-operand-requires
     returns-2
     raised-requires
-    place-requires
-    enum-known-d2
-    relation-requires
+    operand-requires
+    enum-known-u
     enum-known-k2
     returns-3
     sub-left

@@ -1,7 +1,7 @@
 use mathlib.Core.Path.{refl}
 use Rattle.model.specs.Totals.{over}
-use Rattle.reading.proofs.over.Statement.{statement}
-use Rattle.reading.proofs.over.Tie as tie
+use Rattle.reading.proofs.blocks.Totals.over.Statement.{statement}
+use Rattle.reading.proofs.blocks.Totals.over.Tie as tie
 
 returns : tie.Need-returns
 unfolding over
