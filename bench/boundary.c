@@ -1,9 +1,9 @@
 /* boundary LOADS DRAWINGS ANSWERS..
  *
  * Calls with known outcomes (the files of `oracle/run --sheets-to loads` and `--sheets-to drawings` and
- * those of `--sheets-to answers`), each in buffers of exactly the words or bytes that are lent and with
- * rubbish, or nothing, in them. Run under valgrind, which sees every word that the library touches outside, and every branch
- * on a word never written. */
+ * those of `--sheets-to answers`), each in buffers of exactly the words or bytes that are lent, which
+ * are never written before the call. Run under valgrind, which sees every word that the library touches
+ * outside, and every branch on a word never written. */
 #include <stdio.h>
 #include <stdlib.h>
 #include <string.h>
@@ -27,15 +27,6 @@ static uint32_t *file_words(const char *name, size_t *count) {
     return words;
 }
 
-static int zeros(const uint32_t *words, size_t count) {
-    for (size_t i = 0; i < count; i++) {
-        if (words[i] != 0) {
-            return 0;
-        }
-    }
-    return 1;
-}
-
 static int zero_bytes(const uint8_t *bytes, size_t count) {
     for (size_t i = 0; i < count; i++) {
         if (bytes[i] != 0) {
@@ -45,43 +36,76 @@ static int zero_bytes(const uint8_t *bytes, size_t count) {
     return 1;
 }
 
+static int zeros(const uint32_t *words, size_t count) {
+    return zero_bytes((const uint8_t *)words, count * 4);
+}
+
 static struct ServiceState state;
 static unsigned long calls, accepted, loads, drawings, drawn;
 
-/* A record: sheet, workspace length, answer room, refusal, answer; lists after their length.
- * Returns where the next one begins. */
-static const uint32_t *replay(const uint32_t *at) {
-    size_t sheet_words = *at++;
-    uint32_t *sheet = malloc(sheet_words * 4);
-    memcpy(sheet, at, sheet_words * 4);
-    at += sheet_words;
-    size_t workspace_words = *at++;
-    size_t room = *at++;
-    uint32_t refusal = *at++;
-    size_t length = *at++;
+/* A call on a sheet, with what its record says of it: the sheet after its length, the words of the
+ * workspace, the room for the result, the refusal, the result's length. */
+struct Call {
+    const uint32_t *recorded;
+    uint32_t *sheet, *workspace;
+    size_t sheet_words, workspace_words, room, length;
+    uint32_t refusal;
+};
 
-    /* Never written: the library may not look at what they hold. */
-    uint32_t *workspace = malloc(workspace_words * 4);
-    uint32_t *answer = malloc(room * 4);
-    uint32_t before = state.next;
-    struct Reply reply = service_infer(&state, sheet, sheet_words, workspace, workspace_words,
-                                       answer, room);
-    int right = reply.refusal == refusal && reply.length == length &&
-                memcmp(answer, at, length * 4) == 0 && zeros(answer + length, room - length) &&
-                zeros(workspace, workspace_words) &&
-                memcmp(sheet, at - 4 - sheet_words, sheet_words * 4) == 0 &&
-                (refusal == 0 ? reply.serial == before && state.next == (uint32_t)(before + 1)
-                              : reply.serial == 0 && state.next == before);
-    free(sheet);
-    free(workspace);
-    free(answer);
+/* Reads a record up to its result, which begins at *at afterwards. */
+static struct Call begin(const uint32_t **at) {
+    struct Call call;
+    const uint32_t *word = *at;
+    call.sheet_words = *word++;
+    call.recorded = word;
+    call.sheet = malloc(call.sheet_words * 4);
+    memcpy(call.sheet, word, call.sheet_words * 4);
+    word += call.sheet_words;
+    call.workspace_words = *word++;
+    call.room = *word++;
+    call.refusal = *word++;
+    call.length = *word++;
+    /* Never written: the library may not look at what it holds. */
+    call.workspace = malloc(call.workspace_words * 4);
+    *at = word;
+    return call;
+}
+
+/* Whether the sheet is as it was and the workspace all 0; gives both back. */
+static int end(struct Call call) {
+    int right = zeros(call.workspace, call.workspace_words) &&
+                memcmp(call.sheet, call.recorded, call.sheet_words * 4) == 0;
+    free(call.sheet);
+    free(call.workspace);
+    return right;
+}
+
+static void expect(int right, const char *what, unsigned long number) {
     if (!right) {
-        printf("call %lu differs\n", calls);
+        printf("%s %lu differs\n", what, number);
         exit(1);
     }
+}
+
+/* A record of a call: its result is the words of the answer. Returns where the next one begins. */
+static const uint32_t *replay(const uint32_t *at) {
+    struct Call call = begin(&at);
+    /* Never written, as the workspace. */
+    uint32_t *answer = malloc(call.room * 4);
+    uint32_t before = state.next;
+    struct Reply reply = service_infer(&state, call.sheet, call.sheet_words, call.workspace,
+                                       call.workspace_words, answer, call.room);
+    int right = reply.refusal == call.refusal && reply.length == call.length &&
+                memcmp(answer, at, call.length * 4) == 0 &&
+                zeros(answer + call.length, call.room - call.length) &&
+                (call.refusal == 0
+                     ? reply.serial == before && state.next == (uint32_t)(before + 1)
+                     : reply.serial == 0 && state.next == before);
+    free(answer);
+    expect(end(call) && right, "call", calls);
     calls++;
-    accepted += refusal == 0;
-    return at + length;
+    accepted += call.refusal == 0;
+    return at + call.length;
 }
 
 /* A record of a class load: seed, n, m, output room, refusal, sheet. */
@@ -89,51 +113,33 @@ static const uint32_t *replay_load(const uint32_t *at) {
     size_t room = at[3];
     uint32_t refusal = at[4];
     size_t length = at[5];
-    /* Never written, as above. */
+    /* Never written, as the workspace. */
     uint32_t *sheet = malloc(room * 4);
     struct Reply reply = service_load(at[0], at[1], at[2], sheet, room);
     at += 6;
     int right = reply.refusal == refusal && reply.serial == 0 && reply.length == length &&
                 memcmp(sheet, at, length * 4) == 0 && zeros(sheet + length, room - length);
     free(sheet);
-    if (!right) {
-        printf("load %lu differs\n", loads);
-        exit(1);
-    }
+    expect(right, "load", loads);
     loads++;
     return at + length;
 }
 
-/* A record of a drawing: sheet, workspace length, room in bytes, refusal, length in bytes, the bytes in
- * whole words. */
+/* A record of a drawing: room and length count bytes, its result is the bytes in whole words. */
 static const uint32_t *replay_drawing(const uint32_t *at) {
-    size_t sheet_words = *at++;
-    uint32_t *sheet = malloc(sheet_words * 4);
-    memcpy(sheet, at, sheet_words * 4);
-    at += sheet_words;
-    size_t workspace_words = *at++;
-    size_t room = *at++;
-    uint32_t refusal = *at++;
-    size_t length = *at++;
-
-    /* Never written, as above. */
-    uint32_t *workspace = malloc(workspace_words * 4);
-    uint8_t *text = malloc(room);
-    struct Reply reply = service_dot(sheet, sheet_words, workspace, workspace_words, text, room);
-    int right = reply.refusal == refusal && reply.serial == 0 && reply.length == length &&
-                memcmp(text, at, length) == 0 && zero_bytes(text + length, room - length) &&
-                zeros(workspace, workspace_words) &&
-                memcmp(sheet, at - 4 - sheet_words, sheet_words * 4) == 0;
-    free(sheet);
-    free(workspace);
+    struct Call call = begin(&at);
+    /* Never written, as the workspace. */
+    uint8_t *text = malloc(call.room);
+    struct Reply reply = service_dot(call.sheet, call.sheet_words, call.workspace,
+                                     call.workspace_words, text, call.room);
+    int right = reply.refusal == call.refusal && reply.serial == 0 &&
+                reply.length == call.length && memcmp(text, at, call.length) == 0 &&
+                zero_bytes(text + call.length, call.room - call.length);
     free(text);
-    if (!right) {
-        printf("drawing %lu differs\n", drawings);
-        exit(1);
-    }
+    expect(end(call) && right, "drawing", drawings);
     drawings++;
-    drawn += refusal == 0;
-    return at + (length + 3) / 4;
+    drawn += call.refusal == 0;
+    return at + (call.length + 3) / 4;
 }
 
 /* Every record of a file. */

@@ -14,6 +14,7 @@ use crate::sheet::{Block, InnerFunction, Instruction, Operand, Phi, Sheet, Termi
 #[derive(Debug, Clone, PartialEq, Eq)]
 pub struct ReadError {
     refusal: Refusal,
+    /// The faulty word's position, from 0.
     at: usize,
     /// The parts around the word, innermost first: name, position from 1, count.
     around: Vec<(&'static str, usize, usize)>,
@@ -24,11 +25,6 @@ impl ReadError {
     /// The refusal that the service gives for these words.
     pub fn refusal(&self) -> Refusal {
         self.refusal
-    }
-
-    /// The faulty word's position, from 0.
-    pub fn at(&self) -> usize {
-        self.at
     }
 
     fn within(mut self, part: &'static str, position: usize, count: usize) -> ReadError {

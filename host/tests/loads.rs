@@ -7,59 +7,36 @@ use oracle::random::Random;
 use service_host::ffi::{self, Reply};
 use service_host::{ClassLoad, Refusal, Service, Sheet, Terminal, limits};
 
-/// Seed, identifiers, effects, and the words behind the identifiers, which are 0: from the count of
-/// inner functions on, an instruction to a line.
-const WORKED_OUT: [(u32, u32, u32, &str); 4] = [
-    (
-        0,
-        2,
-        1,
-        "0  1 0 0 0  0  1 1 0 0  1  0 0 1
-         1 0 0 0 0 0 0 1 10 0 0 0 0 0 0 0
-         0 2 0",
-    ),
-    (
-        1,
-        3,
-        4,
-        "0  1 0 0 0  0  1 2 0 0  1  0 0 4
-         1 0 0 0 0 0 0 1 8 2 0 0 1 0 0 0
-         2 0 0 0 0 0 0 1 8 0 0 0 0 0 0 0
-         3 0 0 0 0 0 0 1 6 0 0 0 0 0 0 0
-         4 0 0 0 0 0 0 1 8 0 0 0 2 0 0 0
-         0 5 0",
-    ),
-    (
-        2026,
-        4,
-        6,
-        "0  1 0 0 0  0  1 3 0 0  1  0 0 6
-         1 0 0 0 0 0 0 1 7 1 0 0 2 0 0 0
-         2 0 0 0 0 0 0 1 10 0 0 0 1 0 0 0
-         3 0 0 0 0 0 0 1 3 0 0 0 0 0 0 0
-         4 0 0 0 0 0 0 1 8 2 0 0 1 0 0 0
-         5 0 0 0 0 0 0 1 2 1 0 0 0 0 0 0
-         6 0 0 0 0 0 0 1 7 2 0 0 0 0 0 0
-         0 7 0",
-    ),
-    (
-        4_294_967_295,
-        5,
-        3,
-        "0  1 0 0 0  0  1 4 0 0  1  0 0 3
-         1 0 0 0 0 0 0 1 2 1 0 0 0 0 0 0
-         2 0 0 0 0 0 0 1 7 3 0 0 4 0 0 0
-         3 0 0 0 0 0 0 1 10 3 0 0 0 0 0 0
-         0 4 0",
-    ),
+/// An effect's kind, first and second identifier.
+type Drawn = (u32, u32, u32);
+
+/// Seed, identifiers and effects.
+const WORKED_OUT: [(u32, u32, &[Drawn]); 4] = [
+    (0, 2, &[(10, 0, 0)]),
+    (1, 3, &[(8, 2, 1), (8, 0, 0), (6, 0, 0), (8, 0, 2)]),
+    (2026, 4, &[(7, 1, 2), (10, 0, 1), (3, 0, 0), (8, 2, 1), (2, 1, 0), (7, 2, 0)]),
+    (4_294_967_295, 5, &[(2, 1, 0), (7, 3, 4), (10, 3, 0)]),
 ];
+
+/// The words that a load with these effects has.
+fn words(identifiers: u32, effects: &[Drawn]) -> Vec<u32> {
+    let count = effects.len() as u32;
+    let mut words = vec![2, 0, 1, identifiers];
+    words.resize(4 + 3 * identifiers as usize, 0);
+    // No inner function, one parameter, no context, returns, one block with no phi.
+    words.extend([0, 1, 0, 0, 0, 0, 1, identifiers - 1, 0, 0, 1, 0, 0, count]);
+    for (order, &(kind, first, second)) in (1..).zip(effects) {
+        words.extend([order, 0, 0, 0, 0, 0, 0, 1, kind, first, 0, 0, second, 0, 0, 0]);
+    }
+    words.extend([0, count + 1, 0]);
+    words
+}
 
 #[test]
 fn words_worked_out() {
-    for (seed, identifiers, effects, rest) in WORKED_OUT {
-        let mut expected = vec![2, 0, 1, identifiers];
-        expected.resize(4 + 3 * identifiers as usize, 0);
-        expected.extend(rest.split_whitespace().map(|word| word.parse::<u32>().unwrap()));
+    for (seed, identifiers, worked_out) in WORKED_OUT {
+        let effects = worked_out.len() as u32;
+        let expected = words(identifiers, worked_out);
         assert_eq!(ClassLoad { seed, identifiers, effects }.words(), Ok(expected.clone()));
         assert_eq!(Load { seed, n: identifiers, m: effects }.sheet().words(), expected);
     }

@@ -1,7 +1,7 @@
 //! The service through the library: the bench cases of document 01, every refusal, the serial,
 //! and what a call leaves in lent buffers.
 
-use oracle::cases::{CASE_1, graph_sheets};
+use oracle::cases::{ANSWER_1, case_1_words, graph_sheets};
 use oracle::damage::damaged;
 use oracle::generate::{self, Limit, past_limit};
 use oracle::plain::sheet as plain;
@@ -28,10 +28,6 @@ fn without_blocks(identifiers: usize, params: &[u32], returns: u32) -> Vec<u32> 
     sheet.finish(place(returns)).unwrap().words()
 }
 
-fn case_1() -> Vec<u32> {
-    CASE_1.split_whitespace().filter_map(|word| word.parse().ok()).collect()
-}
-
 /// The entries of the first walk, and every end but that of identifier 0: it is the lvalue of
 /// every instruction, and the cases' ends are those before the pass over operands.
 fn walked(sheet: &plain::Sheet) -> (u32, Vec<u32>) {
@@ -41,20 +37,10 @@ fn walked(sheet: &plain::Sheet) -> (u32, Vec<u32>) {
 }
 
 #[test]
-fn bench_case_1() {
+fn bench_case_1_words() {
     let mut service = Service::new();
-    let answer = service.infer(&case_1()).unwrap();
-    let lines = "ranges 3 1 3 0 3 0 0\n\
-                 params 1 0 3 5\n\
-                 context 0\n\
-                 diagnostics 0\n\
-                 effects 3 3 0 0 7 0 0 0 0 9 2 0 0 0 0 0 0 6 0 3 5 2 0 0 0\n\
-                 walks 3 3 5 5\n\
-                 phis 0\n\
-                 instructions 2 0 3 0 0 5 0\n\
-                 terminals 1 1 1 0\n\
-                 inner 0\n";
-    assert_eq!(answer.to_string(), lines);
+    let answer = service.infer(&case_1_words()).unwrap();
+    assert_eq!(answer.to_string(), ANSWER_1);
 
     assert_eq!(answer.serial(), 0);
     let moved = MutableRange { start: EvaluationOrder::UNSET, end: EvaluationOrder(3) };
@@ -354,16 +340,16 @@ fn answers_of_any_length() {
     assert!(answer.words().len() <= limits::ANSWER);
     assert!(answer.diagnostics().zip((0..64).cycle()).all(|(d, i)| d.words() == [1_000 + i, i]));
     // The next call is a small one again.
-    let answer = service.infer(&case_1()).unwrap();
+    let answer = service.infer(&case_1_words()).unwrap();
     assert_eq!((answer.serial(), answer.words().len()), (1, 55));
 
     let mut limited = Service::new().most_answer(8_000_000);
     assert_eq!(limited.infer(&sheet).unwrap_err(), Refusal::ShortAnswer);
-    assert_eq!(limited.infer(&case_1()).unwrap().serial(), 0);
+    assert_eq!(limited.infer(&case_1_words()).unwrap().serial(), 0);
     let mut tight = Service::new().most_answer(55);
-    assert_eq!(tight.infer(&case_1()).unwrap().words().len(), 55);
+    assert_eq!(tight.infer(&case_1_words()).unwrap().words().len(), 55);
     let mut short = Service::new().most_answer(54);
-    assert_eq!(short.infer(&case_1()).unwrap_err(), Refusal::ShortAnswer);
+    assert_eq!(short.infer(&case_1_words()).unwrap_err(), Refusal::ShortAnswer);
 }
 
 /// 64 parameters and 64 context variables, each of which flows into each other one and into what
@@ -451,7 +437,7 @@ fn one_service_in_each_thread() {
     let threads: Vec<_> = (0..4)
         .map(|first| {
             let mut service = Service::resume(first);
-            std::thread::spawn(move || service.infer(&case_1()).unwrap().serial())
+            std::thread::spawn(move || service.infer(&case_1_words()).unwrap().serial())
         })
         .collect();
     let serials: Vec<_> = threads.into_iter().map(|t| t.join().unwrap()).collect();

@@ -3,6 +3,8 @@
 use std::path::PathBuf;
 use std::process::{Command, Output};
 
+use oracle::cases::ANSWER_1;
+
 fn sheet(args: &[&str]) -> Output {
     let examples = PathBuf::from(env!("CARGO_MANIFEST_DIR")).join("../examples");
     Command::new(env!("CARGO_BIN_EXE_sheet")).args(args).current_dir(examples).output().unwrap()
@@ -72,21 +74,11 @@ fn explained() {
 
 #[test]
 fn answered() {
-    let lines = "ranges 3 1 3 0 3 0 0\n\
-                 params 1 0 3 5\n\
-                 context 0\n\
-                 diagnostics 0\n\
-                 effects 3 3 0 0 7 0 0 0 0 9 2 0 0 0 0 0 0 6 0 3 5 2 0 0 0\n\
-                 walks 3 3 5 5\n\
-                 phis 0\n\
-                 instructions 2 0 3 0 0 5 0\n\
-                 terminals 1 1 1 0\n\
-                 inner 0\n";
-    assert_eq!(String::from_utf8(out(&["answer", "case1.sheet"])).unwrap(), lines);
-    assert_eq!(String::from_utf8(out(&["answer", "case1.txt"])).unwrap(), lines);
+    assert_eq!(String::from_utf8(out(&["answer", "case1.sheet"])).unwrap(), ANSWER_1);
+    assert_eq!(String::from_utf8(out(&["answer", "case1.txt"])).unwrap(), ANSWER_1);
     let copy = file("answer.txt", b"");
     assert!(out(&["answer", "-o", &copy, "case1.txt"]).is_empty());
-    assert_eq!(std::fs::read_to_string(&copy).unwrap(), lines);
+    assert_eq!(std::fs::read_to_string(&copy).unwrap(), ANSWER_1);
 }
 
 #[test]

@@ -136,14 +136,19 @@ fn compare_apply(sheet: &sheet::Sheet) -> Option<Difference> {
     Some(Difference { side: "original", expected: vec!["refused 10".into()], got })
 }
 
-/// The lengths at which a call is made: workspace and answer buffer. The first are the call's own;
-/// then an answer buffer that is full, one word short, and longer.
-fn lengths(call: &Call, answer: Option<usize>) -> Vec<(usize, usize)> {
-    let vary = call.sheet.len() + 31 * answer.unwrap_or(0);
+/// A number that varies from call to call, for the choice of lengths.
+pub fn varied(call: &Call, result: Option<usize>) -> usize {
+    call.sheet.len() + 31 * result.unwrap_or(0)
+}
+
+/// The lengths at which a call is made: workspace and buffer for the result. The first are the call's
+/// own; then a buffer that is full, one short, and longer.
+pub fn lengths(call: &Call, result: Option<usize>) -> Vec<(usize, usize)> {
+    let vary = varied(call, result);
     let longer = sheet::WORKSPACE_WORDS + vary % 257;
     let far = [1, 8, 61, 3_000][vary % 4];
-    let mut lengths = vec![(call.workspace, call.room.words(answer.unwrap_or(0)))];
-    match answer {
+    let mut lengths = vec![(call.workspace, call.room.words(result.unwrap_or(0)))];
+    match result {
         Some(full) => {
             lengths.push((sheet::WORKSPACE_WORDS, full));
             lengths.push((longer, full.saturating_sub(1)));
@@ -264,9 +269,10 @@ fn smaller(sheet: &sheet::Sheet) -> Vec<sheet::Sheet> {
         }
         if let Terminal::Other { operands, .. } = &block.terminal {
             for o in 0..operands.len() {
-                with(&|s| match &mut s.blocks[b].terminal {
-                    Terminal::Other { operands, .. } => _ = operands.remove(o),
-                    _ => {}
+                with(&|s| {
+                    if let Terminal::Other { operands, .. } = &mut s.blocks[b].terminal {
+                        operands.remove(o);
+                    }
                 });
             }
         }

@@ -47,8 +47,8 @@ impl Call {
     }
 }
 
-/// Limits of document 01, and their neighbours.
-const EDGES: [u32; 38] = [
+/// Limits of document 01 and their neighbours, and the effect count of an absent list.
+pub const EDGES: [u32; 38] = [
     0,
     1,
     2,
@@ -86,20 +86,28 @@ const EDGES: [u32; 38] = [
     0x7fff_ffff,
     0x8000_0000,
     0xffff_fffe,
-    0xffff_ffff,
+    ABSENT,
 ];
 
-fn change_word(words: &mut [u32], random: &mut Random) {
+/// What a word at a position is changed to.
+pub type Change = fn(&[u32], usize, &mut Random) -> u32;
+
+/// Changes one word: to one more, to one less, or by one of these, each as often.
+pub fn change<const N: usize>(words: &mut [u32], random: &mut Random, others: [Change; N]) {
     if words.is_empty() {
         return;
     }
     let at = random.below(words.len());
-    words[at] = match random.below(4) {
+    words[at] = match random.below(2 + N) {
         0 => words[at].wrapping_add(1),
         1 => words[at].wrapping_sub(1),
-        2 => words[random.below(words.len())],
-        _ => random.choose(&EDGES),
+        other => others[other - 2](words, at, random),
     };
+}
+
+fn change_word(words: &mut [u32], random: &mut Random) {
+    let another: Change = |words, _, random| words[random.below(words.len())];
+    change(words, random, [another, |_, _, random| random.choose(&EDGES)]);
 }
 
 /// Use a block number, or one predecessor of a phi, a second time.

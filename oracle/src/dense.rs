@@ -1,8 +1,8 @@
 //! Sheets whose walks are long: chains, and graphs with as many relations as a sheet may have.
 
 use crate::plain::sheet::{
-    Block, Effect, Identifier, Instruction, MAX_COUNT, MAX_IDENTIFIERS, MAX_MUTATIONS,
-    MAX_RELATIONS, Phi, Place, Sheet, Terminal,
+    Block, Effect, Instruction, MAX_COUNT, MAX_IDENTIFIERS, MAX_MUTATIONS, MAX_RELATIONS, Phi,
+    Place, Sheet, Terminal,
 };
 use crate::random::Random;
 
@@ -27,16 +27,7 @@ pub fn block(number: usize, phis: Vec<Phi>, effects: &[Effect]) -> Block {
 
 /// A sheet of these blocks. The first identifier is the parameter, the last one what is returned.
 pub fn sheet(identifiers: usize, blocks: Vec<Block>) -> Sheet {
-    Sheet {
-        function_expression: false,
-        validations: true,
-        identifiers: vec![Identifier::default(); identifiers],
-        functions: Vec::new(),
-        params: vec![place(0)],
-        context: Vec::new(),
-        returns: place(identifiers - 1),
-        blocks,
-    }
+    Sheet::plain(identifiers, vec![place(0)], place(identifiers - 1), blocks)
 }
 
 /// The same of one block with these effects.

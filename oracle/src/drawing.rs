@@ -1,7 +1,7 @@
 //! Drawings (document 02, order 6): which sheets are drawn, and the comparison of one drawing: the
 //! plain implementation's with the original's, and other sides with both.
 
-use crate::compare::{Difference, or_panic, roomy};
+use crate::compare::{self, Difference, or_panic, roomy, varied};
 use crate::damage::{Call, apply};
 use crate::original_side;
 use crate::plain::dot::{Drawn, judge, lend};
@@ -14,12 +14,7 @@ pub trait Drawer {
     fn name(&self) -> &'static str;
 
     /// What the call gave, or what is wrong with the buffers that it left.
-    fn draw(
-        &mut self,
-        sheet: &[u32],
-        workspace_len: usize,
-        text_len: usize,
-    ) -> Result<Drawn, String>;
+    fn draw(&mut self, sheet: &[u32], workspace: usize, room: usize) -> Result<Drawn, String>;
 }
 
 // =============================================================================
@@ -50,25 +45,14 @@ pub fn made(random: &mut Random) -> Call {
 // The comparison
 // =============================================================================
 
-/// The lengths at which a sheet is drawn: workspace and text. The first are the call's own; then a
-/// text that is full, one byte short, longer and empty, and a workspace that is too short.
+/// The lengths at which a sheet is drawn: workspace and text. Those of a call; then a text that is
+/// shorter or empty, and a workspace that is too short.
 fn lengths(call: &Call, text: Option<usize>) -> Vec<(usize, usize)> {
-    let full = text.unwrap_or(0);
-    let vary = call.sheet.len() + 31 * full;
-    let longer = WORKSPACE_WORDS + vary % 257;
-    let far = [1, 8, 61, 3_000][vary % 4];
+    let vary = varied(call, text);
+    let mut lengths = compare::lengths(call, text);
+    lengths.extend(text.map(|full| (WORKSPACE_WORDS, vary % full)));
     let short = [WORKSPACE_WORDS - 1, vary, 0][vary % 3];
-    let mut lengths = vec![(call.workspace, call.room.words(full))];
-    match text {
-        Some(full) => {
-            lengths.push((WORKSPACE_WORDS, full));
-            lengths.push((longer, full - 1));
-            lengths.push((longer, full + far));
-            lengths.push((WORKSPACE_WORDS, vary % full));
-        }
-        None => lengths.push((longer, far)),
-    }
-    lengths.push((short.min(WORKSPACE_WORDS - 1), full));
+    lengths.push((short.min(WORKSPACE_WORDS - 1), text.unwrap_or(0)));
     lengths.dedup();
     lengths
 }
@@ -181,14 +165,9 @@ mod tests {
         fn name(&self) -> &'static str {
             "faulty"
         }
-        fn draw(
-            &mut self,
-            sheet: &[u32],
-            workspace_len: usize,
-            text_len: usize,
-        ) -> Result<Drawn, String> {
+        fn draw(&mut self, sheet: &[u32], workspace: usize, room: usize) -> Result<Drawn, String> {
             let text = read_whole(sheet).map(|(sheet, _)| self.0(build(&sheet)));
-            Ok(lend(&judge(sheet).and(text), workspace_len, text_len))
+            Ok(lend(&judge(sheet).and(text), workspace, room))
         }
     }
 

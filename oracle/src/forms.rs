@@ -297,7 +297,7 @@ pub fn plain<'a>(
 ) -> Option<InstructionValue<'a>> {
     let own: &[Form] = match (lvalues, operands) {
         ([], []) => &NONE,
-        ([], [value]) if choice % 9 == 0 => {
+        ([], [value]) if choice.is_multiple_of(9) => {
             return Some(destructure(&[], *value, choice / 9, allocator));
         }
         ([], [_]) => &ONE,
@@ -340,6 +340,31 @@ pub fn store_context<'a>(target: Place, value: Place) -> InstructionValue<'a> {
 
 const ENTRY: BlockId = BlockId::ENTRY;
 
+fn try_of(handler_binding: Option<Place>, id: EvaluationOrder) -> Terminal<'static> {
+    let (block, handler, fallthrough) = (ENTRY, ENTRY, ENTRY);
+    Terminal::Try { block, handler_binding, handler, fallthrough, id, span: None }
+}
+
+/// Of a form that goes one of two ways, by a test.
+macro_rules! two_ways {
+    ($form:ident) => {
+        |test, id| {
+            let (consequent, alternate, fallthrough) = (ENTRY, ENTRY, ENTRY);
+            Terminal::$form { test, consequent, alternate, fallthrough, id, span: None }
+        }
+    };
+}
+
+/// Of a form that is a scope.
+macro_rules! scope {
+    ($form:ident) => {
+        |id| {
+            let (block, scope) = (ENTRY, ScopeId::from_usize(0));
+            Terminal::$form { fallthrough: ENTRY, block, scope, id, span: None }
+        }
+    };
+}
+
 /// Without operands.
 const NO_OPERANDS: [fn(EvaluationOrder) -> Terminal<'static>; 15] = [
     |id| Terminal::Unreachable { id, span: None },
@@ -375,57 +400,17 @@ const NO_OPERANDS: [fn(EvaluationOrder) -> Terminal<'static>; 15] = [
     |id| Terminal::Optional { optional: true, test: ENTRY, fallthrough: ENTRY, id, span: None },
     |id| Terminal::Label { block: ENTRY, fallthrough: ENTRY, id, span: None },
     |id| Terminal::Sequence { block: ENTRY, fallthrough: ENTRY, id, span: None },
-    |id| Terminal::Try {
-        block: ENTRY,
-        handler_binding: None,
-        handler: ENTRY,
-        fallthrough: ENTRY,
-        id,
-        span: None,
-    },
-    |id| Terminal::Scope {
-        fallthrough: ENTRY,
-        block: ENTRY,
-        scope: ScopeId::from_usize(0),
-        id,
-        span: None,
-    },
-    |id| Terminal::PrunedScope {
-        fallthrough: ENTRY,
-        block: ENTRY,
-        scope: ScopeId::from_usize(0),
-        id,
-        span: None,
-    },
+    |id| try_of(None, id),
+    scope!(Scope),
+    scope!(PrunedScope),
 ];
 
 /// One operand.
 const ONE_OPERAND: [fn(Place, EvaluationOrder) -> Terminal<'static>; 4] = [
     |value, id| Terminal::Throw { value, id, span: None },
-    |test, id| Terminal::If {
-        test,
-        consequent: ENTRY,
-        alternate: ENTRY,
-        fallthrough: ENTRY,
-        id,
-        span: None,
-    },
-    |test, id| Terminal::Branch {
-        test,
-        consequent: ENTRY,
-        alternate: ENTRY,
-        fallthrough: ENTRY,
-        id,
-        span: None,
-    },
-    |binding, id| Terminal::Try {
-        block: ENTRY,
-        handler_binding: Some(binding),
-        handler: ENTRY,
-        fallthrough: ENTRY,
-        id,
-        span: None,
-    },
+    two_ways!(If),
+    two_ways!(Branch),
+    |binding, id| try_of(Some(binding), id),
 ];
 
 /// A terminal with these operands, neither Return nor MaybeThrow.

@@ -4,7 +4,7 @@
 use crate::compare::Difference;
 use crate::plain::Outcome;
 use crate::plain::sheet::{
-    Block, EFFECTS, Effect, Identifier, Instruction, Place, SHEET_WORDS, Sheet, Terminal,
+    Block, EFFECTS, Effect, Instruction, Place, SHEET_WORDS, Sheet, Terminal,
 };
 use crate::random::Random;
 
@@ -64,16 +64,8 @@ impl Load {
             instructions: (1..=self.m).map(instruction).collect(),
             terminal: Terminal::Other { order: self.m + 1, operands: Vec::new() },
         };
-        Sheet {
-            function_expression: false,
-            validations: true,
-            identifiers: vec![Identifier::default(); self.n as usize],
-            functions: Vec::new(),
-            params: vec![Place::default()],
-            context: Vec::new(),
-            returns: Place { identifier: self.n - 1, ..Place::default() },
-            blocks: vec![block],
-        }
+        let returns = Place { identifier: self.n - 1, ..Place::default() };
+        Sheet::plain(self.n as usize, vec![Place::default()], returns, vec![block])
     }
 
     /// "Checks: 5 for arguments outside those bounds, then 9 for a too short output."

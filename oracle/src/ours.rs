@@ -59,22 +59,30 @@ const AROUND: usize = 16;
 const RUBBISH: usize = 1 << 16;
 
 /// A buffer of words or bytes that is lent again and again.
-#[derive(Default)]
 struct Buffer<T> {
+    rubbish: Vec<T>,
+    /// Where in the rubbish the words begin that were there before the call.
+    from: usize,
     words: Vec<T>,
     length: usize,
 }
 
-impl<T: Copy + PartialEq> Buffer<T> {
+impl<T: Copy + PartialEq + Into<u32>> Buffer<T> {
+    fn new(rubbish: impl FnMut(usize) -> T) -> Buffer<T> {
+        let rubbish = (0..RUBBISH).map(rubbish).collect();
+        Buffer { rubbish, from: 0, words: Vec::new(), length: 0 }
+    }
+
     /// Rubbish everywhere, from a position of the list of rubbish on.
-    fn fill(&mut self, length: usize, rubbish: &[T], from: usize) {
+    fn fill(&mut self, length: usize, from: usize) {
         let all = length + 2 * AROUND;
+        self.from = from;
         self.length = length;
         self.words.clear();
         while self.words.len() < all {
             let at = (from + self.words.len()) % RUBBISH;
             let end = RUBBISH.min(at + all - self.words.len());
-            self.words.extend_from_slice(&rubbish[at..end]);
+            self.words.extend_from_slice(&self.rubbish[at..end]);
         }
     }
 
@@ -86,12 +94,40 @@ impl<T: Copy + PartialEq> Buffer<T> {
         &mut self.words[AROUND..AROUND + self.length]
     }
 
-    /// Whether the words around the lent ones are as they were filled.
-    fn unchanged_around(&self, rubbish: &[T], from: usize) -> bool {
+    /// Whether what stands around the lent words is as it was filled, and so many of them are all
+    /// that are not 0.
+    fn check(&self, name: &str, length: usize) -> Result<(), String> {
         let after = AROUND + self.length;
-        (0..AROUND)
+        if (0..AROUND)
             .chain(after..after + AROUND)
-            .all(|at| self.words[at] == rubbish[(from + at) % RUBBISH])
+            .any(|at| self.words[at] != self.rubbish[(self.from + at) % RUBBISH])
+        {
+            return Err(format!("something around the {name} was written"));
+        }
+        let behind = &self.lent()[length..];
+        if behind.iter().fold(0, |all, &word| all | word.into()) == 0 {
+            return Ok(());
+        }
+        let at = behind.iter().position(|&word| word.into() != 0).unwrap_or(0);
+        let found: u32 = behind[at].into();
+        Err(format!("the {name} has {found} at {}, of {}", length + at, self.length))
+    }
+
+    /// What a call has left here, or the number of its refusal.
+    fn result(&self, name: &str, reply: Reply) -> Result<Result<Vec<T>, u32>, String> {
+        let Reply { refusal, length, .. } = reply;
+        if self.length < length || (refusal != 0 && length != 0) {
+            return Err(format!("{reply:?}"));
+        }
+        self.check(name, length)?;
+        Ok(if refusal == 0 { Ok(self.lent()[..length].to_vec()) } else { Err(refusal) })
+    }
+}
+
+fn outcome_of(result: Result<Vec<u32>, u32>) -> Outcome {
+    match result {
+        Ok(words) => Outcome::Accepted(words),
+        Err(refusal) => Outcome::Refused(refusal),
     }
 }
 
@@ -101,8 +137,6 @@ pub struct Ours {
     workspace: Buffer<u32>,
     answer: Buffer<u32>,
     text: Buffer<u8>,
-    rubbish: Vec<u32>,
-    rubbish_bytes: Vec<u8>,
     calls: usize,
 }
 
@@ -119,23 +153,43 @@ impl Default for Ours {
         Ours {
             state,
             sheet: Vec::new(),
-            workspace: Buffer::default(),
-            answer: Buffer::default(),
-            text: Buffer::default(),
-            rubbish: (0..RUBBISH).map(|_| random.word() as u32).collect(),
+            workspace: Buffer::new(|_| random.word() as u32),
+            answer: Buffer::new(|_| random.word() as u32),
             // A byte that is 0 before would not show that it was left.
-            rubbish_bytes: (0..RUBBISH).map(|_| random.between(1, 255) as u8).collect(),
+            text: Buffer::new(|_| random.between(1, 255) as u8),
             calls: 0,
         }
     }
 }
 
-fn all_zero<T: Copy + Into<u32>>(name: &str, words: &[T]) -> Result<(), String> {
-    if words.iter().fold(0, |all, &word| all | word.into()) == 0 {
-        return Ok(());
+impl Ours {
+    /// Where the rubbish of the next call begins.
+    fn next(&mut self) -> usize {
+        self.calls += 1;
+        self.calls * 977 % RUBBISH
     }
-    let at = words.iter().position(|&word| word.into() != 0).unwrap_or(0);
-    Err(format!("{name} {at} of {} is {}", words.len(), words[at].into()))
+
+    /// A copy of the sheet, and rubbish in the workspace; where the rubbish of the call begins.
+    fn begin(&mut self, sheet: &[u32], workspace: usize) -> usize {
+        let from = self.next();
+        self.sheet.clear();
+        self.sheet.extend_from_slice(sheet);
+        self.workspace.fill(workspace, from);
+        from
+    }
+
+    /// After a call the sheet is unchanged, and the workspace is 0.
+    fn end(&self, sheet: &[u32]) -> Result<(), String> {
+        if self.sheet != sheet {
+            return Err("the sheet was written".into());
+        }
+        self.workspace.check("workspace", 0)
+    }
+}
+
+/// For a call that takes no serial.
+fn no_serial(reply: Reply) -> Result<(), String> {
+    if reply.serial == 0 { Ok(()) } else { Err(format!("{reply:?}")) }
 }
 
 impl Side for Ours {
@@ -149,12 +203,8 @@ impl Side for Ours {
         workspace_len: usize,
         answer_len: usize,
     ) -> Result<Outcome, String> {
-        self.calls += 1;
-        let from = self.calls * 977 % RUBBISH;
-        self.sheet.clear();
-        self.sheet.extend_from_slice(sheet);
-        self.workspace.fill(workspace_len, &self.rubbish, from);
-        self.answer.fill(answer_len, &self.rubbish, from / 2);
+        let from = self.begin(sheet, workspace_len);
+        self.answer.fill(answer_len, from / 2);
         let before = self.state;
         let (workspace, answer) = (self.workspace.lend(), self.answer.lend());
         // SAFETY: the pointers are those of slices with these lengths, all different, and of a state.
@@ -169,32 +219,15 @@ impl Side for Ours {
                 answer.len(),
             )
         };
-        if self.sheet != sheet {
-            return Err("the sheet was written".into());
-        }
-        if !self.workspace.unchanged_around(&self.rubbish, from) {
-            return Err("words around the workspace were written".into());
-        }
-        if !self.answer.unchanged_around(&self.rubbish, from / 2) {
-            return Err("words around the answer buffer were written".into());
-        }
-        all_zero("workspace word", self.workspace.lent())?;
-        let Reply { refusal, serial, length } = reply;
-        let (number, next) = match refusal {
+        self.end(sheet)?;
+        let (number, next) = match reply.refusal {
             0 => (before.next, before.next.wrapping_add(1)),
             _ => (0, before.next),
         };
-        if (serial, self.state.next) != (number, next) {
+        if (reply.serial, self.state.next) != (number, next) {
             return Err(format!("{before:?}, then {reply:?} and {:?}", self.state));
         }
-        if answer_len < length || (refusal != 0 && length != 0) {
-            return Err(format!("{reply:?}"));
-        }
-        all_zero("word after the answer", &self.answer.lent()[length..])?;
-        Ok(match refusal {
-            0 => Outcome::Accepted(self.answer.lent()[..length].to_vec()),
-            _ => Outcome::Refused(refusal),
-        })
+        Ok(outcome_of(self.answer.result("answer buffer", reply)?))
     }
 }
 
@@ -204,25 +237,14 @@ impl Loader for Ours {
     }
 
     fn load(&mut self, load: Load, room: usize) -> Result<Outcome, String> {
-        self.calls += 1;
-        let from = self.calls * 977 % RUBBISH;
-        self.answer.fill(room, &self.rubbish, from);
+        let from = self.next();
+        self.answer.fill(room, from);
         let sheet = self.answer.lend();
         // SAFETY: the pointer is that of a slice with this length.
         let reply =
             unsafe { service_load(load.seed, load.n, load.m, sheet.as_mut_ptr(), sheet.len()) };
-        if !self.answer.unchanged_around(&self.rubbish, from) {
-            return Err("words around the output were written".into());
-        }
-        let Reply { refusal, serial, length } = reply;
-        if serial != 0 || room < length || (refusal != 0 && length != 0) {
-            return Err(format!("{reply:?}"));
-        }
-        all_zero("word after the load", &self.answer.lent()[length..])?;
-        Ok(match refusal {
-            0 => Outcome::Accepted(self.answer.lent()[..length].to_vec()),
-            _ => Outcome::Refused(refusal),
-        })
+        no_serial(reply)?;
+        Ok(outcome_of(self.answer.result("output", reply)?))
     }
 }
 
@@ -231,18 +253,9 @@ impl Drawer for Ours {
         "ours, a drawing"
     }
 
-    fn draw(
-        &mut self,
-        sheet: &[u32],
-        workspace_len: usize,
-        text_len: usize,
-    ) -> Result<Drawn, String> {
-        self.calls += 1;
-        let from = self.calls * 977 % RUBBISH;
-        self.sheet.clear();
-        self.sheet.extend_from_slice(sheet);
-        self.workspace.fill(workspace_len, &self.rubbish, from);
-        self.text.fill(text_len, &self.rubbish_bytes, from / 2);
+    fn draw(&mut self, sheet: &[u32], workspace: usize, room: usize) -> Result<Drawn, String> {
+        let from = self.begin(sheet, workspace);
+        self.text.fill(room, from / 2);
         let (workspace, text) = (self.workspace.lend(), self.text.lend());
         // SAFETY: the pointers are those of slices with these lengths, all different.
         let reply = unsafe {
@@ -255,24 +268,11 @@ impl Drawer for Ours {
                 text.len(),
             )
         };
-        if self.sheet != sheet {
-            return Err("the sheet was written".into());
-        }
-        if !self.workspace.unchanged_around(&self.rubbish, from) {
-            return Err("words around the workspace were written".into());
-        }
-        if !self.text.unchanged_around(&self.rubbish_bytes, from / 2) {
-            return Err("bytes around the text were written".into());
-        }
-        all_zero("workspace word", self.workspace.lent())?;
-        let Reply { refusal, serial, length } = reply;
-        if serial != 0 || text_len < length || (refusal != 0 && length != 0) {
-            return Err(format!("{reply:?}"));
-        }
-        all_zero("byte after the text", &self.text.lent()[length..])?;
-        Ok(match refusal {
-            0 => Drawn::Text(self.text.lent()[..length].to_vec()),
-            _ => Drawn::Refused(refusal),
+        self.end(sheet)?;
+        no_serial(reply)?;
+        Ok(match self.text.result("text", reply)? {
+            Ok(text) => Drawn::Text(text),
+            Err(refusal) => Drawn::Refused(refusal),
         })
     }
 }

@@ -18,7 +18,7 @@ impl Random {
 
     /// Below `limit`, which is not 0.
     pub fn below(&mut self, limit: usize) -> usize {
-        ((self.word() >> 32) * limit as u64 >> 32) as usize
+        (((self.word() >> 32) * limit as u64) >> 32) as usize
     }
 
     /// From `low` to `high`, both included.

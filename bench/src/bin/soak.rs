@@ -17,7 +17,7 @@ use std::process::ExitCode;
 use bench::clock::processor;
 use bench::guarded::Guarded;
 use oracle::compare::{Side, compare};
-use oracle::damage::{Call, Room, damaged};
+use oracle::damage::{Call, Change, EDGES, Room, change, damaged};
 use oracle::drawing::compare_drawing;
 use oracle::generate;
 use oracle::load;
@@ -304,29 +304,11 @@ fn compared(sheet: &[u32], workspace: usize, room: usize, said: Said) -> Result<
     is("the original's answer", compare(&call, &mut []).1.is_none())
 }
 
-/// Words that tend to be at a limit, and the effect count of an absent list.
-const EDGES: [u32; 21] = [
-    0,
-    1,
-    2,
-    3,
-    8,
-    12,
-    16,
-    17,
-    18,
-    63,
-    64,
-    65,
-    511,
-    512,
-    513,
-    1_024,
-    1_025,
-    65_536,
-    1_000_001,
-    0xffff_fffe,
-    ABSENT,
+/// A small number, 0 or, where this is the count of an empty list, absent; or a limit.
+const CHANGES: [Change; 3] = [
+    |_, _, random| random.below(16) as u32,
+    |words, at, _| if words[at] == 0 { ABSENT } else { 0 },
+    |_, _, random| random.choose(&EDGES),
 ];
 
 /// Makes a sheet in the host's own memory and gives its length.
@@ -338,24 +320,7 @@ fn hostile(memory: &mut [u32], good: &[u32], random: &mut Random) -> usize {
             let words = &mut memory[room - good.len()..];
             words.copy_from_slice(good);
             for _ in 0..random.between(1, 4) {
-                if words.is_empty() {
-                    break;
-                }
-                let at = random.below(words.len());
-                words[at] = match random.below(5) {
-                    0 => words[at].wrapping_add(1),
-                    1 => words[at].wrapping_sub(1),
-                    2 => random.below(16) as u32,
-                    // Where this is the count of an empty list, it then is absent.
-                    3 => {
-                        if words[at] == 0 {
-                            ABSENT
-                        } else {
-                            0
-                        }
-                    }
-                    _ => random.choose(&EDGES),
-                };
+                change(words, random, CHANGES);
             }
             good.len()
         }

@@ -19,7 +19,7 @@ use Rattle.aliasing.proofs.Parts.{slice-above, nodes-below, seen-below,
 use Rattle.aliasing.proofs.Levels.{above-as}
 use Rattle.aliasing.proofs.Hands.{bare-top, records-length}
 use Rattle.aliasing.proofs.Potential.{phi-bound}
-use Rattle.aliasing.proofs.Steps.{graph-is, state-same}
+use Rattle.aliasing.proofs.Entries.{graph-is, state-same}
 use Rattle.aliasing.proofs.Walks.{aside-then, indexed-after}
 
 pub levels-long : (ws : List ℕ) (hand : ℕ) → replicate {A = ℕ} mostIdentifiers 0 ≡ replicate (length (stateOf ws hand .graph)) 0

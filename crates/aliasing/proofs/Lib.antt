@@ -11,6 +11,8 @@ pub mod Levels
 pub mod Potential
 pub mod Cases
 pub mod Enters
+pub mod Entries
+pub mod Marked
 pub mod Steps
 pub mod Walks
 pub mod Begin

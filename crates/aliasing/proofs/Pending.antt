@@ -29,7 +29,7 @@ use Rattle.aliasing.specs.Walks.{indexRoom, Unmarked, Mutated}
 use Rattle.aliasing.specs.Pending.{Pending, Made, takenOf, Processed}
 use Rattle.aliasing.proofs.Parts.{slice-below, nodes-below, rows-below}
 use Rattle.aliasing.proofs.Hands.{handing-behind}
-use Rattle.aliasing.proofs.Steps.{state-same}
+use Rattle.aliasing.proofs.Entries.{state-same}
 use Rattle.aliasing.proofs.Begin.{Remarked, remarked, unmarked-handing}
 
 -- ---- one mutation by its words

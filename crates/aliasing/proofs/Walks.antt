@@ -19,7 +19,7 @@ use Rattle.aliasing.specs.State.{seenOf, levels}
 use Rattle.aliasing.specs.Potential.{phi}
 use Rattle.aliasing.specs.Walks.{Shows, Ready, Aside, Stepped, Walked}
 use Rattle.aliasing.proofs.Cases.{step-taken}
-use Rattle.aliasing.proofs.Steps.{last, queue-head}
+use Rattle.aliasing.proofs.Entries.{last, queue-head}
 
 pub aside-none : (ws : List ℕ) → Aside ws ws
 aside-none ws = record { graph = refl; behind = refl; same = refl }

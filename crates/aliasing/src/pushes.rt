@@ -1,7 +1,7 @@
 // What an accepted node pushes onto the walk's queue, which lies in the lent workspace (in the original, inside `mutate`).
 ghost use mathlib.Core.Path.{_≡_};
 ghost use Prim.Native.Nat.{_+_, _-_, _*_, _≤_, _<_};
-ghost use lib.ListN.{length};
+ghost use lib.ListN.{length, getD};
 ghost use lib.Seq.{slice};
 ghost use Rattle.model.specs.Limits.{mostIdentifiers};
 ghost use Rattle.workspace.specs.Rows.{rowsOf, mostLists, rowF, rowB};
@@ -95,7 +95,15 @@ fn push_entries(
     len
 }
 
-// One list of entries: list l of node x is row 4 * x + l. A bound counts the words from its row on, so the first counts all.
+// How many words lie before a row. A bound counts the words from its row on, so the first counts all.
+fn words_before(ws: &[u32], first: usize, bound: usize) -> usize
+    requires { ⌜ (first < length (now ws)) × ((bound < length (now ws)) × (getD (now ws) bound 0 ≤ getD (now ws) first 0)) ⌝ }
+    ensures { λ r. ⌜ r ≡ getD (now (ws .entry)) first 0 - getD (now (ws .entry)) bound 0 ⌝ }
+{
+    wide(ws[first]) - wide(ws[bound])
+}
+
+// One list of entries: list l of node x is row 4 * x + l.
 pub fn push_list(
     ws: &mut [u32],
     k: usize,
@@ -108,9 +116,8 @@ pub fn push_list(
     requires { ⌜ (k < mostLists) × ((transitive < 2) × (kind < 2)) ⌝ }
     ensures { λ r. ⌜ Wrote (entriesW index transitive kind (rowB (rowsOf (now (ws .entry))) k)) (now (ws .entry)) top (now (ws .exit)) r ⌝ }
 {
-    let all = wide(ws[BBOUND]);
-    let lo = all - wide(ws[BBOUND + k]);
-    let hi = all - wide(ws[BBOUND + k + 1]);
+    let lo = words_before(ws, BBOUND, BBOUND + k);
+    let hi = words_before(ws, BBOUND, BBOUND + k + 1);
     push_entries(ws, BENTRY + lo, BENTRY + hi, index, transitive, kind, top)
 }
 
@@ -120,9 +127,8 @@ fn push_edges(ws: &mut [u32], x: usize, index: u32, transitive: u32, kind: u32, 
     requires { ⌜ (x < mostIdentifiers) × ((transitive < 2) × (kind < 2)) ⌝ }
     ensures { λ r. ⌜ Wrote (forwardW index transitive kind (rowF (rowsOf (now (ws .entry))) x)) (now (ws .entry)) top (now (ws .exit)) r ⌝ }
 {
-    let all = wide(ws[FBOUND]);
-    let lo = all - wide(ws[FBOUND + x]);
-    let hi = all - wide(ws[FBOUND + x + 1]);
+    let lo = words_before(ws, FBOUND, FBOUND + x);
+    let hi = words_before(ws, FBOUND, FBOUND + x + 1);
     push_forward(ws, FEDGE + lo, FEDGE + hi, index, transitive, kind, top)
 }
 

@@ -2,13 +2,10 @@
 use Prim.Native.Nat.{ℕ, _+_, _-_, _*_, _≤_, _<_}
 use native.Mathlib.Omega.{arith}
 use mathlib.Core.Path.{_≡_, refl, sym, ap, subst, _∙_}
-use mathlib.Core.Bool.{Bool, true, false}
 use mathlib.Core.List.{List, [], _∷_, _++_}
 use lib.ListN.{length, getD, length-append, List·getD-eq-default}
 use lib.Seq.{slice, ext-getD, length-slice}
-use lib.Dec.{leb}
-use borrow.Author.Tests.{leb-true, leb-false}
-use Rattle.model.specs.Limits.{mostInnerDiagnostics, diagnosticWidth}
+use Rattle.model.specs.Limits.{mostListed, diagnosticWidth}
 use Rattle.model.specs.Lists.{gather}
 use Rattle.model.specs.Sheet.{Diagnostic, InnerFunction, noFunction}
 use Rattle.model.specs.Reading.{Position}
@@ -33,93 +30,85 @@ use Rattle.copies.proofs.Sections.{diagnostics-length}
 abbrev pub diagnosticFrom : List ℕ → Position → Part Diagnostic
 diagnosticFrom = wide diagnosticWidth diagnosticAt
 
-pub copies-diagnostic : {sheet : List ℕ} {c : Position} {d : Diagnostic} {a : List ℕ} {at : ℕ} {a′ : List ℕ} {at′ : ℕ} → d ≡ diagnosticAt sheet c → Wrote (diagnosticWords d) a at a′ at′
-    → Copies diagnosticFrom diagnosticWords sheet c a at a′ at′ (c + diagnosticWidth)
+pub copies-diagnostic : {lists : List ℕ} {c : Position} {d : Diagnostic} {a : List ℕ} {at : ℕ} {a′ : List ℕ} {at′ : ℕ} → d ≡ diagnosticAt lists c → Wrote (diagnosticWords d) a at a′ at′
+    → Copies diagnosticFrom diagnosticWords lists c a at a′ at′ (c + diagnosticWidth)
 copies-diagnostic e w = record { wrote = wrote-as w (ap diagnosticWords e); after = refl; few = omega (arith, w .next) }
 
 -- two words a diagnostic
-pub diagnostics-room : {sheet : List ℕ} {k₀ : ℕ} {c₀ : Position} {a₀ : List ℕ} {at₀ k : ℕ} {c : Position} {a : List ℕ} {at : ℕ} → Copying diagnosticFrom diagnosticWords sheet k₀ c₀ a₀ at₀ k c a at → at + diagnosticWidth * k ≤ at₀ + diagnosticWidth * k₀
-diagnostics-room {sheet} {k₀} {c₀} {k = k} {c} v = omega (arith, v .few, v .next, several-wide diagnosticWidth k diagnosticAt sheet c, several-wide diagnosticWidth k₀ diagnosticAt sheet c₀)
+pub diagnostics-room : {lists : List ℕ} {k₀ : ℕ} {c₀ : Position} {a₀ : List ℕ} {at₀ k : ℕ} {c : Position} {a : List ℕ} {at : ℕ} → Copying diagnosticFrom diagnosticWords lists k₀ c₀ a₀ at₀ k c a at → at + diagnosticWidth * k ≤ at₀ + diagnosticWidth * k₀
+diagnostics-room {lists} {k₀} {c₀} {k = k} {c} v = omega (arith, v .few, v .next, several-wide diagnosticWidth k diagnosticAt lists c, several-wide diagnosticWidth k₀ diagnosticAt lists c₀)
 
 -- ---- one function
 -- its diagnostics stand at p, and its context behind them
-module _ (sheet : List ℕ) (p : Position) {l : Listed} (h : ListAt sheet p l) where
-  function-list : several (l .count) diagnosticFrom sheet (l .first) .what ≡ functionFrom sheet p .what .diagnostics
+module _ (lists : List ℕ) (p : Position) {l : Listed} (h : ListAt lists p l) where
+  function-list : several (l .count) diagnosticFrom lists (l .first) .what ≡ functionFrom lists p .what .diagnostics
   unfolding functionFrom
-  function-list = ap (λ (x : Part (List Diagnostic)). x .what) (sym (list-is diagnosticFrom sheet p h))
+  function-list = ap (λ (x : Part (List Diagnostic)). x .what) (sym (list-is diagnosticFrom lists p h))
 
-  before-context : several (l .count) diagnosticFrom sheet (l .first) .next ≤ functionFrom sheet p .next
+  before-context : several (l .count) diagnosticFrom lists (l .first) .next ≤ functionFrom lists p .next
   unfolding functionFrom
-  before-context = omega (arith, ap (λ (x : Part (List Diagnostic)). x .next) (list-is diagnosticFrom sheet p h), places-rise sheet (diagnosticsFrom sheet p .next))
+  before-context = omega (arith, ap (λ (x : Part (List Diagnostic)). x .next) (list-is diagnosticFrom lists p h), places-rise lists (diagnosticsFrom lists p .next))
 
-module _ (sheet ws : List ℕ) (m : ℕ) where
-  pub functions-length : length (functionsOf sheet ws m) ≡ m
+module _ (lists ws : List ℕ) (m : ℕ) where
+  pub functions-length : length (functionsOf lists ws m) ≡ m
   unfolding functionsOf
-  functions-length = tab-length m (λ (k : ℕ). functionAt sheet ws k .what)
+  functions-length = tab-length m (λ (k : ℕ). functionAt lists ws k .what)
 
-  function-at : (k : ℕ) → k < m → getD (functionsOf sheet ws m) k noFunction ≡ functionAt sheet ws k .what
+  function-at : (k : ℕ) → k < m → getD (functionsOf lists ws m) k noFunction ≡ functionAt lists ws k .what
   unfolding functionsOf
-  function-at k h = tab-at m (λ (j : ℕ). functionAt sheet ws j .what) k noFunction h
+  function-at k h = tab-at m (λ (j : ℕ). functionAt lists ws j .what) k noFunction h
 
 -- fs are those that the words name
-pub functions-are : {sheet ws : List ℕ} {fs : List InnerFunction} {m : ℕ} → Functions sheet ws fs → m ≡ length fs → functionsOf sheet ws m ≡ fs
-functions-are {sheet} {ws} {fs} {m} g e =
-    ext-getD noFunction (functionsOf sheet ws m) fs (functions-length sheet ws m ∙ e)
-    (λ k h. let z : k < m = omega (arith, h, functions-length sheet ws m) in function-at sheet ws m k z ∙ g .is k (omega (arith, z, e)))
+pub functions-are : {lists ws : List ℕ} {fs : List InnerFunction} {m : ℕ} → Functions lists ws fs → m ≡ length fs → functionsOf lists ws m ≡ fs
+functions-are {lists} {ws} {fs} {m} g e =
+    ext-getD noFunction (functionsOf lists ws m) fs (functions-length lists ws m ∙ e)
+    (λ k h. let z : k < m = omega (arith, h, functions-length lists ws m) in function-at lists ws m k z ∙ g .is k (omega (arith, z, e)))
 
-pub functions-again : {sheet ws : List ℕ} {fs : List InnerFunction} {m : ℕ} → Functions sheet ws fs → m ≡ length fs → Functions sheet ws (functionsOf sheet ws m)
-functions-again {sheet} {ws} g e = subst (Functions sheet ws) (sym (functions-are g e)) g
+pub functions-again : {lists ws : List ℕ} {fs : List InnerFunction} {m : ℕ} → Functions lists ws fs → m ≡ length fs → Functions lists ws (functionsOf lists ws m)
+functions-again {lists} {ws} g e = subst (Functions lists ws) (sym (functions-are g e)) g
 
 -- they stay if their words stay
-pub functions-kept : {sheet ws ws′ : List ℕ} {fs : List InnerFunction} → ((k : ℕ) → k < length fs → getD ws′ (FUNCTIONS + k) 0 ≡ getD ws (FUNCTIONS + k) 0) → Functions sheet ws fs → Functions sheet ws′ fs
-functions-kept {sheet} {fs = fs} e g = record {
-  is = λ k h. ap (λ (p : Position). functionFrom sheet p .what) (e k h) ∙ g .is k h;
-  inside = λ k h. subst (λ (p : Position). functionFrom sheet p .next ≤ length sheet) (sym (e k h)) (g .inside k h);
+pub functions-kept : {lists ws ws′ : List ℕ} {fs : List InnerFunction} → ((k : ℕ) → k < length fs → getD ws′ (FUNCTIONS + k) 0 ≡ getD ws (FUNCTIONS + k) 0) → Functions lists ws fs → Functions lists ws′ fs
+functions-kept {lists} {fs = fs} e g = record {
+  is = λ k h. ap (λ (p : Position). functionFrom lists p .what) (e k h) ∙ g .is k h;
+  inside = λ k h. subst (λ (p : Position). functionFrom lists p .next ≤ length lists) (sym (e k h)) (g .inside k h);
   few = g .few;
 }
 
--- no function has more diagnostics than the limit
-errors-few : {sheet ws : List ℕ} {fs : List InnerFunction} → Functions sheet ws fs → (k : ℕ) → length (functionErrors fs k) ≤ mostInnerDiagnostics
-errors-few {fs = fs} g k = go (leb (length fs) k) refl
-  where
-    go : (b : Bool) → leb (length fs) k ≡ b → length (functionErrors fs k) ≤ mostInnerDiagnostics
-    go true e = omega (arith, ap (λ (f : InnerFunction). length (f .diagnostics)) (List·getD-eq-default fs noFunction {n = k} (leb-true (length fs) k e)))
-    go false e = g .few k (leb-false (length fs) k e)
-
--- nor have several
-handed-few : {sheet ws : List ℕ} {fs : List InnerFunction} → Functions sheet ws fs → (l : List ℕ) → length (gather diagnosticWords (gather (functionErrors fs) l)) ≤ mostErrors * length l
+-- several have no more diagnostics than so many times the most
+handed-few : {lists ws : List ℕ} {fs : List InnerFunction} → Functions lists ws fs → (l : List ℕ) → length (gather diagnosticWords (gather (functionErrors fs) l)) ≤ mostErrors * length l
 handed-few g [] = omega arith
 handed-few {fs = fs} g (k ∷ l) =
     let one : List Diagnostic = functionErrors fs k in
     let rest : List Diagnostic = gather (functionErrors fs) l in
-    omega (arith, diagnostics-length (one ++ rest), length-append one rest, diagnostics-length rest, errors-few g k, handed-few g l)
+    omega (arith, diagnostics-length (one ++ rest), length-append one rest, diagnostics-length rest, g .few k, handed-few g l)
 
 -- of one function that is not there
-pub errors-none : (sheet ws : List ℕ) (m k : ℕ) → m ≤ k → (a : List ℕ) (at : ℕ) → Wrote (gather diagnosticWords (functionErrors (functionsOf sheet ws m) k)) a at a at
-errors-none sheet ws m k z a at =
-    let e : getD (functionsOf sheet ws m) k noFunction ≡ noFunction = List·getD-eq-default (functionsOf sheet ws m) noFunction {n = k} (omega (arith, z, functions-length sheet ws m)) in
+pub errors-none : (lists ws : List ℕ) (m k : ℕ) → m ≤ k → (a : List ℕ) (at : ℕ) → Wrote (gather diagnosticWords (functionErrors (functionsOf lists ws m) k)) a at a at
+errors-none lists ws m k z a at =
+    let e : getD (functionsOf lists ws m) k noFunction ≡ noFunction = List·getD-eq-default (functionsOf lists ws m) noFunction {n = k} (omega (arith, z, functions-length lists ws m)) in
     wrote-as (wrote-none a at) (ap (λ (f : InnerFunction). gather diagnosticWords (f .diagnostics)) (sym e))
 
-module _ {sheet ws : List ℕ} {m k : ℕ} (g : Functions sheet ws (functionsOf sheet ws m)) (z : k < m) where
-  there : k < length (functionsOf sheet ws m)
-  there = omega (arith, z, functions-length sheet ws m)
+module _ {lists ws : List ℕ} {m k : ℕ} (g : Functions lists ws (functionsOf lists ws m)) (z : k < m) where
+  there : k < length (functionsOf lists ws m)
+  there = omega (arith, z, functions-length lists ws m)
 
-  -- its count stands in the sheet
-  pub errors-begin : getD ws (FUNCTIONS + k) 0 + 1 ≤ length sheet
-  errors-begin = omega (arith, function-rises sheet (getD ws (FUNCTIONS + k) 0), g .inside k there)
+  -- its count stands in the lists
+  pub errors-begin : getD ws (FUNCTIONS + k) 0 + 1 ≤ length lists
+  errors-begin = omega (arith, function-rises lists (getD ws (FUNCTIONS + k) 0), g .inside k there)
 
-  module _ {l : Listed} (h : ListAt sheet (getD ws (FUNCTIONS + k) 0) l) where
-    list-errors : several (l .count) diagnosticFrom sheet (l .first) .what ≡ functionErrors (functionsOf sheet ws m) k
-    list-errors = function-list sheet (getD ws (FUNCTIONS + k) 0) h ∙ ap (λ (f : InnerFunction). f .diagnostics) (g .is k there)
+  module _ {l : Listed} (h : ListAt lists (getD ws (FUNCTIONS + k) 0) l) where
+    list-errors : several (l .count) diagnosticFrom lists (l .first) .what ≡ functionErrors (functionsOf lists ws m) k
+    list-errors = function-list lists (getD ws (FUNCTIONS + k) 0) h ∙ ap (λ (f : InnerFunction). f .diagnostics) (g .is k there)
 
-    pub errors-inside : several (l .count) diagnosticFrom sheet (l .first) .next ≤ length sheet
-    errors-inside = omega (arith, g .inside k there, before-context sheet (getD ws (FUNCTIONS + k) 0) h)
+    pub errors-inside : several (l .count) diagnosticFrom lists (l .first) .next ≤ length lists
+    errors-inside = omega (arith, g .inside k there, before-context lists (getD ws (FUNCTIONS + k) 0) h)
 
-    pub errors-room : l .count ≤ mostInnerDiagnostics
-    errors-room = omega (arith, g .few k there, ap (λ (x : List Diagnostic). length x) list-errors, several-length diagnosticFrom sheet (l .count) (l .first))
+    pub errors-room : l .count ≤ mostListed
+    errors-room = omega (arith, g .few k, ap (λ (x : List Diagnostic). length x) list-errors, several-length diagnosticFrom lists (l .count) (l .first))
 
-    pub errors-wrote : {a : List ℕ} {at : ℕ} {a′ : List ℕ} {at′ : ℕ} → Wrote (gather diagnosticWords (several (l .count) diagnosticFrom sheet (l .first) .what)) a at a′ at′
-        → Wrote (gather diagnosticWords (functionErrors (functionsOf sheet ws m) k)) a at a′ at′
+    pub errors-wrote : {a : List ℕ} {at : ℕ} {a′ : List ℕ} {at′ : ℕ} → Wrote (gather diagnosticWords (several (l .count) diagnosticFrom lists (l .first) .what)) a at a′ at′
+        → Wrote (gather diagnosticWords (functionErrors (functionsOf lists ws m) k)) a at a′ at′
     errors-wrote w = wrote-as w (ap (gather diagnosticWords) list-errors)
 
 -- ---- all functions handed over, from word i on
@@ -131,18 +120,18 @@ pub handing-start : (fs : List InnerFunction) (ws : List ℕ) (hand : ℕ) (a : 
 handing-start fs ws hand a at = record { leaves = leaves-all (gather diagnosticWords (gather (functionErrors fs) (slice HANDED hand ws))) a at; few = omega arith }
 
 module _ {fs : List InnerFunction} {ws : List ℕ} {hand : ℕ} {a₀ : List ℕ} {at₀ i : ℕ} {a : List ℕ} {at : ℕ} (v : Handing fs ws hand a₀ at₀ i a at) where
-  pub handing-turn : {sheet : List ℕ} → Functions sheet ws fs → i < hand → hand ≤ length ws → {a′ : List ℕ} {at′ : ℕ} → Wrote (gather diagnosticWords (functionErrors fs (getD ws i 0))) a at a′ at′ → Handing fs ws hand a₀ at₀ (i + 1) a′ at′
+  pub handing-turn : {lists : List ℕ} → Functions lists ws fs → i < hand → hand ≤ length ws → {a′ : List ℕ} {at′ : ℕ} → Wrote (gather diagnosticWords (functionErrors fs (getD ws i 0))) a at a′ at′ → Handing fs ws hand a₀ at₀ (i + 1) a′ at′
   handing-turn g h k p = record {
     leaves =
         leaves-then (v .leaves) p
         (ap (λ (l : List ℕ). gather diagnosticWords (gather (functionErrors fs) l)) (slice-next i hand ws h k) ∙ gather-append diagnosticWords (functionErrors fs (getD ws i 0)) (gather (functionErrors fs) (slice (i + 1) hand ws)));
-    few = omega (arith, v .few, p .next, diagnostics-length (functionErrors fs (getD ws i 0)), errors-few g (getD ws i 0), h);
+    few = omega (arith, v .few, p .next, diagnostics-length (functionErrors fs (getD ws i 0)), g .few (getD ws i 0), h);
   }
 
   pub handing-end : hand ≤ i → Wrote (gather diagnosticWords (gather (functionErrors fs) (slice HANDED hand ws))) a₀ at₀ a at
   handing-end h = leaves-none (v .leaves) (ap (λ (l : List ℕ). gather diagnosticWords (gather (functionErrors fs) l)) (slice-none i hand ws h))
 
 -- so many words at most
-pub handed-room : {sheet ws : List ℕ} {fs : List InnerFunction} → Functions sheet ws fs → (hand : ℕ) → hand ≤ length ws → {a : List ℕ} {at : ℕ} {a′ : List ℕ} {at′ : ℕ}
+pub handed-room : {lists ws : List ℕ} {fs : List InnerFunction} → Functions lists ws fs → (hand : ℕ) → hand ≤ length ws → {a : List ℕ} {at : ℕ} {a′ : List ℕ} {at′ : ℕ}
     → Wrote (gather diagnosticWords (gather (functionErrors fs) (slice HANDED hand ws))) a at a′ at′ → at′ ≤ at + mostErrors * (hand - HANDED)
 handed-room {ws = ws} g hand h w = omega (arith, w .next, handed-few g (slice HANDED hand ws), length-slice HANDED hand ws h)

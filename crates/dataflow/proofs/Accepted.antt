@@ -21,7 +21,8 @@ use Rattle.model.proofs.WhenRead.{read-got, in-range}
 use Rattle.hir.specs.declared.at.List.{List as Listed}
 use Rattle.hir.specs.Words.{Part, Standing, several, listed, identifiersFrom, functionsFrom, placesFrom, blocksFrom, placeAt, flagsAt, sectionsFrom, sheetFrom}
 use Rattle.hir.specs.Parts.{ListAt}
-use Rattle.hir.proofs.Standing.{part, Stands, value-is, next-is, sheet-stands}
+use Rattle.hir.proofs.Standing.{part, Stands, value-is, next-is}
+use Rattle.hir.proofs.SheetStanding.{sheet-stands}
 use Rattle.hir.proofs.Several.{several-length, list-is}
 use Rattle.dataflow.specs.Ranges.{BlockInRange}
 use Rattle.dataflow.specs.Accepted.{sectionsOf, sheetOf, FewDiagnostics, Accepted}

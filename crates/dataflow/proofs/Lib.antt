@@ -10,3 +10,4 @@ pub mod Storing
 pub mod Staying
 pub mod Tracking
 pub mod Before
+pub mod ReadFunction

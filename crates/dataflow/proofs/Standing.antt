@@ -12,8 +12,8 @@ use Rattle.copies.proofs.Errors.{functions-kept}
 use Rattle.dataflow.specs.Function.{Stands}
 
 -- so it stays if those words stay
-pub stands-kept : (s : Sheet) (sheet : List ℕ) {ws ws′ : List ℕ} → drop FUNCTIONS ws′ ≡ drop FUNCTIONS ws → length ws′ ≡ length ws → Stands s sheet ws → Stands s sheet ws′
-stands-kept s sheet {ws} {ws′} e n h = record {
+pub stands-kept : (s : Sheet) (lists : List ℕ) {ws ws′ : List ℕ} → drop FUNCTIONS ws′ ≡ drop FUNCTIONS ws → length ws′ ≡ length ws → Stands s lists ws → Stands s lists ws′
+stands-kept s lists {ws} {ws′} e n h = record {
   size = omega (arith, n, h .size);
   functions = functions-kept (λ k l. drop-word FUNCTIONS (FUNCTIONS + k) ws ws′ (omega arith) e) (h .functions);
   tracked = tracked-kept ws ws′ (length (s .params) + length (s .context) + 1) (drop-more FUNCTIONS TRACKED ws′ ws (omega arith) e) ∙ h .tracked;

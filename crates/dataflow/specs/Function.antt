@@ -39,8 +39,12 @@ pub record Describes (s : Sheet) (sheet : List ℕ) (f : HirFunction) : Type 0 w
   pub blocksInside : several (f .blocks .count) blockFrom sheet (f .blocks .first) .next ≤ length sheet
   pub short : length sheet ≤ mostSheet
 
--- what stands in the workspace from here to the call's end: where each inner function stands in the sheet, and the tracked places
-pub record Stands (s : Sheet) (sheet ws : List ℕ) : Type 0 where
+-- the places of s are tracked
+abbrev pub Tracking : Sheet → List ℕ → Type 0
+Tracking s ws = trackedOf ws (length (s .params) + length (s .context) + 1) ≡ s .params ++ (s .context ++ (s .returns ∷ []))
+
+-- what stands in the workspace from here to the call's end: where each inner function stands in the lists, and the tracked places
+pub record Stands (s : Sheet) (lists ws : List ℕ) : Type 0 where
   pub size : LEAST ≤ length ws
-  pub functions : Functions sheet ws (s .functions)
-  pub tracked : trackedOf ws (length (s .params) + length (s .context) + 1) ≡ s .params ++ (s .context ++ (s .returns ∷ []))
+  pub functions : Functions lists ws (s .functions)
+  pub tracked : Tracking s ws

@@ -110,8 +110,8 @@ handed-quiet s ws hand e t =
     ∙ sym (handed-words ws hand)
 
 -- where the arms meet: the renders were run if errors are recorded
-pub record HandedPut (sheet ws : List ℕ) (f : HirFunction) (renders hand : ℕ) (a : List ℕ) (at : ℕ) (ws′ a′ : List ℕ) (at′ : ℕ) : Type 0 where
-  pub wrote : (s : Sheet) → Describes s sheet f → Stands s sheet ws → stateOf ws hand ≡ afterReal s → rendersOf ws renders ≡ build s .renders
+pub record HandedPut (sheet lists ws : List ℕ) (f : HirFunction) (renders hand : ℕ) (a : List ℕ) (at : ℕ) (ws′ a′ : List ℕ) (at′ : ℕ) : Type 0 where
+  pub wrote : (s : Sheet) → Describes s sheet f → Stands s lists ws → stateOf ws hand ≡ afterReal s → rendersOf ws renders ≡ build s .renders
       → Wrote (gather diagnosticWords (gather (functionErrors (s .functions)) (simulate s .state .handed))) a at a′ at′
   pub least : at ≤ at′
   pub few : at′ ≤ at + mostHanded * (1 + mostRenders)
@@ -119,16 +119,16 @@ pub record HandedPut (sheet ws : List ℕ) (f : HirFunction) (renders hand : ℕ
   pub same : length a′ ≡ length a
 
 -- after the functions that mutations handed over
-module _ (sheet ws : List ℕ) (f : HirFunction) (renders : ℕ) {hand : ℕ} (g : Functions sheet ws (functionsOf sheet ws (f .m))) (low : hand ≤ MUTATIONS) (size : LEAST ≤ length ws) {a : List ℕ} {at : ℕ} {a₁ : List ℕ} {at₁ : ℕ}
-    (p : Wrote (gather diagnosticWords (gather (functionErrors (functionsOf sheet ws (f .m))) (slice HANDED hand ws))) a at a₁ at₁) (same : length a₁ ≡ length a) where
+module _ (sheet lists ws : List ℕ) (f : HirFunction) (renders : ℕ) {hand : ℕ} (g : Functions lists ws (functionsOf lists ws (f .m))) (low : hand ≤ MUTATIONS) (size : LEAST ≤ length ws) {a : List ℕ} {at : ℕ} {a₁ : List ℕ} {at₁ : ℕ}
+    (p : Wrote (gather diagnosticWords (gather (functionErrors (functionsOf lists ws (f .m))) (slice HANDED hand ws))) a at a₁ at₁) (same : length a₁ ≡ length a) where
   room : at₁ ≤ at + mostHanded
   room = omega (arith, handed-room g hand (omega (arith, low, size)) p, low)
 
-  pub handed-put : f .errors ≡ true → renders ≤ mostRenders → {ws′ a₂ : List ℕ} {at₂ : ℕ} → RendersPut sheet ws (f .m) renders a₁ at₁ ws′ a₂ at₂ → length a₂ ≡ length a₁
-      → HandedPut sheet ws f renders hand a at ws′ a₂ at₂
+  pub handed-put : f .errors ≡ true → renders ≤ mostRenders → {ws′ a₂ : List ℕ} {at₂ : ℕ} → RendersPut lists ws (f .m) renders a₁ at₁ ws′ a₂ at₂ → length a₂ ≡ length a₁
+      → HandedPut sheet lists ws f renders hand a at ws′ a₂ at₂
   handed-put e h q same′ = record {
     wrote = λ s d t u r.
-        let fs : List InnerFunction = functionsOf sheet ws (f .m) in
+        let fs : List InnerFunction = functionsOf lists ws (f .m) in
         let rs : List ℕ = rendered (rendersOf ws renders) (stateOf ws HANDED) .handed in
         wrote-as (wrote-then p (q .wrote))
         (sym (gather-append diagnosticWords (gather (functionErrors fs) (slice HANDED hand ws)) (gather (functionErrors fs) rs))
@@ -140,7 +140,7 @@ module _ (sheet ws : List ℕ) (f : HirFunction) (renders : ℕ) {hand : ℕ} (g
     same = same′ ∙ same;
   }
 
-  pub handed-not : f .errors ≡ false → HandedPut sheet ws f renders hand a at ws a₁ at₁
+  pub handed-not : f .errors ≡ false → HandedPut sheet lists ws f renders hand a at ws a₁ at₁
   handed-not e = record {
     wrote = λ s d t u r.
         wrote-as p
@@ -153,15 +153,15 @@ module _ (sheet ws : List ℕ) (f : HirFunction) (renders : ℕ) {hand : ℕ} (g
   }
 
 -- the same by other names
-pub handed-as : {sheet ws : List ℕ} {f : HirFunction} {renders hand : ℕ} {a : List ℕ} {at : ℕ} {ws′ ws″ a′ a″ : List ℕ} {at′ at″ : ℕ} → HandedPut sheet ws f renders hand a at ws′ a′ at′
-    → ws″ ≡ ws′ → a″ ≡ a′ → at″ ≡ at′ → HandedPut sheet ws f renders hand a at ws″ a″ at″
-handed-as {sheet} {ws} {f} {renders} {hand} {a} {at} {ws′} {ws″} {a′} {a″} {at′} {at″} h p q r =
-    subst (λ (k : ℕ). HandedPut sheet ws f renders hand a at ws″ a″ k) (sym r)
-    (subst (λ (l : List ℕ). HandedPut sheet ws f renders hand a at ws″ l at′) (sym q) (subst (λ (l : List ℕ). HandedPut sheet ws f renders hand a at l a′ at′) (sym p) h))
+pub handed-as : {sheet lists ws : List ℕ} {f : HirFunction} {renders hand : ℕ} {a : List ℕ} {at : ℕ} {ws′ ws″ a′ a″ : List ℕ} {at′ at″ : ℕ} → HandedPut sheet lists ws f renders hand a at ws′ a′ at′
+    → ws″ ≡ ws′ → a″ ≡ a′ → at″ ≡ at′ → HandedPut sheet lists ws f renders hand a at ws″ a″ at″
+handed-as {sheet} {lists} {ws} {f} {renders} {hand} {a} {at} {ws′} {ws″} {a′} {a″} {at′} {at″} h p q r =
+    subst (λ (k : ℕ). HandedPut sheet lists ws f renders hand a at ws″ a″ k) (sym r)
+    (subst (λ (l : List ℕ). HandedPut sheet lists ws f renders hand a at ws″ l at′) (sym q) (subst (λ (l : List ℕ). HandedPut sheet lists ws f renders hand a at l a′ at′) (sym p) h))
 
 -- ---- the whole section
-module _ {sheet ws : List ℕ} {f : HirFunction} {renders hand : ℕ} {a : List ℕ} {at : ℕ} {a₁ : List ℕ} {at₁ : ℕ} {a₂ : List ℕ} {at₂ : ℕ} {ws′ a₃ : List ℕ} {at₃ : ℕ} (some : (s : Sheet) × (Describes s sheet f × Stands s sheet ws))
-    (p : Wrote (0 ∷ []) a at a₁ at₁) (q : RecordedPut sheet f a₁ at₁ a₂ at₂) (h : HandedPut sheet ws f renders hand a₂ at₂ ws′ a₃ at₃) where
+module _ {sheet lists ws : List ℕ} {f : HirFunction} {renders hand : ℕ} {a : List ℕ} {at : ℕ} {a₁ : List ℕ} {at₁ : ℕ} {a₂ : List ℕ} {at₂ : ℕ} {ws′ a₃ : List ℕ} {at₃ : ℕ} (some : (s : Sheet) × (Describes s sheet f × Stands s lists ws))
+    (p : Wrote (0 ∷ []) a at a₁ at₁) (q : RecordedPut sheet f a₁ at₁ a₂ at₂) (h : HandedPut sheet lists ws f renders hand a₂ at₂ ws′ a₃ at₃) where
   -- the count is a difference of positions
   pub count-least : at₁ ≤ at₃
   count-least = omega (arith, q .wrote (some .0) (some .1 .0) .next, h .least)
@@ -169,7 +169,7 @@ module _ {sheet ws : List ℕ} {f : HirFunction} {renders hand : ℕ} {a : List 
   pub section-few : at₃ ≤ at + mostDiagnosed
   section-few = omega (arith, p .next, q .few, some .1 .0 .short, h .few)
 
-  pub diagnostics-put : {a₄ : List ℕ} → a₄ ≡ set a₃ at ((at₃ - at₁) / diagnosticWidth) → DiagnosticsPut sheet ws f renders hand a at ws′ a₄ at₃
+  pub diagnostics-put : {a₄ : List ℕ} → a₄ ≡ set a₃ at ((at₃ - at₁) / diagnosticWidth) → DiagnosticsPut sheet lists ws f renders hand a at ws′ a₄ at₃
   unfolding diagnosed
   diagnostics-put e = record {
     wrote = λ s d t u r.

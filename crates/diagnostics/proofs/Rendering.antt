@@ -38,7 +38,7 @@ unmoved-then a b = record { nodes = b .nodes ∙ a .nodes; aside = aside-then (a
 
 -- ---- what stays
 -- the places of the inner functions lie behind what a render writes
-functions-stay : {sheet ws ws′ : List ℕ} {fs : List InnerFunction} → Unmoved ws ws′ → Functions sheet ws fs → Functions sheet ws′ fs
+functions-stay : {lists ws ws′ : List ℕ} {fs : List InnerFunction} → Unmoved ws ws′ → Functions lists ws fs → Functions lists ws′ fs
 functions-stay {ws = ws} {ws′} u g = functions-kept (λ k h. drop-word MUTATIONS (FUNCTIONS + k) ws ws′ (omega arith) (u .aside .behind)) g
 
 -- the render that is read there is the one of the start
@@ -110,14 +110,14 @@ module _ {fs : List InnerFunction} {ws₀ : List ℕ} {n : ℕ} {a₀ : List ℕ
     turn-unmoved : Unmoved ws₀ ws′
     turn-unmoved = unmoved-then (v .unmoved) (r .unmoved)
 
-    module _ {sheet : List ℕ} (g : Functions sheet ws₀ fs) {m : ℕ} (q : m ≡ length fs) where
+    module _ {lists : List ℕ} (g : Functions lists ws₀ fs) {m : ℕ} (q : m ≡ length fs) where
       -- the functions stand where they stood
-      pub turn-functions : Functions sheet ws′ (functionsOf sheet ws′ m)
+      pub turn-functions : Functions lists ws′ (functionsOf lists ws′ m)
       turn-functions = functions-again (functions-stay turn-unmoved g) q
 
-      pub rendering-turn : i < n → {a′ : List ℕ} {at′ : ℕ} → Wrote (gather diagnosticWords (gather (functionErrors (functionsOf sheet ws′ m)) (slice HANDED hand ws′))) a at a′ at′ → Rendering fs ws₀ n a₀ at₀ ws′ a′ at′ (i + 1)
+      pub rendering-turn : i < n → {a′ : List ℕ} {at′ : ℕ} → Wrote (gather diagnosticWords (gather (functionErrors (functionsOf lists ws′ m)) (slice HANDED hand ws′))) a at a′ at′ → Rendering fs ws₀ n a₀ at₀ ws′ a′ at′ (i + 1)
       rendering-turn h p =
-          let same : functionsOf sheet ws′ m ≡ fs = functions-are (functions-stay turn-unmoved g) q in
+          let same : functionsOf lists ws′ m ≡ fs = functions-are (functions-stay turn-unmoved g) q in
           let indexed = indexed-after (v .indexed) (r .unmoved .aside .graph) (r .unmoved .aside .same) in
           record {
             leaves =
@@ -130,9 +130,9 @@ module _ {fs : List InnerFunction} {ws₀ : List ℕ} {n : ℕ} {a₀ : List ℕ
             indexed = indexed;
           }
 
-  pub rendering-end : n ≤ i → {sheet : List ℕ} {m : ℕ} → functionsOf sheet ws₀ m ≡ fs → RendersPut sheet ws₀ m n a₀ at₀ ws a at
+  pub rendering-end : n ≤ i → {lists : List ℕ} {m : ℕ} → functionsOf lists ws₀ m ≡ fs → RendersPut lists ws₀ m n a₀ at₀ ws a at
   unfolding rendersOf
-  rendering-end h {sheet} {m} q = record {
+  rendering-end h {lists} {m} q = record {
     wrote =
         let t : State = stateOf ws₀ HANDED in
         let rs : List RenderOf = tab n (renderAt ws₀) in

@@ -28,8 +28,8 @@ abbrev pub mostDiagnosed : ℕ
 mostDiagnosed = 1 + mostSheet + mostHanded * (1 + mostRenders)
 
 -- the pending renders were run in order, and the diagnostics of the functions that they handed over were written
-pub record RendersPut (sheet ws : List ℕ) (m count : ℕ) (answer : List ℕ) (at : ℕ) (ws′ answer′ : List ℕ) (r : ℕ) : Type 0 where
-  pub wrote : Wrote (gather diagnosticWords (gather (functionErrors (functionsOf sheet ws m)) (rendered (rendersOf ws count) (stateOf ws HANDED) .handed))) answer at answer′ r
+pub record RendersPut (lists ws : List ℕ) (m count : ℕ) (answer : List ℕ) (at : ℕ) (ws′ answer′ : List ℕ) (r : ℕ) : Type 0 where
+  pub wrote : Wrote (gather diagnosticWords (gather (functionErrors (functionsOf lists ws m)) (rendered (rendersOf ws count) (stateOf ws HANDED) .handed))) answer at answer′ r
   pub few : r ≤ at + mostHanded * count
   pub unmoved : Unmoved ws ws′
 
@@ -39,8 +39,8 @@ pub record RecordedPut (sheet : List ℕ) (f : HirFunction) (answer : List ℕ) 
   pub few : r ≤ at + length sheet
 
 -- the section was written, after the real mutations handed over the functions up to `hand`
-pub record DiagnosticsPut (sheet ws : List ℕ) (f : HirFunction) (renders hand : ℕ) (answer : List ℕ) (at : ℕ) (ws′ answer′ : List ℕ) (r : ℕ) : Type 0 where
-  pub wrote : (s : Sheet) → Describes s sheet f → Stands s sheet ws → stateOf ws hand ≡ afterReal s → rendersOf ws renders ≡ build s .renders
+pub record DiagnosticsPut (sheet lists ws : List ℕ) (f : HirFunction) (renders hand : ℕ) (answer : List ℕ) (at : ℕ) (ws′ answer′ : List ℕ) (r : ℕ) : Type 0 where
+  pub wrote : (s : Sheet) → Describes s sheet f → Stands s lists ws → stateOf ws hand ≡ afterReal s → rendersOf ws renders ≡ build s .renders
       → Wrote (section diagnosticWords (diagnosed s)) answer at answer′ r
   pub few : r ≤ at + mostDiagnosed
   pub unmoved : Unmoved ws ws′

@@ -23,7 +23,7 @@ use writing::put;
 
 // Process renders: the pending ones in order; the diagnostics of the functions that each hands over.
 fn process_renders(
-    sheet: &[u32],
+    lists: &[u32],
     ws: &mut [u32],
     count: u32,
     renders: usize,
@@ -32,16 +32,16 @@ fn process_renders(
 ) -> usize
     requires { ⌜ Indexed (now ws) ⌝ }
     requires { ⌜ (count ≤ mostFunctions) × (renders ≤ mostRenders) ⌝ }
-    requires { ⌜ Functions (now sheet) (now ws) (functionsOf (now sheet) (now ws) count) ⌝ }
+    requires { ⌜ Functions (now lists) (now ws) (functionsOf (now lists) (now ws) count) ⌝ }
     requires { ⌜ at + mostHanded * renders ≤ farthest ⌝ }
-    ensures { λ r. ⌜ RendersPut (now (sheet .entry)) (now (ws .entry)) count renders (now (answer .entry)) at (now (ws .exit)) (now (answer .exit)) r ⌝ }
+    ensures { λ r. ⌜ RendersPut (now (lists .entry)) (now (ws .entry)) count renders (now (answer .entry)) at (now (ws .exit)) (now (answer .exit)) r ⌝ }
 {
     let mut to = at;
     let mut i = 0;
     while i < renders {
         let w = ws[RENDERS + i];
         let r = render(ws, w / 512, IdentifierId(w % 512));
-        to = put_handed(sheet, ws, count, r.hand, answer, to);
+        to = put_handed(lists, ws, count, r.hand, answer, to);
         i += 1;
     }
     to
@@ -68,9 +68,10 @@ fn put_recorded(sheet: &[u32], f: HirFunction, answer: &mut [u32], at: usize) ->
     at
 }
 
-// The section; mutations handed over the functions up to `hand`.
+// The section; mutations handed over the functions up to `hand`, whose diagnostics stand in `lists`.
 pub fn put_diagnostics(
     sheet: &[u32],
+    lists: &[u32],
     ws: &mut [u32],
     f: HirFunction,
     renders: usize,
@@ -80,15 +81,15 @@ pub fn put_diagnostics(
 ) -> usize
     requires { ⌜ Limited f ⌝ }
     requires { ⌜ Indexed (now ws) ⌝ }
-    requires { ⌜ ((s : Sheet) × (Describes s (now sheet) f × Stands s (now sheet) (now ws))) ⌝ }
+    requires { ⌜ ((s : Sheet) × (Describes s (now sheet) f × Stands s (now lists) (now ws))) ⌝ }
     requires { ⌜ (renders ≤ mostRenders) × ((hand ≤ MUTATIONS) × (at + mostDiagnosed ≤ farthest)) ⌝ }
-    ensures { λ r. ⌜ DiagnosticsPut (now (sheet .entry)) (now (ws .entry)) f renders hand (now (answer .entry)) at (now (ws .exit)) (now (answer .exit)) r ⌝ }
+    ensures { λ r. ⌜ DiagnosticsPut (now (sheet .entry)) (now (lists .entry)) (now (ws .entry)) f renders hand (now (answer .entry)) at (now (ws .exit)) (now (answer .exit)) r ⌝ }
 {
     let a1 = put(answer, at, 0);
     let a2 = put_recorded(sheet, f, answer, a1);
-    let mut a3 = put_handed(sheet, ws, f.m, hand, answer, a2);
+    let mut a3 = put_handed(lists, ws, f.m, hand, answer, a2);
     if f.errors {
-        a3 = process_renders(sheet, ws, f.m, renders, answer, a3);
+        a3 = process_renders(lists, ws, f.m, renders, answer, a3);
     }
     patch(answer, at, ((a3 - a1) / DIAGNOSTIC_WIDTH) as u32);
     a3

@@ -30,7 +30,7 @@ use Rattle.inference.proofs.Ending.{came-as, came-long, answered-all}
 use Rattle.dot.specs.Drawn.{Drawn}
 
 -- the graph in the rows is the one that was built
-graph-is : {s : Sheet} {sheet ws : List ℕ} {f : HirFunction} {b : Building} → Prepared s sheet ws f b → graphOfRows (rowsOf ws) ≡ build s .graph
+graph-is : {s : Sheet} {sheet lists ws : List ℕ} {f : HirFunction} {b : Building} → Prepared s sheet lists ws f b → graphOfRows (rowsOf ws) ≡ build s .graph
 unfolding stateOf built
 graph-is p = ap (λ (t : State). t .graph) (p .state)
 
@@ -46,7 +46,7 @@ module _ (sheet ws text ws₁ : List ℕ) {p : Preparation} (h : Prepares (admit
   module _ {f : HirFunction} {b : Building} (e : p ≡ Ready f b) where
     module _ {text₁ : List ℕ} {n : ℕ} (put : Wrote (dot (graphOfRows (rowsOf ws₁))) text 0 text₁ n) where
       -- the outcome is the text of the sheet's graph, if it fits
-      draw-fits : {s : Sheet} {c : Position} → Prepared s sheet ws₁ f b → admit sheet (length ws) ≡ got s c → Came (fits (length text) (dot (graphOfRows (rowsOf ws₁)))) ws text r ws′ text′ → Drawn sheet ws text r ws′ text′
+      draw-fits : {s : Sheet} {c : Position} → Prepared s sheet sheet ws₁ f b → admit sheet (length ws) ≡ got s c → Came (fits (length text) (dot (graphOfRows (rowsOf ws₁)))) ws text r ws′ text′ → Drawn sheet ws text r ws′ text′
       unfolding draw drawn
       draw-fits ready q c = came-as (ap (λ (g : Graph). fits (length text) (dot g)) (graph-is ready) ∙ sym (ap (drawn (length text)) q)) c
 

@@ -4,13 +4,16 @@ use mathlib.Core.Path.{_≡_, _∙_, refl, sym, ap}
 use mathlib.Core.Bool.{Bool}
 use mathlib.Core.List.{List, [], _∷_}
 use native.Mathlib.Omega.{arith}
-use lib.Dec.{T, eqb, eqb→eq}
+use lib.Dec.{T, eqb, leb, eqb→eq}
 use lib.ListN.{getD, List·getD-eq-default}
 use Rattle.model.specs.Limits.{mostKind, mostDiagnostic}
-use Rattle.model.specs.Sheet.{Freeze}
+use Rattle.model.specs.Sheet.{Freeze, Place}
+use Rattle.model.specs.Reading.{Position, got, _>>=_, pure}
+use Rattle.model.specs.Sections.{extra, effectAfter}
 use Rattle.model.specs.Effects.{kinds, kindOf, rowOf}
 use Rattle.hir.specs.Numbers.{kindSays, kindNumber}
-use Rattle.hir.specs.Table.{roleSays, rowSays, tableRow}
+use Rattle.hir.specs.Says.{placeOrUnused}
+use Rattle.hir.specs.Table.{roleSays, TableRow, rowSays, tableRow, OwnRow}
 use Rattle.hir.specs.declared.EffectKind.{EffectKind as Kind}
 use Rattle.hir.specs.declared.EffectKind.the-variants.{Freeze as KindFreeze, Mutate as KindMutate, MutateConditionally as KindMutateConditionally, MutateTransitive as KindMutateTransitive, MutateTransitiveConditionally as KindMutateTransitiveConditionally, Capture as KindCapture, Alias as KindAlias, MaybeAlias as KindMaybeAlias, Assign as KindAssign, Create as KindCreate, CreateFrom as KindCreateFrom, ImmutableCapture as KindImmutableCapture, Apply as KindApply, CreateFunction as KindCreateFunction, MutateFrozen as KindMutateFrozen, MutateGlobal as KindMutateGlobal, Impure as KindImpure, Render as KindRender}
 use Rattle.hir.specs.declared.effects.Row.{Row}
@@ -81,6 +84,12 @@ row-right k h = same (getD rows k none) k (at none right rows tt k (omega arith)
 pub row-beyond : (k : ℕ) → mostKind < k → rowSays first ≡ tableRow k
 unfolding tableRow kindOf rowOf
 row-beyond k h = rw (List·getD-eq-default kinds Freeze {n = k} (omega arith))
+
+-- an effect whose places were read: the extra word is left
+pub places-read : (n m : ℕ) (r : TableRow) (ws : List ℕ) (c d e : Position) (p q : Place) → OwnRow r →
+    placeOrUnused (leb 1 (r .places)) n 0 ws c ≡ got p d → placeOrUnused (leb 2 (r .places)) n (r .instance) ws d ≡ got q e →
+    effectAfter n m (r .kind) ws c ≡ (extra m (r .kind) >>= λ (x : ℕ). pure (record { kind = r .kind; first = p; second = q; extra = x })) ws e
+places-read n m r ws c d e p q own x y = rw (← own .places, ← own .instance, x, y)
 
 -- ---- what the kinds are for, as the code has it
 abbrev pub roles : List Role

@@ -5,6 +5,7 @@ pub mod Ranges
 pub mod EffectTable
 pub mod Absent
 pub mod Standing
+pub mod SheetStanding
 pub mod AtLaws
 pub mod Widths
 pub mod Values

@@ -1,9 +1,10 @@
 -- What each answer of a reader says: the value as the definitions have it with the next position, or the refusal's number.
 use Prim.Native.Nat.{ℕ}
 use mathlib.Core.Bool.{Bool}
+use lib.Dec.{leb}
 use Rattle.model.specs.Lists.{pick}
 use Rattle.model.specs.Sheet.{Place as ModelPlace, Effect as ModelEffect, Flags as ModelFlags, Identifier as ModelIdentifier, Diagnostic as ModelDiagnostic, InstructionValue as ModelValue, Plain as IsPlain, Function as IsFunction, StoreContext as IsStoreContext, EvaluationOrder as ModelOrder, BlockId as ModelBlock}
-use Rattle.model.specs.Reading.{Result, got, refused, Read}
+use Rattle.model.specs.Reading.{Result, got, refused, Read, _>>=_, pure, refuse, word}
 use Rattle.model.specs.Sections.{place, unused}
 use Rattle.hir.specs.Numbers.{effectNumber, kindSays, terminalNumber, typeSays}
 use Rattle.hir.specs.declared.Place.{Place}
@@ -64,6 +65,10 @@ valueIs (StoreContext x) = IsStoreContext (x .0)
 abbrev pub wordSays : WordStep → Result ℕ
 wordSays (GotWord w c) = got w (c .at)
 wordSays (NoWord k) = refused k
+
+-- a word at most `most`, or this refusal: `count` and `atMost` of Reading are both this
+abbrev pub limited : ℕ → ℕ → Read ℕ
+limited most refusal = word >>= λ (w : ℕ). pick (leb w most) (pure w) (refuse refusal)
 
 -- a place
 abbrev pub placeSays : PlaceStep → Result ModelPlace

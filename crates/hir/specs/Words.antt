@@ -1,5 +1,5 @@
 -- Document 01, "The sheet": for every part what its words say, and where it ends. Nothing is refused here: of an accepted sheet each part that
--- was read is the one that stands there (proofs/Standing).
+-- was read is the one that stands there (proofs/SheetStanding).
 use Prim.Native.Nat.{ℕ, zero, suc, _+_}
 use mathlib.Core.Bool.{Bool, true, false, not}
 use mathlib.Core.List.{List, [], _∷_}

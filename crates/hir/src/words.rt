@@ -1,7 +1,7 @@
 // One word at a time: what it is held to, and the refusal where it fails.
 ghost use mathlib.Core.Path.{_≡_};
 ghost use Rattle.model.specs.Reading.{word, count, fixed, atMost, below};
-ghost use Rattle.hir.specs.Says.{wordSays};
+ghost use Rattle.hir.specs.Says.{limited, wordSays};
 use crate::Cursor;
 use crate::WordStep;
 
@@ -22,20 +22,27 @@ impl Cursor {
         }
     }
 
-    // A count, refusal 4 above its limit.
-    pub fn count(self, s: &[u32], most: u32) -> WordStep
-        ensures { λ r. ⌜ wordSays r ≡ count most (now (s .entry)) (self .at) ⌝ }
+    // A word at most `most`, else this refusal.
+    fn limited(self, s: &[u32], most: u32, refusal: u32) -> WordStep
+        ensures { λ r. ⌜ wordSays r ≡ limited most refusal (now (s .entry)) (self .at) ⌝ }
     {
         match self.word(s) {
             WordStep::Got(w, c) => {
                 if w <= most {
                     WordStep::Got(w, c)
                 } else {
-                    WordStep::Refused(4)
+                    WordStep::Refused(refusal)
                 }
             }
             WordStep::Refused(k) => WordStep::Refused(k),
         }
+    }
+
+    // A count, refusal 4 above its limit.
+    pub fn count(self, s: &[u32], most: u32) -> WordStep
+        ensures { λ r. ⌜ wordSays r ≡ count most (now (s .entry)) (self .at) ⌝ }
+    {
+        self.limited(s, most, 4)
     }
 
     // A fixed count, refusal 4 where it differs.
@@ -58,16 +65,7 @@ impl Cursor {
     pub fn at_most(self, s: &[u32], most: u32) -> WordStep
         ensures { λ r. ⌜ wordSays r ≡ atMost most (now (s .entry)) (self .at) ⌝ }
     {
-        match self.word(s) {
-            WordStep::Got(w, c) => {
-                if w <= most {
-                    WordStep::Got(w, c)
-                } else {
-                    WordStep::Refused(5)
-                }
-            }
-            WordStep::Refused(k) => WordStep::Refused(k),
-        }
+        self.limited(s, most, 5)
     }
 
     // A word below a limit that the sheet itself gave, else refusal 5.

@@ -51,9 +51,9 @@ module _ {ws : List ℕ} {f : HirFunction} {a a₁ a₂ : List ℕ} {at at₁ at
   pub tracked-put : Limited f → Marked ws 0 (f .params) a at a₁ at₁ → Marked ws (f .params) (f .context) a₁ at₁ a₂ at₂ → TrackedPut ws f a at a₂ at₂
   tracked-put l p c = record {
     wrote = λ s sheet t d st h.
-        let e : trackedFrom ws 0 (f .params) ≡ s .params = ap (λ (k : ℕ). trackedFrom ws 0 k) (d .params) ∙ params-tracked s ws (st .tracked) in
+        let e : trackedFrom ws 0 (f .params) ≡ s .params = ap (λ (k : ℕ). trackedFrom ws 0 k) (d .params) ∙ params-tracked s ws st in
         let g : trackedFrom ws (f .params) (f .context) ≡ s .context =
-        ap (λ (k : ℕ). trackedFrom ws k (f .context)) (d .params) ∙ ap (λ (k : ℕ). trackedFrom ws (length (s .params)) k) (d .context) ∙ context-tracked s ws (st .tracked) in
+        ap (λ (k : ℕ). trackedFrom ws k (f .context)) (d .params) ∙ ap (λ (k : ℕ). trackedFrom ws (length (s .params)) k) (d .context) ∙ context-tracked s ws st in
         wrote-then (wrote-as (p t h) (ap (λ (q : List Place). section placeWords (map (marked t) q)) e)) (wrote-as (c t h) (ap (λ (q : List Place). section placeWords (map (marked t) q)) g));
     few = omega (arith, marked-next ws 0 (f .params) p, marked-next ws (f .params) (f .context) c, l .params, l .context);
   }
@@ -64,7 +64,7 @@ unfolding rendered
 rendered-leaves [] t = refl
 rendered-leaves (r ∷ rs) t = rendered-leaves rs (renderWalk r t .state) ∙ render-leaves r t
 
-module _ {s : Sheet} {sheet ws : List ℕ} {f : HirFunction} {b : Building} (p : Prepared s sheet ws f b) {ws₁ : List ℕ} {hand : ℕ} (m : Processed (f .errors) ws (b .mutations) ws₁ hand) where
+module _ {s : Sheet} {sheet lists ws : List ℕ} {f : HirFunction} {b : Building} (p : Prepared s sheet lists ws f b) {ws₁ : List ℕ} {hand : ℕ} (m : Processed (f .errors) ws (b .mutations) ws₁ hand) where
   pub real-state : stateOf ws₁ hand ≡ afterReal s
   unfolding afterReal
   real-state =
@@ -82,8 +82,8 @@ module _ {s : Sheet} {sheet ws : List ℕ} {f : HirFunction} {b : Building} (p :
   pub real-indexed : Indexed ws₁
   real-indexed = indexed-after (p .indexed) (m .graph) (m .same)
 
-  pub real-stands : Stands s sheet ws₁
-  real-stands = stands-kept s sheet (drop-more RENDERS FUNCTIONS ws₁ ws (omega arith) (m .behind)) (m .same) (p .stands)
+  pub real-stands : Stands s lists ws₁
+  real-stands = stands-kept s lists (drop-more RENDERS FUNCTIONS ws₁ ws (omega arith) (m .behind)) (m .same) (p .stands)
 
   pub real-renders : rendersOf ws₁ (b .renders) ≡ build s .renders
   real-renders = renders-kept ws ws₁ (b .renders) (m .behind) ∙ p .renders
@@ -98,8 +98,8 @@ module _ {s : Sheet} {sheet ws : List ℕ} {f : HirFunction} {b : Building} (p :
     pub next-indexed : Indexed ws₂
     next-indexed = indexed-after real-indexed (u .aside .graph) (u .aside .same)
 
-    pub next-stands : Stands s sheet ws₂
-    next-stands = stands-kept s sheet (drop-more MUTATIONS FUNCTIONS ws₂ ws₁ (omega arith) (u .aside .behind)) (u .aside .same) real-stands
+    pub next-stands : Stands s lists ws₂
+    next-stands = stands-kept s lists (drop-more MUTATIONS FUNCTIONS ws₂ ws₁ (omega arith) (u .aside .behind)) (u .aside .same) real-stands
 
     same-state : stateOf ws₂ HANDED ≡ withHanded [] (stateOf ws₁ hand)
     unfolding stateOf
@@ -131,7 +131,7 @@ module _ {s : Sheet} {sheet ws : List ℕ} {f : HirFunction} {b : Building} (p :
           ∙ drop-word MUTATIONS (MUTATIONS + 3 * i + 2) ws₁ ws₂ (omega arith) (u .aside .behind)
 
       -- the inner functions are where they were
-      pub last-functions : Functions sheet ws₃ (s .functions)
+      pub last-functions : Functions lists ws₃ (s .functions)
       last-functions = functions-kept (λ k h. part-kept (FUNCTIONS - MUTATIONS + k) (FUNCTIONS + k) (omega arith) (omega (arith, h, p .below .functionCount))) (next-stands .functions)
 
       last-counts : takenOf ws₃ (b .mutations) ≡ map (λ (w : Walk). w .taken) (realWalks s)
@@ -157,5 +157,5 @@ module _ {s : Sheet} {sheet ws : List ℕ} {f : HirFunction} {b : Building} (p :
             ap (λ (l : List ℕ). l ++ simulatedOf ws₃ (f .params + f .context + 1)) last-counts ∙ ap (λ (l : List ℕ). map taken (realWalks s) ++ l) counts
             ∙ sym (map-append taken (realWalks s) (simulate s .walks)) in
             let rest : List ℕ = section diagnosticWords (diagnosed s) ++ (section effectWords (summary s) ++ section countWords all) in
-            wrote-as (wrote-then (places .wrote s sheet t (p .describes) real-stands real-holds) (wrote-then diagnostics (wrote-then effects (wrote-as walks (ap (section countWords) c)))))
+            wrote-as (wrote-then (places .wrote s sheet t (p .describes) (real-stands .tracked) real-holds) (wrote-then diagnostics (wrote-then effects (wrote-as walks (ap (section countWords) c)))))
             (append-assoc y z rest)

@@ -59,10 +59,10 @@ module _ {x : Result Sheet} {sheet ws ws′ : List ℕ} {r : Preparation} (p : P
       go (refused j) q = (ap refused (sym (q .0)), q .1)
       go (got s c) q = absurd q
 
-  pub ready-by : {f : HirFunction} {b : Building} → r ≡ Ready f b → (s : Sheet) × ((c : Position) × ((x ≡ got s c) × (Prepared s sheet ws′ f b × (length ws′ ≡ length ws))))
+  pub ready-by : {f : HirFunction} {b : Building} → r ≡ Ready f b → (s : Sheet) × ((c : Position) × ((x ≡ got s c) × (Prepared s sheet sheet ws′ f b × (length ws′ ≡ length ws))))
   ready-by {f} {b} e = go x (subst (preparedIs x sheet ws ws′) e (p .is))
     where
-      go : (y : Result Sheet) → preparedIs y sheet ws ws′ (Ready f b) → (s : Sheet) × ((c : Position) × ((y ≡ got s c) × (Prepared s sheet ws′ f b × (length ws′ ≡ length ws))))
+      go : (y : Result Sheet) → preparedIs y sheet ws ws′ (Ready f b) → (s : Sheet) × ((c : Position) × ((y ≡ got s c) × (Prepared s sheet sheet ws′ f b × (length ws′ ≡ length ws))))
       go (refused j) q = absurd q
       go (got s c) q = (s, (c, (refl, q)))
 
@@ -101,7 +101,7 @@ module _ (sheet ws ans ws₁ : List ℕ) {p : Preparation} (h : Prepares (admit 
         let ten : refusal 10 ≡ pick (applies s) (refusal 10) (fits (length ans) (answerWords (answer s))) = sym (rw (sym (ready .applies) ∙ told)) in
         came-as (ten ∙ sym (ap (answered (length ans)) q)) (came-long same refl c)
 
-    module _ (unapplied : f .applies ≡ false) {ws₂ ans₁ : List ℕ} {n : ℕ} (put : AnswerPut sheet ws₁ f b ans 0 ws₂ ans₁ n) where
+    module _ (unapplied : f .applies ≡ false) {ws₂ ans₁ : List ℕ} {n : ℕ} (put : AnswerPut sheet sheet ws₁ f b ans 0 ws₂ ans₁ n) where
       -- the outcome is the answer, if it fits
       call-fits : {s : Sheet} {c : Position} → f .applies ≡ applies s → admit sheet (length ws) ≡ got s c → Came (fits (length ans) (answerWords (answer s))) ws ans r ws′ ans′ → Inferred sheet ws ans r ws′ ans′
       unfolding outcome answered

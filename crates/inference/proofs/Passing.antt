@@ -49,8 +49,8 @@ ranges-first s =
 ranges-words : (s : Sheet) → length (section rangeWords (answer s .ranges)) ≡ 1 + rangeWidth * length (s .identifiers)
 ranges-words s = omega (arith, gather-length rangeWords rangeWidth (λ r. refl) (answer s .ranges), answer-ranges s)
 
-module _ {sheet : List ℕ} {f : HirFunction} {ws ws′ a a₁ a₂ : List ℕ} {first at r next : ℕ} where
-  pub passed-put : OperandsPut sheet f ws a at ws′ a₁ r → Wrote (section rangeWords (firstRanges (f .identifiers .count) (rangesOf ws′))) a₁ first a₂ next → PassedPut sheet f ws a first at ws′ a₂ r
+module _ {sheet lists : List ℕ} {f : HirFunction} {ws ws′ a a₁ a₂ : List ℕ} {first at r next : ℕ} where
+  pub passed-put : OperandsPut sheet lists f ws a at ws′ a₁ r → Wrote (section rangeWords (firstRanges (f .identifiers .count) (rangesOf ws′))) a₁ first a₂ next → PassedPut sheet lists f ws a first at ws′ a₂ r
   passed-put o w = record {
     between = a₁;
     operands = o .wrote;
@@ -100,9 +100,9 @@ module _ {ws ws′ : List ℕ} (k : Kept STARTS PASSED ws ws′) where
       }
 
 -- ---- after the middle
-module _ {sheet ws : List ℕ} {f : HirFunction} {b : Building} {a a₁ : List ℕ} {behind : ℕ} {ws₁ : List ℕ} {m : ℕ} (mid : MiddlePut sheet ws f b a behind ws₁ a₁ m) where
+module _ {sheet lists ws : List ℕ} {f : HirFunction} {b : Building} {a a₁ : List ℕ} {behind : ℕ} {ws₁ : List ℕ} {m : ℕ} (mid : MiddlePut sheet lists ws f b a behind ws₁ a₁ m) where
   -- the pass can run
-  pub passing : {s : Sheet} → Prepared s sheet ws f b → Passing s sheet ws₁ f
+  pub passing : {s : Sheet} → Prepared s sheet lists ws f b → Passing s sheet lists ws₁ f
   unfolding stateOf endsBefore
   passing {s} p = record {
     describes = p .describes;
@@ -112,7 +112,7 @@ module _ {sheet ws : List ℕ} {f : HirFunction} {b : Building} {a a₁ : List �
   }
 
   -- the whole answer: ranges before the sections that stand already
-  pub answer-put : {at : ℕ} → Limited f → behind ≡ at + 1 + rangeWidth * f .identifiers .count → {ws₂ a₂ : List ℕ} {r : ℕ} → PassedPut sheet f ws₁ a₁ at m ws₂ a₂ r → AnswerPut sheet ws f b a at ws₂ a₂ r
+  pub answer-put : {at : ℕ} → Limited f → behind ≡ at + 1 + rangeWidth * f .identifiers .count → {ws₂ a₂ : List ℕ} {r : ℕ} → PassedPut sheet lists f ws₁ a₁ at m ws₂ a₂ r → AnswerPut sheet lists ws f b a at ws₂ a₂ r
   unfolding answerWords
   answer-put {at} l e o = record {
     wrote = λ s p.

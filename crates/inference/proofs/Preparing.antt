@@ -76,8 +76,8 @@ module _ (ids : List Identifier) (few : length ids ≤ mostIdentifiers) (ws₀ :
       ext-getD 0 (tab mostIdentifiers (endAt (nodesOf ws′))) (sheetEnds ids) (tab-length mostIdentifiers (endAt (nodesOf ws′)) ∙ sym ends-length)
       (λ i q. let k : i < mostIdentifiers = omega (arith, q, tab-length mostIdentifiers (endAt (nodesOf ws′))) in tab-at mostIdentifiers (endAt (nodesOf ws′)) i 0 k ∙ h i k ∙ sym (sheet-end i k))
 
-module _ (s : Sheet) (sheet : List ℕ) (f : HirFunction) (b : Building) (ws₀ ws₁ ws₂ ws₃ ws₄ : List ℕ) where
-  module _ (describes : Describes s sheet f) (told : f .applies ≡ applies s) (below : SheetBelow s) (limited : Limited f) (stands : Stands s sheet ws₁) (size : LEAST ≤ length ws₀)
+module _ (s : Sheet) (sheet : List ℕ) {lists : List ℕ} (f : HirFunction) (b : Building) (ws₀ ws₁ ws₂ ws₃ ws₄ : List ℕ) where
+  module _ (describes : Describes s sheet f) (told : f .applies ≡ applies s) (below : SheetBelow s) (limited : Limited f) (stands : Stands s lists ws₁) (size : LEAST ≤ length ws₀)
       (ends : take SEEN ws₁ ≡ take SEEN (sets ws₀ END (map (λ (i : Identifier). i .end) (s .identifiers)))) where
     module _ (w : Whole s sheet ws₁ ws₂ b) (l : LaysOut ws₂ b ws₃) (k : Keeps (f .identifiers .count) ws₃ ws₄) where
       low-kept : take SEEN ws₃ ≡ take SEEN (sets ws₀ END (map (λ (i : Identifier). i .end) (s .identifiers)))
@@ -100,14 +100,14 @@ module _ (s : Sheet) (sheet : List ℕ) (f : HirFunction) (b : Building) (ws₀ 
       unfolding builtOf
       index-is = ap (λ (x : Built). x .index) (w .built)
 
-      pub prepared : Prepared s sheet ws₄ f b
+      pub prepared : Prepared s sheet lists ws₄ f b
       unfolding built builtOf
       prepared = record {
         describes = describes;
         applies = told;
         below = below;
         limited = limited;
-        stands = stands-kept s sheet (drop-more SEEN FUNCTIONS ws₄ ws₃ (omega arith) (k .high) ∙ drop-more QUEUE FUNCTIONS ws₃ ws₂ (omega arith) (l .high) ∙ w .high) (k .same ∙ l .same ∙ w .same) stands;
+        stands = stands-kept s lists (drop-more SEEN FUNCTIONS ws₄ ws₃ (omega arith) (k .high) ∙ drop-more QUEUE FUNCTIONS ws₃ ws₂ (omega arith) (l .high) ∙ w .high) (k .same ∙ l .same ∙ w .same) stands;
         indexed = indexed-after (l .indexed) rows-kept (k .same);
         state = state-new ws₄ (build s .graph) (sheetEnds (s .identifiers)) (ap graphOfRows rows-kept ∙ l .graph ∙ ap (λ (x : Built). x .graph) (w .built)) (k .records)
             (ends-stand (s .identifiers) few-ids ws₀ size ws₃ low-kept ws₄ (λ x h. k .ends x h ∙ ap (λ (n : ℕ). pick (ltb x n) (getD ws₃ (END + x) 0) 0) (describes .n)));

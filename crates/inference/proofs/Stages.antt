@@ -27,16 +27,16 @@ use Rattle.inference.proofs.Answering.{real-state, real-renders, real-s
 pub hand-low : {errors : Bool} {ws : List ℕ} {count : ℕ} {ws₁ : List ℕ} {hand : ℕ} → Processed errors ws count ws₁ hand → hand ≤ MUTATIONS
 hand-low m = omega (arith, m .handing .room)
 
-pub before-effects : {s : Sheet} {sheet ws : List ℕ} {f : HirFunction} {b : Building} {ws₁ ws₂ : List ℕ} {hand i : ℕ}
-    → Prepared s sheet ws f b → Processed (f .errors) ws (b .mutations) ws₁ hand → Unmoved ws₁ ws₂ → i ≡ indexOf b → Before s sheet ws₂ f i
-before-effects {ws₁ = ws₁} {ws₂ = ws₂} p m u is = record { describes = p .describes; stands = next-stands p m u; state = next-state p m u; first = is ∙ p .index }
+pub before-effects : {s : Sheet} {sheet lists ws : List ℕ} {f : HirFunction} {b : Building} {ws₁ ws₂ : List ℕ} {hand i : ℕ}
+    → Prepared s sheet lists ws f b → Processed (f .errors) ws (b .mutations) ws₁ hand → Unmoved ws₁ ws₂ → i ≡ indexOf b → Before s sheet ws₂ f i
+before-effects {ws₁ = ws₁} {ws₂ = ws₂} p m u is = record { describes = p .describes; tracked = next-stands p m u .tracked; state = next-state p m u; first = is ∙ p .index }
 
 -- all stages
-pub stages : {sheet ws : List ℕ} {f : HirFunction} {b : Building} {ws₁ ws₂ ws₃ : List ℕ} {hand i : ℕ} {a a₁ a₂ a₃ a₄ : List ℕ} {at at₁ at₂ at₃ at₄ : ℕ}
-    → Limited f → b .mutations ≤ mostMutations → Processed (f .errors) ws (b .mutations) ws₁ hand → TrackedPut ws₁ f a at a₁ at₁ → DiagnosticsPut sheet ws₁ f (b .renders) hand a₁ at₁ ws₂ a₂ at₂
+pub stages : {sheet lists ws : List ℕ} {f : HirFunction} {b : Building} {ws₁ ws₂ ws₃ : List ℕ} {hand i : ℕ} {a a₁ a₂ a₃ a₄ : List ℕ} {at at₁ at₂ at₃ at₄ : ℕ}
+    → Limited f → b .mutations ≤ mostMutations → Processed (f .errors) ws (b .mutations) ws₁ hand → TrackedPut ws₁ f a at a₁ at₁ → DiagnosticsPut sheet lists ws₁ f (b .renders) hand a₁ at₁ ws₂ a₂ at₂
     → i ≡ indexOf b → EffectsPut sheet ws₂ f i a₂ at₂ ws₃ a₃ at₃
     → Wrote (section countWords (takenOf ws₃ (b .mutations) ++ simulatedOf ws₃ (f .params + f .context + 1))) a₃ at₃ a₄ at₄
-    → MiddlePut sheet ws f b a at ws₃ a₄ at₄
+    → MiddlePut sheet lists ws f b a at ws₃ a₄ at₄
 stages {f = f} {b = b} {ws₃ = ws₃} l n m places diagnostics is effects walks = record {
   wrote = λ s p.
       let before = before-effects p m (diagnostics .unmoved) is in

@@ -31,7 +31,7 @@ use Rattle.summary.specs.Simulates.{mostEffects, Left, Walkable}
 use Rattle.diagnostics.specs.Diagnosed.{mostDiagnosed}
 use Rattle.copies.specs.Functions.{Functions}
 use Rattle.dataflow.specs.declared.function.HirFunction.{HirFunction}
-use Rattle.dataflow.specs.Function.{Limited, Describes, Stands}
+use Rattle.dataflow.specs.Function.{Limited, Describes, Tracking, Stands}
 use Rattle.inference.specs.declared.Preparation.{Preparation}
 use Rattle.inference.specs.declared.Preparation.the-variants.{Refused, Ready}
 
@@ -50,13 +50,13 @@ pub record Keeps (n : ℕ) (ws ws′ : List ℕ) : Type 0 where
   pub high : drop SEEN ws′ ≡ drop SEEN ws
   pub same : length ws′ ≡ length ws
 
--- the sheet s is built: the state is that before the first mutation, and mutations and renders are pending
-pub record Prepared (s : Sheet) (sheet ws : List ℕ) (f : HirFunction) (b : Building) : Type 0 where
+-- the sheet s is built, whose inner functions stand in the lists: the state is that before the first mutation, and mutations and renders are pending
+pub record Prepared (s : Sheet) (sheet lists ws : List ℕ) (f : HirFunction) (b : Building) : Type 0 where
   pub describes : Describes s sheet f
   pub applies : f .applies ≡ applies s
   pub below : SheetBelow s
   pub limited : Limited f
-  pub stands : Stands s sheet ws
+  pub stands : Stands s lists ws
   pub indexed : Indexed ws
   pub state : stateOf ws HANDED ≡ built s
   pub mutations : mutationsOf ws (b .mutations) ≡ build s .mutations
@@ -71,7 +71,7 @@ abbrev pub preparedIs : Result Sheet → List ℕ → List ℕ → List ℕ → 
 preparedIs (refused k) sheet ws ws′ (Refused j) = (j ≡ k) × (ws′ ≡ ws)
 preparedIs (refused k) sheet ws ws′ (Ready f b) = ⊥
 preparedIs (got s c) sheet ws ws′ (Refused j) = ⊥
-preparedIs (got s c) sheet ws ws′ (Ready f b) = Prepared s sheet ws′ f b × (length ws′ ≡ length ws)
+preparedIs (got s c) sheet ws ws′ (Ready f b) = Prepared s sheet sheet ws′ f b × (length ws′ ≡ length ws)
 
 -- what was prepared by a reading that gave x
 pub record Prepares (x : Result Sheet) (sheet ws ws′ : List ℕ) (r : Preparation) : Type 0 where
@@ -83,7 +83,7 @@ mostTrackedWords = (1 + placeWidth * mostParams) + (1 + placeWidth * mostContext
 
 -- the params and the context of s were written, t having the records of the words
 pub record TrackedPut (ws : List ℕ) (f : HirFunction) (ans : List ℕ) (at : ℕ) (ans′ : List ℕ) (r : ℕ) : Type 0 where
-  pub wrote : (s : Sheet) (sheet : List ℕ) (t : State) → Describes s sheet f → Stands s sheet ws → Holds ws t
+  pub wrote : (s : Sheet) (sheet : List ℕ) (t : State) → Describes s sheet f → Tracking s ws → Holds ws t
       → Wrote (section placeWords (map (marked t) (s .params)) ++ section placeWords (map (marked t) (s .context))) ans at ans′ r
   pub few : r ≤ at + mostTrackedWords
 
@@ -92,19 +92,19 @@ abbrev pub mostMiddle : ℕ
 mostMiddle = mostTrackedWords + mostDiagnosed + mostEffects + mostWalks
 
 -- they were written; what all walks left stands in the words, and further ones can run on it. The tracked places have their marks now; the inner functions are where they were
-pub record MiddlePut (sheet ws : List ℕ) (f : HirFunction) (b : Building) (ans : List ℕ) (at : ℕ) (ws′ ans′ : List ℕ) (r : ℕ) : Type 0 where
-  pub wrote : (s : Sheet) → Prepared s sheet ws f b → Wrote (middleWords (answer s)) ans at ans′ r
-  pub left : (s : Sheet) → Prepared s sheet ws f b → Left s ws′ (f .params + f .context + 1) (indexOf b + (f .params + f .context + 1))
-  pub functions : (s : Sheet) → Prepared s sheet ws f b → Functions sheet ws′ (s .functions)
+pub record MiddlePut (sheet lists ws : List ℕ) (f : HirFunction) (b : Building) (ans : List ℕ) (at : ℕ) (ws′ ans′ : List ℕ) (r : ℕ) : Type 0 where
+  pub wrote : (s : Sheet) → Prepared s sheet lists ws f b → Wrote (middleWords (answer s)) ans at ans′ r
+  pub left : (s : Sheet) → Prepared s sheet lists ws f b → Left s ws′ (f .params + f .context + 1) (indexOf b + (f .params + f .context + 1))
+  pub functions : (s : Sheet) → Prepared s sheet lists ws f b → Functions lists ws′ (s .functions)
   pub walkable : Walkable ws ws′
   pub few : r ≤ at + mostMiddle
 
 -- the four sections of the pass were written from `at` on, then the ranges from `first` on
-pub record PassedPut (sheet : List ℕ) (f : HirFunction) (ws ans : List ℕ) (first at : ℕ) (ws′ ans′ : List ℕ) (r : ℕ) : Type 0 where
+pub record PassedPut (sheet lists : List ℕ) (f : HirFunction) (ws ans : List ℕ) (first at : ℕ) (ws′ ans′ : List ℕ) (r : ℕ) : Type 0 where
   pub between : List ℕ
-  pub operands : (s : Sheet) → Passing s sheet ws f → Wrote (operandWords (answer s)) ans at between r
+  pub operands : (s : Sheet) → Passing s sheet lists ws f → Wrote (operandWords (answer s)) ans at between r
   pub next : ℕ
-  pub ranges : (s : Sheet) → Passing s sheet ws f → Wrote (section rangeWords (answer s .ranges)) between first ans′ next
+  pub ranges : (s : Sheet) → Passing s sheet lists ws f → Wrote (section rangeWords (answer s .ranges)) between first ans′ next
   pub kept : Kept STARTS PASSED ws ws′
   pub few : r ≤ at + mostOperandWords
 
@@ -113,8 +113,8 @@ abbrev pub mostAnswer : ℕ
 mostAnswer = mostRanges + mostMiddle + mostOperandWords
 
 -- the answer of s was written from `at` on, as far as there is room; what all walks left stands in the words, and further ones can run on it
-pub record AnswerPut (sheet ws : List ℕ) (f : HirFunction) (b : Building) (ans : List ℕ) (at : ℕ) (ws′ ans′ : List ℕ) (r : ℕ) : Type 0 where
-  pub wrote : (s : Sheet) → Prepared s sheet ws f b → Wrote (answerWords (answer s)) ans at ans′ r
-  pub left : (s : Sheet) → Prepared s sheet ws f b → Left s ws′ (f .params + f .context + 1) (indexOf b + (f .params + f .context + 1))
+pub record AnswerPut (sheet lists ws : List ℕ) (f : HirFunction) (b : Building) (ans : List ℕ) (at : ℕ) (ws′ ans′ : List ℕ) (r : ℕ) : Type 0 where
+  pub wrote : (s : Sheet) → Prepared s sheet lists ws f b → Wrote (answerWords (answer s)) ans at ans′ r
+  pub left : (s : Sheet) → Prepared s sheet lists ws f b → Left s ws′ (f .params + f .context + 1) (indexOf b + (f .params + f .context + 1))
   pub walkable : Walkable ws ws′
   pub few : r ≤ at + mostAnswer

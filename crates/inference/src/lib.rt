@@ -106,19 +106,20 @@ fn put_tracked(ws: &[u32], f: HirFunction, answer: &mut [u32], at: usize) -> usi
 // Runs the mutations, the renders and the simulated mutations, and writes the sections from params to walks from `at` on; where the next word goes.
 fn put_middle(
     sheet: &[u32],
+    lists: &[u32],
     ws: &mut [u32],
     f: HirFunction,
     b: Building,
     answer: &mut [u32],
     at: usize,
 ) -> usize
-    requires { ⌜ ((s : Sheet) × Prepared s (now sheet) (now ws) f b) ⌝ }
+    requires { ⌜ ((s : Sheet) × Prepared s (now sheet) (now lists) (now ws) f b) ⌝ }
     requires { ⌜ at + mostMiddle ≤ farthest ⌝ }
-    ensures { λ r. ⌜ MiddlePut (now (sheet .entry)) (now (ws .entry)) f b (now (answer .entry)) at (now (ws .exit)) (now (answer .exit)) r ⌝ }
+    ensures { λ r. ⌜ MiddlePut (now (sheet .entry)) (now (lists .entry)) (now (ws .entry)) f b (now (answer .entry)) at (now (ws .exit)) (now (answer .exit)) r ⌝ }
 {
     let hand = process_mutations(ws, b.mutations, f.errors);
     let a1 = put_tracked(ws, f, answer, at);
-    let a2 = put_diagnostics(sheet, ws, f, b.renders, hand, answer, a1);
+    let a2 = put_diagnostics(sheet, lists, ws, f, b.renders, hand, answer, a1);
     let a3 = put_effects(sheet, ws, f, b.index(), answer, a2);
     put_walks(
         ws,
@@ -132,43 +133,45 @@ fn put_middle(
 // Runs the pass over operands: its four sections from `at` on, and the ranges at `first`, which stand before all other sections; where the next word goes.
 fn put_passed(
     sheet: &[u32],
+    lists: &[u32],
     ws: &mut [u32],
     f: HirFunction,
     answer: &mut [u32],
     first: usize,
     at: usize,
 ) -> usize
-    requires { ⌜ Limited f × ((s : Sheet) × Passing s (now sheet) (now ws) f) ⌝ }
+    requires { ⌜ Limited f × ((s : Sheet) × Passing s (now sheet) (now lists) (now ws) f) ⌝ }
     requires { ⌜ (first + mostRanges ≤ farthest) × (at + mostOperandWords ≤ farthest) ⌝ }
-    ensures { λ r. ⌜ PassedPut (now (sheet .entry)) f (now (ws .entry)) (now (answer .entry)) first at (now (ws .exit)) (now (answer .exit)) r ⌝ }
+    ensures { λ r. ⌜ PassedPut (now (sheet .entry)) (now (lists .entry)) f (now (ws .entry)) (now (answer .entry)) first at (now (ws .exit)) (now (answer .exit)) r ⌝ }
 {
-    let to = put_operands(sheet, f, ws, answer, at);
+    let to = put_operands(sheet, lists, f, ws, answer, at);
     let identifiers = f.identifiers;
     put_ranges(ws, identifiers.count, answer, first);
     to
 }
 
-// Writes the answer's sections from `at` on; where the next word goes. The ranges are known when the pass is done, so they are written last.
+// Writes the answer's sections from `at` on; where the next word goes. The inner functions stand in `lists`. The ranges are known when the pass is done, so they are written last.
 pub fn put_answer(
     sheet: &[u32],
+    lists: &[u32],
     ws: &mut [u32],
     f: HirFunction,
     b: Building,
     answer: &mut [u32],
     at: usize,
 ) -> usize
-    requires { ⌜ ((s : Sheet) × Prepared s (now sheet) (now ws) f b) ⌝ }
+    requires { ⌜ ((s : Sheet) × Prepared s (now sheet) (now lists) (now ws) f b) ⌝ }
     requires { ⌜ at + mostAnswer ≤ farthest ⌝ }
-    ensures { λ r. ⌜ AnswerPut (now (sheet .entry)) (now (ws .entry)) f b (now (answer .entry)) at (now (ws .exit)) (now (answer .exit)) r ⌝ }
+    ensures { λ r. ⌜ AnswerPut (now (sheet .entry)) (now (lists .entry)) (now (ws .entry)) f b (now (answer .entry)) at (now (ws .exit)) (now (answer .exit)) r ⌝ }
 {
     let identifiers = f.identifiers;
     let behind = at + 1 + RANGE_WIDTH * (identifiers.count as usize);
-    let middle = put_middle(sheet, ws, f, b, answer, behind);
-    put_passed(sheet, ws, f, answer, at, middle)
+    let middle = put_middle(sheet, lists, ws, f, b, answer, behind);
+    put_passed(sheet, lists, ws, f, answer, at, middle)
 }
 
 // A refusal leaves both buffers all 0.
-fn refuse(ws: &mut [u32], answer: &mut [u32], k: u32) -> Outcome
+pub fn refuse(ws: &mut [u32], answer: &mut [u32], k: u32) -> Outcome
     ensures { λ r. ⌜ Came (refusal k) (now (ws .entry)) (now (answer .entry)) r (now (ws .exit)) (now (answer .exit)) ⌝ }
 {
     clear_from(ws, 0);
@@ -190,7 +193,7 @@ pub fn infer_mutation_aliasing_ranges(
             if f.applies {
                 return refuse(workspace, answer, 10);
             }
-            let length = put_answer(sheet, workspace, f, b, answer, 0);
+            let length = put_answer(sheet, sheet, workspace, f, b, answer, 0);
             if answer.len() < length {
                 return refuse(workspace, answer, 9);
             }

@@ -18,7 +18,8 @@ use Rattle.model.proofs.Got.{got-value, not-both}
 use Rattle.model.proofs.Asked.{itself, sheet-follows, never}
 use Rattle.model.proofs.Limited.{Above, over-above, few-not-over}
 use Rattle.model.proofs.TotalsAdded.{sheet-adds}
-use Rattle.model.proofs.Ahead.{Comes, same, neither, stopped, Asked, on, apart, Related, sheet-ahead}
+use Rattle.model.proofs.Ahead.{Comes, same, neither, stopped}
+use Rattle.model.proofs.SheetAhead.{Asked, on, apart, Related, sheet-ahead}
 
 -- the same count, and nothing is asked
 abbrev quiet : Asks

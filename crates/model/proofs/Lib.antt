@@ -1,7 +1,6 @@
 -- The theorems about the definitions, and the laws behind them.
 -- the tables of cases and the order of the refusals
-pub mod BenchTable
-pub mod OperandCases
+pub mod Tables
 pub mod AllRefusals
 -- one walk: an induction principle, and what it gives
 pub mod Induct
@@ -21,6 +20,7 @@ pub mod Sets
 pub mod Steady
 pub mod Nodes
 pub mod Stored
+pub mod Counters
 pub mod Counted
 pub mod Indexes
 -- renders
@@ -40,12 +40,14 @@ pub mod WhenRead
 pub mod Refusing
 pub mod Asked
 pub mod Ahead
+pub mod SheetAhead
 pub mod Limited
 pub mod TotalsAdded
 pub mod CountedSheet
 pub mod Overlap
 pub mod Numbers
 pub mod BackLaws
+pub mod EncoderParts
 pub mod Encoder
 pub mod FileWords
 -- the theorems about whole sheets
@@ -74,5 +76,4 @@ pub mod LoadTable
 pub mod Drawn
 pub mod LoadAccepted
 -- document 02, order 6: the graph as a DOT file
-pub mod DotTable
 pub mod Digits

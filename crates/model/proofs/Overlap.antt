@@ -23,7 +23,8 @@ use Rattle.model.specs.Overlap.{judged, readBefore, Seen, seenEffect, se
 use Rattle.model.proofs.Got.{got-value, not-both}
 use Rattle.model.proofs.Limited.{over-above, few-not-over}
 use Rattle.model.proofs.CountedSheet.{role-above, kind-above, counted-got, counted-within, counted-refused}
-use Rattle.model.proofs.Ahead.{Comes, same, neither, stopped, Asked, on, apart, Related, sheet-ahead}
+use Rattle.model.proofs.Ahead.{Comes, same, neither, stopped}
+use Rattle.model.proofs.SheetAhead.{Asked, on, apart, Related, sheet-ahead}
 
 -- ---- a reading that looks at one counted word
 -- the totals so far are the same, and none is over its limit

@@ -1,5 +1,5 @@
 -- The reading of Sections with a question at each counted word, which is asked with the tally of the counted words so far, that one included.
--- Document 01 asks nothing there; then this is the reading of Sections (proofs/Asked).
+-- Document 02, order 7, asks for the totals there (Counting). Where nothing is asked this is the reading of Sections (proofs/Asked).
 use Prim.Native.Nat.{ℕ}
 use mathlib.Core.Bool.{Bool, true, false}
 use mathlib.Core.List.{[]}

@@ -1,4 +1,5 @@
--- The definitions of document 01, in its order. Document 01 is the customer's paper on the sheet and the answer; docs/FORMAT.md has its words for a host.
+-- The definitions of document 01, in its order, as the orders of document 02 have changed them. Document 01 is the customer's paper on the sheet and the answer,
+-- document 02 has the orders; docs/FORMAT.md has their words for a host.
 -- "Answers and refusals" and "The sheet": limits, the tree, one reading, the totals, the words of a file
 pub mod Limits
 pub mod Lists

@@ -45,7 +45,7 @@ diagnostic = do
   pure (record { identity = i; instance = k })
 
 -- ---- Parts with words that refusal 8 counts: the kind of an effect, the first word of a phi operand and of a Return value. After such a word's own
--- checks a question can stand. Document 01 has none: a part by its plain name asks nothing. Asking has the same parts with questions.
+-- checks a question can stand (document 02, order 7). A part by its plain name asks nothing; Asking has the same parts with questions.
 -- no question
 abbrev pub noQuestion : Read (Unit {0})
 noQuestion = pure tt

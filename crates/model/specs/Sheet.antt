@@ -1,9 +1,10 @@
 -- Document 01, "The sheet": what a sheet says, as a tree. How it stands in words is in Reading and Sections.
 -- Left out: nothing. Stricter: a number below its limit is a plain number here; Reading has the limits.
 use Prim.Native.Nat.{ℕ}
-use mathlib.Core.Bool.{Bool, true, false}
+use mathlib.Core.Bool.{Bool, false}
 use mathlib.Core.List.{List, [], _∷_}
 use mathlib.Core.Option.{Option, none, some}
+use Rattle.model.specs.Lists.{isSome}
 
 -- the Rust's `IdentifierId`, `BlockId`, `FunctionId` and `EvaluationOrder`
 abbrev pub IdentifierId : Type 0
@@ -112,11 +113,6 @@ pub record Instruction : Type 0 where
   -- document 02, order 5: "An effect list left out is not an empty one"
   pub effects : Option EffectList
 
--- whether a list is there
-abbrev pub isPresent : Option EffectList → Bool
-isPresent none = false
-isPresent (some l) = true
-
 -- a list, empty if it is absent
 abbrev pub present : Option EffectList → EffectList
 present none = []
@@ -124,7 +120,7 @@ present (some l) = l
 
 -- whether an instruction has a list of effects
 abbrev pub isListed : Instruction → Bool
-isListed i = isPresent (i .effects)
+isListed i = isSome (i .effects)
 
 -- an instruction's effects: an absent list has none
 abbrev pub listOf : Instruction → EffectList

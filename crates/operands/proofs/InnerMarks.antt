@@ -121,7 +121,7 @@ others-same ws vs k j l n few h = places-same ws (sets ws (contextAt k) vs) (con
         let a : contextAt j + i < contextAt k = omega (arith, b, h, leb-false k j e) in
         take-word (contextAt k) (contextAt j + i) ws (sets ws (contextAt k) vs) a (take-sets (contextAt k) vs ws (contextAt k) (omega arith))
 
-module _ (ms : List Mark) {sheet ws : List ℕ} {fs : List InnerFunction} {k : ℕ} (g : Known sheet ws fs) (z : k < length fs) where
+module _ (ms : List Mark) {lists ws : List ℕ} {fs : List InnerFunction} {k : ℕ} (g : Known lists ws fs) (z : k < length fs) where
   -- the context of function k got its marks, the others stay
   pub contexts-marked : (l : List Place) → l ≡ getD fs k noFunction .context → Every (Small ms) l
       → contextsOf (sets ws (contextAt k) (markWords ms l)) fs ≡ set (contextsOf ws fs) k (map (withMark ms readEffect) (getD (contextsOf ws fs) k []))
@@ -158,20 +158,20 @@ module _ (ms : List Mark) {sheet ws : List ℕ} {fs : List InnerFunction} {k : �
 
 -- ---- one mark after another
 abbrev placesOf : List ℕ → ℕ → Position → List Place
-placesOf sheet k c = several k (wide placeWidth placeAt) sheet c .what
+placesOf lists k c = several k (wide placeWidth placeAt) lists c .what
 
 -- k of k₀ marks are left
-pub record Setting (ms : List Mark) (sheet ws₀ : List ℕ) (k₀ : ℕ) (c₀ : Position) (w₀ : ℕ) (ws : List ℕ) (k : ℕ) (c : Position) (w : ℕ) : Type 0 where
-  pub leaves : Leaves (markWords ms (placesOf sheet k₀ c₀)) (markWords ms (placesOf sheet k c)) ws₀ w₀ ws w
-  pub small : Every (Small ms) (placesOf sheet k c) → Every (Small ms) (placesOf sheet k₀ c₀)
-  pub next : several k (wide placeWidth placeAt) sheet c .next ≡ several k₀ (wide placeWidth placeAt) sheet c₀ .next
+pub record Setting (ms : List Mark) (lists ws₀ : List ℕ) (k₀ : ℕ) (c₀ : Position) (w₀ : ℕ) (ws : List ℕ) (k : ℕ) (c : Position) (w : ℕ) : Type 0 where
+  pub leaves : Leaves (markWords ms (placesOf lists k₀ c₀)) (markWords ms (placesOf lists k c)) ws₀ w₀ ws w
+  pub small : Every (Small ms) (placesOf lists k c) → Every (Small ms) (placesOf lists k₀ c₀)
+  pub next : several k (wide placeWidth placeAt) lists c .next ≡ several k₀ (wide placeWidth placeAt) lists c₀ .next
   pub word : w + k ≡ w₀ + k₀
   pub after : w₀ ≤ w
   pub kept : Kept CONTEXTS PASSED ws₀ ws
 
-pub setting-start : (ms : List Mark) (sheet ws : List ℕ) (k : ℕ) (c : Position) (w : ℕ) → Setting ms sheet ws k c w ws k c w
-setting-start ms sheet ws k c w = record {
-  leaves = leaves-all (markWords ms (placesOf sheet k c)) ws w;
+pub setting-start : (ms : List Mark) (lists ws : List ℕ) (k : ℕ) (c : Position) (w : ℕ) → Setting ms lists ws k c w ws k c w
+setting-start ms lists ws k c w = record {
+  leaves = leaves-all (markWords ms (placesOf lists k c)) ws w;
   small = λ s. s;
   next = refl;
   word = refl;
@@ -179,17 +179,17 @@ setting-start ms sheet ws k c w = record {
   kept = kept-none CONTEXTS PASSED ws;
 }
 
-module _ {ms : List Mark} {sheet ws₀ : List ℕ} {k₀ : ℕ} {c₀ : Position} {w₀ : ℕ} {ws : List ℕ} {k : ℕ} {c : Position} {w : ℕ} (v : Setting ms sheet ws₀ k₀ c₀ w₀ ws k c w) where
-  -- the place that is next stands in the sheet, if all do
-  pub setting-inside : 0 < k → several k₀ (wide placeWidth placeAt) sheet c₀ .next ≤ length sheet → c + placeWidth ≤ length sheet
-  setting-inside z i = first-inside (wide placeWidth placeAt) sheet k c (wide-rises placeWidth placeAt) z (omega (arith, v .next, i))
+module _ {ms : List Mark} {lists ws₀ : List ℕ} {k₀ : ℕ} {c₀ : Position} {w₀ : ℕ} {ws : List ℕ} {k : ℕ} {c : Position} {w : ℕ} (v : Setting ms lists ws₀ k₀ c₀ w₀ ws k c w) where
+  -- the place that is next stands in the lists, if all do
+  pub setting-inside : 0 < k → several k₀ (wide placeWidth placeAt) lists c₀ .next ≤ length lists → c + placeWidth ≤ length lists
+  setting-inside z i = first-inside (wide placeWidth placeAt) lists k c (wide-rises placeWidth placeAt) z (omega (arith, v .next, i))
 
   -- the mark m of place p, whose number is n
-  pub setting-turn : 0 < k → CONTEXTS ≤ w₀ → w < PASSED → {p : Place} (m : Effect) {n : ℕ} → p ≡ placeAt sheet c → effectNumber m ≡ markOf ms (p .identifier) readEffect → n ≡ effectNumber m
-      → Setting ms sheet ws₀ k₀ c₀ w₀ (set ws w (n + 1)) (k - 1) (c + placeWidth) (w + 1)
+  pub setting-turn : 0 < k → CONTEXTS ≤ w₀ → w < PASSED → {p : Place} (m : Effect) {n : ℕ} → p ≡ placeAt lists c → effectNumber m ≡ markOf ms (p .identifier) readEffect → n ≡ effectNumber m
+      → Setting ms lists ws₀ k₀ c₀ w₀ (set ws w (n + 1)) (k - 1) (c + placeWidth) (w + 1)
   setting-turn z lo hi {p} m {n} e h q =
-      let all = several-next (wide placeWidth placeAt) sheet k c z in
-      let here : effectNumber m ≡ markOf ms (placeAt sheet c .identifier) readEffect = h ∙ ap (λ (x : Place). markOf ms (x .identifier) readEffect) e in
+      let all = several-next (wide placeWidth placeAt) lists k c z in
+      let here : effectNumber m ≡ markOf ms (placeAt lists c .identifier) readEffect = h ∙ ap (λ (x : Place). markOf ms (x .identifier) readEffect) e in
       let wrote : Wrote ((n + 1) ∷ []) ws w (set ws w (n + 1)) (w + 1) = record { words = refl; next = omega arith } in
       record {
         leaves = leaves-then (v .leaves) (wrote-as wrote (ap (λ (i : ℕ). (i + 1) ∷ []) (q ∙ here))) (ap (λ (x : Part (List Place)). markWords ms (x .what)) all);
@@ -201,18 +201,18 @@ module _ {ms : List Mark} {sheet ws₀ : List ℕ} {k₀ : ℕ} {c₀ : Position
       }
 
 -- its words are the function's
-pub setting-word : {ms : List Mark} {sheet ws₀ : List ℕ} {fs : List InnerFunction} {f : ℕ} {l : Listed} {ws : List ℕ} {k : ℕ} {c : Position} {w : ℕ} → Known sheet ws₀ fs → f < length fs → ContextOf sheet ws₀ f l
-    → Setting ms sheet ws₀ (l .count) (l .first) (contextAt f) ws k c w → 0 < k → w < PASSED
+pub setting-word : {ms : List Mark} {lists ws₀ : List ℕ} {fs : List InnerFunction} {f : ℕ} {l : Listed} {ws : List ℕ} {k : ℕ} {c : Position} {w : ℕ} → Known lists ws₀ fs → f < length fs → ContextOf lists ws₀ f l
+    → Setting ms lists ws₀ (l .count) (l .first) (contextAt f) ws k c w → 0 < k → w < PASSED
 setting-word g j h v z = omega (arith, v .word, context-few g j h, g .count, j, z)
 
 -- all got their marks
-pub context-marks : {ms : List Mark} {sheet ws₀ : List ℕ} {f : ℕ} {l : Listed} {ws : List ℕ} {k : ℕ} {c : Position} {w : ℕ} → ContextOf sheet ws₀ f l
-    → Setting ms sheet ws₀ (l .count) (l .first) (contextAt f) ws k c w → k ≤ 0 → Marking ms f sheet ws₀ ws
-context-marks {ms} {sheet} {l = l} {k = k} {c} h v z =
-    let none = several-none (wide placeWidth placeAt) sheet k c z in
-    let small : Every (Small ms) (placesAt sheet l .what) = v .small (subst (λ (x : Part (List Place)). Every (Small ms) (x .what)) (sym none) tt) in
+pub context-marks : {ms : List Mark} {lists ws₀ : List ℕ} {f : ℕ} {l : Listed} {ws : List ℕ} {k : ℕ} {c : Position} {w : ℕ} → ContextOf lists ws₀ f l
+    → Setting ms lists ws₀ (l .count) (l .first) (contextAt f) ws k c w → k ≤ 0 → Marking ms f lists ws₀ ws
+context-marks {ms} {lists} {l = l} {k = k} {c} h v z =
+    let none = several-none (wide placeWidth placeAt) lists k c z in
+    let small : Every (Small ms) (placesAt lists l .what) = v .small (subst (λ (x : Part (List Place)). Every (Small ms) (x .what)) (sym none) tt) in
     let wrote = leaves-none (v .leaves) (ap (λ (x : Part (List Place)). markWords ms (x .what)) none) in
     record {
-      contexts = λ fs g j. ap (λ (x : List ℕ). contextsOf x fs) (wrote .words) ∙ contexts-marked ms g j (placesAt sheet l .what) (h .is fs g j) small;
+      contexts = λ fs g j. ap (λ (x : List ℕ). contextsOf x fs) (wrote .words) ∙ contexts-marked ms g j (placesAt lists l .what) (h .is fs g j) small;
       kept = v .kept;
     }

@@ -37,7 +37,7 @@ use Rattle.operands.specs.declared.Section.the-variants.{Phis, Instructi
 use Rattle.operands.proofs.Section.{the-type as the-section}
 use Rattle.operands.specs.Ranges.{rangesOf, Ranged}
 use Rattle.operands.specs.Contexts.{contextsOf}
-use Rattle.operands.specs.Known.{placesAt, PlacesIn, Known, InstructionKnown, ContextOf}
+use Rattle.operands.specs.Known.{placesAt, PlacesIn, Known, InstructionIn, ContextOf}
 use Rattle.operands.specs.Marking.{Marking}
 use Rattle.operands.specs.Instruction.{marksNow, ofInstructions, ValueMarked, AllStarted}
 use Rattle.operands.proofs.Inner.{context-below}
@@ -78,7 +78,7 @@ instructions-idle Instructions ps a at k = absurd (elim k [ inl x ↦ omega (ari
 instructions-idle Terminals ps a at k = wrote-none a at
 
 -- ---- its value
-module _ {sheet ws : List ℕ} {fs : List InnerFunction} {i : Instruction} (k : InstructionKnown sheet ws fs i) where
+module _ {sheet : List ℕ} {fs : List InnerFunction} {i : Instruction} (k : InstructionIn sheet fs i) where
   -- the inner function that it makes is one of these
   pub function-known : {f : FunctionId} → i .value ≡ Function f → f .0 < length fs
   function-known e = subst (λ (v : InstructionValue). ValueBelow mostIdentifiers (length fs) (valueIs v)) e (k .below .value)
@@ -93,18 +93,18 @@ idle-value Plain k ms cs = refl
 idle-value (Function f) k ms cs = absurd (elim k [ inl x ↦ omega (arith, x) | inr x ↦ omega (arith, x) ])
 idle-value (StoreContext x) k ms cs = refl
 
-module _ {sheet ws : List ℕ} {i : Instruction} where
-  pub function-marked : {ws′ : List ℕ} {f : FunctionId} → i .value ≡ Function f → Marking (marksNow sheet ws i) (f .0) sheet ws ws′ → ValueMarked sheet i ws ws′
+module _ {sheet lists ws : List ℕ} {i : Instruction} where
+  pub function-marked : {ws′ : List ℕ} {f : FunctionId} → i .value ≡ Function f → Marking (marksNow sheet ws i) (f .0) lists ws ws′ → ValueMarked sheet lists i ws ws′
   function-marked e m = record {
-    contexts = λ fs k. m .contexts fs (k .known) (function-known k e) ∙ ap (λ (v : InstructionValue). contextMarked (marksNow sheet ws i) (valueIs v) (contextsOf ws fs)) (sym e);
+    contexts = λ fs k. m .contexts fs (k .known) (function-known (k .parts) e) ∙ ap (λ (v : InstructionValue). contextMarked (marksNow sheet ws i) (valueIs v) (contextsOf ws fs)) (sym e);
     kept = m .kept;
   }
 
-  pub others-marked : OneOf (0 ∷ 2 ∷ []) (tagOf the-type (i .value)) → ValueMarked sheet i ws ws
+  pub others-marked : OneOf (0 ∷ 2 ∷ []) (tagOf the-type (i .value)) → ValueMarked sheet lists i ws ws
   others-marked h = record { contexts = λ fs k. idle-value (i .value) h (marksNow sheet ws i) (contextsOf ws fs); kept = kept-none CONTEXTS PASSED ws }
 
 -- the list of context places can be passed over
-pub context-in : {sheet ws : List ℕ} {fs : List InnerFunction} {k : ℕ} {l : Listed} → Known sheet ws fs → k < length fs → ContextOf sheet ws k l → PlacesIn sheet l
+pub context-in : {lists ws : List ℕ} {fs : List InnerFunction} {k : ℕ} {l : Listed} → Known lists ws fs → k < length fs → ContextOf lists ws k l → PlacesIn lists l
 context-in g z h = record { inside = h .inside; below = context-below g z h }
 
 -- ---- the starts, and the store
@@ -120,14 +120,14 @@ lastBy fs o ps r v = storeValue o (valueIs v) (startsOf o (ps ++ contextOf fs (v
 operands-only : (o : EvaluationOrder) (ps : List Place) (r : Ranges) → startsOf o ps r ≡ startsOf o (ps ++ []) r
 operands-only o ps r = ap (λ (l : List Place). startsOf o l r) (sym (append-nil ps))
 
-module _ {sheet : List ℕ} {i : Instruction} {ws ws₁ : List ℕ} (h : Ranged (startsOf (i .order .0) (placesAt sheet (i .operands) .what)) ws ws₁) where
-  pub plain-started : i .value ≡ Plain → AllStarted sheet i ws ws₁
+module _ {sheet lists : List ℕ} {i : Instruction} {ws ws₁ : List ℕ} (h : Ranged (startsOf (i .order .0) (placesAt sheet (i .operands) .what)) ws ws₁) where
+  pub plain-started : i .value ≡ Plain → AllStarted sheet lists i ws ws₁
   unfolding storeValue
   plain-started e =
       let ps : List Place = placesAt sheet (i .operands) .what in
       record { ranges = λ fs k. h .ranges ∙ operands-only (i .order .0) ps (rangesOf ws) ∙ ap (lastBy fs (i .order .0) ps (rangesOf ws)) (sym e); kept = h .kept }
 
-  pub function-started : {f : FunctionId} {l : Listed} {ws₂ : List ℕ} → i .value ≡ Function f → ContextOf sheet ws₁ (f .0) l → Ranged (startsOf (i .order .0) (placesAt sheet l .what)) ws₁ ws₂ → AllStarted sheet i ws ws₂
+  pub function-started : {f : FunctionId} {l : Listed} {ws₂ : List ℕ} → i .value ≡ Function f → ContextOf lists ws₁ (f .0) l → Ranged (startsOf (i .order .0) (placesAt lists l .what)) ws₁ ws₂ → AllStarted sheet lists i ws ws₂
   unfolding storeValue
   function-started {f} e c g =
       let both = ranged-then h g in
@@ -135,13 +135,13 @@ module _ {sheet : List ℕ} {i : Instruction} {ws ws₁ : List ℕ} (h : Ranged 
       record {
         ranges = λ fs k.
             both .ranges
-            ∙ ap (λ (l : List Place). startsOf (i .order .0) l (startsOf (i .order .0) ps (rangesOf ws))) (c .is fs (known-kept (kept-ranges (h .kept)) (k .known)) (function-known k e))
+            ∙ ap (λ (l : List Place). startsOf (i .order .0) l (startsOf (i .order .0) ps (rangesOf ws))) (c .is fs (known-kept (kept-ranges (h .kept)) (k .known)) (function-known (k .parts) e))
             ∙ sym (each-append (startIf (i .order .0) (i .order .0)) ps (getD fs (f .0) noFunction .context) (rangesOf ws))
             ∙ ap (lastBy fs (i .order .0) ps (rangesOf ws)) (sym e);
         kept = both .kept;
       }
 
-  pub store-started : {x : IdentifierId} {ws₂ : List ℕ} → i .value ≡ StoreContext x → Ranged (storeValue (i .order .0) (IsStoreContext (x .0))) ws₁ ws₂ → AllStarted sheet i ws ws₂
+  pub store-started : {x : IdentifierId} {ws₂ : List ℕ} → i .value ≡ StoreContext x → Ranged (storeValue (i .order .0) (IsStoreContext (x .0))) ws₁ ws₂ → AllStarted sheet lists i ws ws₂
   store-started {x} e g =
       let both = ranged-then h g in
       let ps : List Place = placesAt sheet (i .operands) .what in

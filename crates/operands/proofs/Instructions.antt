@@ -7,9 +7,9 @@ use mathlib.Core.List.{List, [], _∷_, map}
 use mathlib.Core.Option.{Option}
 use lib.ListN.{length, length-append, length-map}
 use Rattle.model.specs.Limits.{mostIdentifiers, placeWidth, effectWidth}
-use Rattle.model.specs.Lists.{pick, gather, Every}
-use Rattle.model.specs.Sheet.{InnerFunction, Place, EffectList, InstructionValue, Instruction as ModelInstruction, isPresent, isListed, listOf}
-use Rattle.model.specs.Ranges.{EffectBelow, InstructionBelow}
+use Rattle.model.specs.Lists.{pick, gather, isSome, Every}
+use Rattle.model.specs.Sheet.{InnerFunction, Place, EffectList, InstructionValue, Instruction as ModelInstruction, isListed, listOf}
+use Rattle.model.specs.Ranges.{EffectBelow}
 use Rattle.model.specs.Reading.{Position}
 use Rattle.model.specs.Traits.{readEffect, conditionallyMutateEffect}
 use Rattle.model.specs.Marks.{Mark, operandEffects, withMark}
@@ -34,7 +34,7 @@ use Rattle.operands.specs.declared.Section.{Section}
 use Rattle.operands.specs.declared.Section.the-variants.{Phis, Instructions, Terminals}
 use Rattle.operands.specs.Ranges.{rangesOf, Ranged}
 use Rattle.operands.specs.Contexts.{contextsOf}
-use Rattle.operands.specs.Known.{placesAt, effectsIn, IntoBelow, PlacesIn, instructionIs, InstructionKnown}
+use Rattle.operands.specs.Known.{placesAt, effectsIn, IntoBelow, PlacesIn, instructionIs, InstructionIn, InstructionKnown}
 use Rattle.operands.specs.Instruction.{BelowOf, marksNow, ofInstructions, ValueMarked, lastRanges, AllStarted, ListedPassed}
 use Rattle.operands.specs.Passes.{passOf, forget, placesIn, Ready, Steps, Passed}
 use Rattle.operands.proofs.Stepping.{known-kept}
@@ -92,22 +92,24 @@ module _ {sheet : List ℕ} {c : Position} {i : Instruction} (a : InstructionAt 
       let v = several-wide placeWidth (i .operands .count) placeAt sheet (i .operands .first) in
       omega (arith, p .effects, p .next, l, m, u, v, a .valueLvalues .first, a .operands .first)
 
-  module _ (inside : instructionFrom sheet c .next ≤ length sheet) {ws : List ℕ} {fs : List InnerFunction} where
-    pub instruction-known : Ready instructionFrom BelowOf sheet ws c fs → InstructionKnown sheet ws fs i
+  module _ (inside : instructionFrom sheet c .next ≤ length sheet) {fs : List InnerFunction} where
+    pub instruction-in : BelowOf fs (instructionFrom sheet c .what) → InstructionIn sheet fs i
     unfolding instructionFrom
-    instruction-known r =
+    instruction-in b =
         let p : InstructionParts sheet c = instruction-parts sheet c in
         record {
-          known = r .known;
-          below = subst (InstructionBelow mostIdentifiers (length fs)) (sym instruction-is) (r .below);
+          below = subst (BelowOf fs) (sym instruction-is) b;
           valueLvalues = omega (arith, ap (λ (q : Part (List Place)). q .next) (places-are (a .valueLvalues)), p .value, p .effects, p .next, inside);
           operands = omega (arith, ap (λ (q : Part (List Place)). q .next) (places-are (a .operands)), p .effects, p .next, inside);
           effects = subst (λ (q : Part EffectList). q .next ≤ length sheet) (sym (effects-are (a .effects))) inside;
           present = list-is-present;
         }
 
+    pub instruction-known : {lists ws ws′ : List ℕ} → Kept STARTS PASSED ws ws′ → Ready instructionFrom BelowOf sheet lists ws c fs → InstructionKnown sheet lists ws′ fs i
+    instruction-known k r = record { known = known-kept k (r .known); parts = instruction-in (r .below) }
+
 -- ---- what an instruction's parts need
-module _ {sheet ws : List ℕ} {fs : List InnerFunction} {i : Instruction} (k : InstructionKnown sheet ws fs i) where
+module _ {sheet : List ℕ} {fs : List InnerFunction} {i : Instruction} (k : InstructionIn sheet fs i) where
   pub lvalues-in : PlacesIn sheet (i .«value_lvalues»)
   lvalues-in = record { inside = k .valueLvalues; below = k .below .valueLvalues }
 
@@ -121,13 +123,13 @@ module _ {sheet ws : List ℕ} {fs : List InnerFunction} {i : Instruction} (k : 
       go [] h = tt
       go (e ∷ l) h = (h .0 .1, go l (h .1))
 
-pub instruction-known-kept : {sheet ws ws′ : List ℕ} {fs : List InnerFunction} {i : Instruction} → Kept STARTS PASSED ws ws′ → InstructionKnown sheet ws fs i → InstructionKnown sheet ws′ fs i
-instruction-known-kept k h = record { known = known-kept k (h .known); below = h .below; valueLvalues = h .valueLvalues; operands = h .operands; effects = h .effects; present = h .present }
+pub instruction-known-kept : {sheet lists ws ws′ : List ℕ} {fs : List InnerFunction} {i : Instruction} → Kept STARTS PASSED ws ws′ → InstructionKnown sheet lists ws fs i → InstructionKnown sheet lists ws′ fs i
+instruction-known-kept k h = record { known = known-kept k (h .known); parts = h .parts }
 
 -- ---- its steps
 -- with a list: the marks of context places, then starts and the store
-pub listed-passed : {sheet : List ℕ} {i : Instruction} {ws ws₁ ws₂ : List ℕ} → i .listed ≡ true → ValueMarked sheet i ws ws₁ → AllStarted sheet i ws₁ ws₂ → ListedPassed sheet i ws ws₂
-listed-passed {sheet} {i} {ws} {ws₁} {ws₂} e marked started = record {
+pub listed-passed : {sheet lists : List ℕ} {i : Instruction} {ws ws₁ ws₂ : List ℕ} → i .listed ≡ true → ValueMarked sheet lists i ws ws₁ → AllStarted sheet lists i ws₁ ws₂ → ListedPassed sheet lists i ws ws₂
+listed-passed {sheet} {lists} {i} {ws} {ws₁} {ws₂} e marked started = record {
   contexts = λ fs known.
       contexts-stay ws₁ ws₂ (started .kept .high) fs ∙ marked .contexts fs known
       ∙ sym (ap (λ (b : Bool). pick b (contextMarked (marksNow sheet ws i) (valueIs (i .value)) (contextsOf ws fs)) (contextsOf ws fs)) e);
@@ -137,31 +139,31 @@ listed-passed {sheet} {i} {ws} {ws₁} {ws₂} e marked started = record {
   kept = kept-then STARTS PASSED (marked .kept) (started .kept) (omega arith) (omega arith) (omega arith) (omega arith);
 }
   where
-    known-then : {fs : List InnerFunction} → InstructionKnown sheet ws fs i → InstructionKnown sheet ws₁ fs i
+    known-then : {fs : List InnerFunction} → InstructionKnown sheet lists ws fs i → InstructionKnown sheet lists ws₁ fs i
     known-then = instruction-known-kept (kept-then STARTS PASSED (kept-none STARTS PASSED ws) (marked .kept) (omega arith) (omega arith) (omega arith) (omega arith))
 
 -- without one: nothing more
-pub absent-passed : {sheet : List ℕ} {i : Instruction} (ws : List ℕ) → i .listed ≡ false → ListedPassed sheet i ws ws
-absent-passed {sheet} {i} ws e = record {
+pub absent-passed : {sheet lists : List ℕ} {i : Instruction} (ws : List ℕ) → i .listed ≡ false → ListedPassed sheet lists i ws ws
+absent-passed {sheet} {i = i} ws e = record {
   contexts = λ fs known. sym (ap (λ (b : Bool). pick b (contextMarked (marksNow sheet ws i) (valueIs (i .value)) (contextsOf ws fs)) (contextsOf ws fs)) e);
   ranges = λ fs known. sym (ap (λ (b : Bool). pick b (lastRanges fs sheet i (rangesOf ws)) (rangesOf ws)) e);
   kept = kept-none STARTS PASSED ws;
 }
 
 -- whether the list is there
-listed-present : (b : Bool) (l : EffectList) → isPresent (listedIf b l) ≡ b
+listed-present : (b : Bool) (l : EffectList) → isSome (listedIf b l) ≡ b
 listed-present true l = refl
 listed-present false l = refl
 
-module _ (section : Section) {sheet : List ℕ} {i : Instruction} {ws ws₁ ws₂ a a₁ : List ℕ} {at at₁ : ℕ}
+module _ (section : Section) {sheet lists : List ℕ} {i : Instruction} {ws ws₁ ws₂ a a₁ : List ℕ} {at at₁ : ℕ}
     (named : Ranged (nameLvalues (instructionIs sheet i)) ws ws₁)
     (wrote : Wrote (gather placeWords (ofInstructions section (instructionPlaces (marksNow sheet ws₁ i) (instructionIs sheet i)))) a at a₁ at₁)
-    (passed : ListedPassed sheet i ws₁ ws₂) where
+    (passed : ListedPassed sheet lists i ws₁ ws₂) where
   pub steps-kept : Kept STARTS PASSED ws ws₂
   steps-kept = kept-then STARTS PASSED (named .kept) (passed .kept) (omega arith) (omega arith) (omega arith) (omega arith)
 
-  module _ {fs : List InnerFunction} (known : InstructionKnown sheet ws fs i) where
-    known₁ : InstructionKnown sheet ws₁ fs i
+  module _ {fs : List InnerFunction} (known : InstructionKnown sheet lists ws fs i) where
+    known₁ : InstructionKnown sheet lists ws₁ fs i
     known₁ = instruction-known-kept (kept-then STARTS PASSED (named .kept) (kept-none STARTS PASSED ws₁) (omega arith) (omega arith) (omega arith) (omega arith)) known
 
     is-listed : isListed (instructionIs sheet i) ≡ i .listed
@@ -179,7 +181,7 @@ module _ (section : Section) {sheet : List ℕ} {i : Instruction} {ws ws₁ ws�
     unfolding instructionMarks
     marks-are =
         ap (λ (r : Ranges). operandEffects (r .ends) (i .order .0) (effectsIn sheet (i .effects) .what)) (named .ranges)
-        ∙ sym (ap (operandEffects (nameLvalues (instructionIs sheet i) (rangesOf ws) .ends) (i .order .0)) (known .present))
+        ∙ sym (ap (operandEffects (nameLvalues (instructionIs sheet i) (rangesOf ws) .ends) (i .order .0)) (known .parts .present))
 
     -- the contexts, with a list
     contexts-are : contextsOf ws₂ fs ≡ pick (isListed (instructionIs sheet i)) (contextMarked (instructionMarks (instructionIs sheet i) (rangesOf ws)) (valueIs (i .value)) (contextsOf ws fs)) (contextsOf ws fs)
@@ -217,15 +219,15 @@ places-few Instructions sheet ws i w =
 places-few Terminals sheet ws i w = omega (arith, w .next)
 
 -- ---- the instruction
-module _ (section : Section) {sheet : List ℕ} {c : Position} {i : Instruction} (at₀ : InstructionAt sheet c i) (inside : instructionFrom sheet c .next ≤ length sheet) {ws ws₁ ws₂ a a₁ : List ℕ} {at : ℕ} {r : Copied}
+module _ (section : Section) {sheet lists : List ℕ} {c : Position} {i : Instruction} (at₀ : InstructionAt sheet c i) (inside : instructionFrom sheet c .next ≤ length sheet) {ws ws₁ ws₂ a a₁ : List ℕ} {at : ℕ} {r : Copied}
     (named : Ranged (nameLvalues (instructionIs sheet i)) ws ws₁)
     (wrote : Wrote (gather placeWords (ofInstructions section (instructionPlaces (marksNow sheet ws₁ i) (instructionIs sheet i)))) a at a₁ (r .at))
-    (passed : ListedPassed sheet i ws₁ ws₂) (next : r .next ≡ i .effects .first + effectWidth * i .effects .count) where
-  pub instruction-passed : Passed instructionFrom BelowOf instruction section sheet c ws a at ws₂ a₁ r
+    (passed : ListedPassed sheet lists i ws₁ ws₂) (next : r .next ≡ i .effects .first + effectWidth * i .effects .count) where
+  pub instruction-passed : Passed instructionFrom BelowOf instruction section sheet lists c ws a at ws₂ a₁ r
   instruction-passed = record {
     steps = λ fs ready.
         subst (λ (m : ModelInstruction). Steps (instruction fs m) section fs ws a at ws₂ a₁ (r .at)) (instruction-is at₀)
-        (all-steps section named wrote passed (instruction-known at₀ inside ready));
+        (all-steps section named wrote passed (instruction-known at₀ inside (kept-none STARTS PASSED ws) ready));
     kept = steps-kept section named wrote passed;
     after = next ∙ instruction-end at₀;
     few = omega (arith, places-few section sheet ws₁ i wrote, instruction-few at₀, next, instruction-end at₀);

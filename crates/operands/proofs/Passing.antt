@@ -75,10 +75,10 @@ terminal-stays : (fe : Bool) (t : Terminal) (ws : List ℕ) (fs : List InnerFunc
 unfolding terminal passOf forget
 terminal-stays fe t ws fs = refl
 
-pub terminal-passed : (s : Section) (fe : Bool) {sheet : List ℕ} {c : Position} (ws : List ℕ) {a b : List ℕ} {at r d : ℕ}
+pub terminal-passed : (s : Section) (fe : Bool) {sheet lists : List ℕ} {c : Position} (ws : List ℕ) {a b : List ℕ} {at r d : ℕ}
     → PlacesPut (terminalIn s (terminalPlaces fe (terminalFrom sheet c .what))) c (terminalFrom sheet c .next) a at b r
-    → d ≡ terminalFrom sheet c .next → Passed terminalFrom AnyTerminal (λ (fs : InnerFunctions). terminal fe) s sheet c ws a at ws b (record { at = r; next = d })
-terminal-passed s fe {sheet} {c} ws h e = record {
+    → d ≡ terminalFrom sheet c .next → Passed terminalFrom AnyTerminal (λ (fs : InnerFunctions). terminal fe) s sheet lists c ws a at ws b (record { at = r; next = d })
+terminal-passed s fe {sheet} {c = c} ws h e = record {
   steps = λ fs k. record {
     pass = terminal-stays fe (terminalFrom sheet c .what) ws fs;
     wrote = wrote-as (h .wrote) (ap (gather placeWords) (terminal-section s fe (terminalFrom sheet c .what) ws fs));
@@ -119,7 +119,7 @@ module _ {sheet : List ℕ} {c : Position} {l : Listed} (h : ListAt sheet c l) w
   list-phis = sym (list-is phiFrom sheet c h)
 
   -- they can be passed over
-  module _ {ws : List ℕ} {at : ℕ} (p : Passable phisFrom PhisBelow sheet ws c at) where
+  module _ {lists ws : List ℕ} {at : ℕ} (p : Passable phisFrom PhisBelow sheet lists ws c at) where
     pub phis-inside : phisIn sheet l .next ≤ length sheet
     phis-inside = list-inside phiFrom sheet c h (p .inside)
 
@@ -130,10 +130,10 @@ module _ {sheet : List ℕ} {c : Position} {l : Listed} (h : ListAt sheet c l) w
     phis-room = omega (arith, p .room, h .first)
 
   -- they were
-  pub phis-passed : (s : Section) (o : EvaluationOrder) (ws ws′ : List ℕ) {a b : List ℕ} {at r d : ℕ}
+  pub phis-passed : (s : Section) (o : EvaluationOrder) {lists : List ℕ} (ws ws′ : List ℕ) {a b : List ℕ} {at r d : ℕ}
       → PlacesPut (phiIn s (phisMarked (rangesOf ws) o [] (phisIn sheet l .what))) (l .first) (phisIn sheet l .next) a at b r
       → Ranged (phiStarts o (phisIn sheet l .what)) ws ws′ × (d ≡ phisIn sheet l .next)
-      → Passed phisFrom PhisBelow (λ (fs : InnerFunctions). phis o) s sheet c ws a at ws′ b (record { at = r; next = d })
+      → Passed phisFrom PhisBelow (λ (fs : InnerFunctions). phis o) s sheet lists c ws a at ws′ b (record { at = r; next = d })
   phis-passed s o ws ws′ {a} {b} {at} {r} {d} w k = record {
     steps = λ fs _. subst (λ (q : Part (List Phi)). Steps (phis o (q .what)) s fs ws a at ws′ b r) list-phis (record {
       pass = phis-step o (phisIn sheet l .what) ws ws′ fs (k .0);

@@ -1,5 +1,5 @@
 -- A loop that writes one place for each part that stands in the sheet.
-use Prim.Native.Nat.{ℕ, _+_, _-_, _*_, _≤_, _<_}
+use Prim.Native.Nat.{ℕ, zero, suc, _+_, _-_, _*_, _≤_, _<_}
 use native.Mathlib.Omega.{arith}
 use mathlib.Core.Path.{_≡_, refl, sym, ap, _∙_}
 use mathlib.Core.List.{List, [], _∷_, map}
@@ -18,6 +18,7 @@ use Rattle.writing.specs.Wrote.{Wrote}
 use Rattle.writing.proofs.Writing.{wrote-as}
 use Rattle.copies.proofs.Copying.{Copying, copying-start, copying-turn, copying-inside, copying-end}
 use Rattle.copies.proofs.Loops.{leaves-same}
+use Rattle.operands.specs.Given.{lastPlace}
 
 -- what was written leaves the length
 pub wrote-same : {vs a b : List ℕ} {at r : ℕ} → Wrote vs a at b r → length b ≡ length a
@@ -27,6 +28,13 @@ wrote-same {vs} {a} {at = at} h = ap (λ (l : List ℕ). length l) (h .words) �
 pub places-length : (l : List Place) → length (gather placeWords l) ≡ placeWidth * length l
 places-length [] = refl
 places-length (p ∷ l) = omega (arith, places-length l)
+
+-- ---- the place that ends each part: g makes of it what h makes of the part
+pub last-places : {A : Type 0} (width : ℕ) (partAt : List ℕ → Position → A) (h : A → Place) (g : Place → Place) (sheet : List ℕ) → ((c : Position) → g (lastPlace width sheet c) ≡ h (partAt sheet c)) → (k : ℕ) (c : Position)
+    → map g (several k (wide width (lastPlace width)) sheet c .what) ≡ map h (several k (wide width partAt) sheet c .what)
+unfolding several
+last-places width partAt h g sheet e zero c = refl
+last-places width partAt h g sheet e (suc k) c = rw (e c, last-places width partAt h g sheet e k (c + width))
 
 -- ---- parts of one width, at least a place's, each with its place
 module _ {A : Type 0} (width : ℕ) (partAt : List ℕ → Position → A) (g : A → Place) (sheet : List ℕ) where

@@ -30,8 +30,8 @@ use Rattle.operands.specs.Passes.{passOf, forget, placesIn, Ready, Passa
 use Rattle.operands.proofs.Adding.{Adds, none-in, each-adds}
 
 -- ---- the inner functions stay known
-pub known-kept : {sheet ws ws′ : List ℕ} {fs : List InnerFunction} → Kept STARTS PASSED ws ws′ → Known sheet ws fs → Known sheet ws′ fs
-known-kept {sheet} {ws} {ws′} k h = record {
+pub known-kept : {lists ws ws′ : List ℕ} {fs : List InnerFunction} → Kept STARTS PASSED ws ws′ → Known lists ws fs → Known lists ws′ fs
+known-kept {lists} {ws} {ws′} k h = record {
   size = omega (arith, h .size, k .same);
   functions = functions-kept (λ i z. drop-word PASSED (FUNCTIONS + i) ws ws′ (omega arith) (k .high)) (h .functions);
   contexts = h .contexts;
@@ -56,10 +56,10 @@ steps-then {section} {fs} {f} {g} h {ws} s t =
     }
 
 -- ---- k₀ parts from c₀ on, with k of them left from c on
-module _ {A : Type 0} (f : Standing A) (Below : List InnerFunction → A → Type 0) (step : List InnerFunction → A → Pass → Pass) (section : Section) (sheet : List ℕ) where
+module _ {A : Type 0} (f : Standing A) (Below : List InnerFunction → A → Type 0) (step : List InnerFunction → A → Pass → Pass) (section : Section) (sheet lists : List ℕ) where
   -- so many of them can be passed over
   abbrev ReadyAll : List ℕ → ℕ → Position → List InnerFunction → Type 0
-  ReadyAll ws k c = Ready (several k f) (λ (fs : List InnerFunction). Every (Below fs)) sheet ws c
+  ReadyAll ws k c = Ready (several k f) (λ (fs : List InnerFunction). Every (Below fs)) sheet lists ws c
 
   -- the pass over all of them
   abbrev allFrom : ℕ → Position → List ℕ → List InnerFunction → Pass
@@ -87,12 +87,12 @@ module _ {A : Type 0} (f : Standing A) (Below : List InnerFunction → A → Typ
 
   module _ {k₀ : ℕ} {c₀ : Position} {ws₀ a₀ : List ℕ} {at₀ k : ℕ} {c : Position} {ws a : List ℕ} {at : ℕ} (v : Looping k₀ c₀ ws₀ a₀ at₀ k c ws a at) where
     -- the first of those that are left can be passed over
-    pub looping-first : 0 < k → (fs : List InnerFunction) → ReadyAll ws₀ k₀ c₀ fs → Ready f Below sheet ws c fs
+    pub looping-first : 0 < k → (fs : List InnerFunction) → ReadyAll ws₀ k₀ c₀ fs → Ready f Below sheet lists ws c fs
     looping-first z fs h =
         let r : ReadyAll ws k c fs = v .ready fs h in
         record { known = r .known; below = subst (Every (Below fs)) (part-value (several-next f sheet k c z)) (r .below) .0 }
 
-    pub looping-passable : Rises f → 0 < k → Passable (several k₀ f) (λ (fs : List InnerFunction). Every (Below fs)) sheet ws₀ c₀ at₀ → Passable f Below sheet ws c at
+    pub looping-passable : Rises f → 0 < k → Passable (several k₀ f) (λ (fs : List InnerFunction). Every (Below fs)) sheet lists ws₀ c₀ at₀ → Passable f Below sheet lists ws c at
     looping-passable r z p = record {
       functions = p .functions;
       ready = looping-first z (p .functions) (p .ready);
@@ -100,7 +100,7 @@ module _ {A : Type 0} (f : Standing A) (Below : List InnerFunction → A → Typ
       room = omega (arith, v .few, p .room);
     }
 
-    pub looping-turn : ((fs : List InnerFunction) (x : A) → Adds section (step fs x)) → 0 < k → {ws′ a′ : List ℕ} {r : Copied} → Passed f Below step section sheet c ws a at ws′ a′ r
+    pub looping-turn : ((fs : List InnerFunction) (x : A) → Adds section (step fs x)) → 0 < k → {ws′ a′ : List ℕ} {r : Copied} → Passed f Below step section sheet lists c ws a at ws′ a′ r
         → Looping k₀ c₀ ws₀ a₀ at₀ (k - 1) (r .next) ws′ a′ (r .at)
     looping-turn adds z {ws′} {a′} {r} p =
         let x : A = f sheet c .what in
@@ -133,7 +133,7 @@ module _ {A : Type 0} (f : Standing A) (Below : List InnerFunction → A → Typ
         }
 
     pub looping-end : k ≤ 0 → {r : Copied} → r .at ≡ at → r .next ≡ c
-        → Passed (several k₀ f) (λ (fs : List InnerFunction). Every (Below fs)) (λ (fs : List InnerFunction). each (step fs)) section sheet c₀ ws₀ a₀ at₀ ws a r
+        → Passed (several k₀ f) (λ (fs : List InnerFunction). Every (Below fs)) (λ (fs : List InnerFunction). each (step fs)) section sheet lists c₀ ws₀ a₀ at₀ ws a r
     unfolding passOf forget
     looping-end z {r} e d =
         let none = several-none f sheet k c z in
@@ -156,7 +156,7 @@ module _ {A : Type 0} (f : Standing A) (Below : List InnerFunction → A → Typ
   abbrev EveryOf : List InnerFunction → List A → Type 0
   EveryOf fs = Every (Below fs)
 
-  pub listed-passable : {ws : List ℕ} {at : ℕ} → Passable (listed f) EveryOf sheet ws c at → Passable (several (l .count) f) EveryOf sheet ws (l .first) at
+  pub listed-passable : {lists ws : List ℕ} {at : ℕ} → Passable (listed f) EveryOf sheet lists ws c at → Passable (several (l .count) f) EveryOf sheet lists ws (l .first) at
   listed-passable p = record {
     functions = p .functions;
     ready = record { known = p .ready .known; below = subst (λ (q : Part (List A)). EveryOf (p .functions) (q .what)) (list-is f sheet c h) (p .ready .below) };
@@ -164,9 +164,9 @@ module _ {A : Type 0} (f : Standing A) (Below : List InnerFunction → A → Typ
     room = omega (arith, p .room, h .first);
   }
 
-  pub listed-passed : {ws a : List ℕ} {at : ℕ} {ws′ a′ : List ℕ} {r : Copied} → Passed (several (l .count) f) EveryOf (λ (fs : List InnerFunction). each (step fs)) section sheet (l .first) ws a at ws′ a′ r
-      → Passed (listed f) EveryOf (λ (fs : List InnerFunction). each (step fs)) section sheet c ws a at ws′ a′ r
-  listed-passed {ws} {a} {at} {ws′} {a′} {r} p =
+  pub listed-passed : {lists ws a : List ℕ} {at : ℕ} {ws′ a′ : List ℕ} {r : Copied} → Passed (several (l .count) f) EveryOf (λ (fs : List InnerFunction). each (step fs)) section sheet lists (l .first) ws a at ws′ a′ r
+      → Passed (listed f) EveryOf (λ (fs : List InnerFunction). each (step fs)) section sheet lists c ws a at ws′ a′ r
+  listed-passed {ws = ws} {a} {at} {ws′} {a′} {r} p =
       let e = list-is f sheet c h in
       record {
         steps = λ fs q.

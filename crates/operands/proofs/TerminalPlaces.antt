@@ -1,5 +1,5 @@
 -- A terminal's places: its operands, or Return's value.
-use Prim.Native.Nat.{ℕ, zero, suc, _+_, _*_, _≤_}
+use Prim.Native.Nat.{ℕ, zero, suc, _+_, _-_, _*_, _≤_}
 use native.Mathlib.Omega.{arith}
 use mathlib.Core.Bool.{Bool}
 use mathlib.Core.Path.{_≡_, refl, sym, ap, subst, _∙_}
@@ -27,16 +27,11 @@ use Rattle.hir.proofs.Widths.{several-wide, terminal-rises, return-rises}
 use Rattle.hir.proofs.Several.{list-is, several-length}
 use Rattle.writing.specs.Wrote.{Wrote, farthest}
 use Rattle.writing.proofs.Writing.{wrote-none, wrote-as}
-use Rattle.copies.proofs.Lengths.{gather-length}
 use Rattle.copies.proofs.Passing.{other-past}
 use Rattle.operands.specs.declared.given.Given.the-variants.{Marked}
-use Rattle.operands.specs.Given.{givenTo}
-use Rattle.operands.specs.Known.{placesAt}
+use Rattle.operands.specs.Given.{givenTo, lastPlace, lastPlaces}
 use Rattle.operands.specs.Phis.{PlacesPut}
-
--- how many words a place has
-pub place-words : (ps : List Place) → length (gather placeWords ps) ≡ placeWidth * length ps
-place-words = gather-length placeWords placeWidth (λ p. refl)
+use Rattle.operands.proofs.Putting.{places-length, last-places}
 
 module _ (ws : List ℕ) (c : Position) {t : Terminal} (h : TerminalAt ws c t) where
   -- ---- its operands
@@ -44,29 +39,30 @@ module _ (ws : List ℕ) (c : Position) {t : Terminal} (h : TerminalAt ws c t) w
     is-other : TerminalAt ws c (Other l)
     is-other = subst (TerminalAt ws c) e h
 
-    operands-end : placesAt ws l .next ≡ terminalFrom ws c .next
-    operands-end = omega (arith, several-wide placeWidth (l .count) placeAt ws (l .first), other-past ws c h e)
-
-    pub other-inside : terminalFrom ws c .next ≤ length ws → placesAt ws l .next ≤ length ws
-    other-inside i = omega (arith, operands-end, i)
+    pub other-inside : terminalFrom ws c .next ≤ length ws → lastPlaces placeWidth ws l .next ≤ length ws
+    other-inside i = omega (arith, several-wide placeWidth (l .count) (lastPlace placeWidth) ws (l .first), other-past ws c h e, i)
 
     pub other-room : (at : ℕ) → terminalFrom ws c .next ≤ length ws → at + length ws ≤ farthest + c → at + placeWidth * l .count ≤ farthest
     other-room at i r = omega (arith, other-past ws c h e, is-other .1 .first, i, r)
 
-    other-places : (fe : Bool) → map (givenTo (Marked Read)) (placesAt ws l .what) ≡ terminalPlaces fe (terminalFrom ws c .what)
+    other-places : (fe : Bool) → map (givenTo (Marked Read)) (lastPlaces placeWidth ws l .what) ≡ terminalPlaces fe (terminalFrom ws c .what)
     unfolding terminalFrom terminalOf terminalPlaces
-    other-places fe = rw (is-other .0) (ap (λ (p : Part (List Place)). map (withEffect readEffect) (p .what)) (sym (list-is (wide placeWidth placeAt) ws (c + 2) (is-other .1))))
+    other-places fe =
+        let first : (d : Position) → withEffect readEffect (lastPlace placeWidth ws d) ≡ withEffect readEffect (placeAt ws d) =
+        λ d. let z : d + (placeWidth - placeWidth) ≡ d = omega arith in ap (λ (x : Position). withEffect readEffect (placeAt ws x)) z in
+        rw (is-other .0) (last-places placeWidth placeAt (withEffect readEffect) (withEffect readEffect) ws first (l .count) (l .first)
+        ∙ ap (λ (p : Part (List Place)). map (withEffect readEffect) (p .what)) (sym (list-is (wide placeWidth placeAt) ws (c + 2) (is-other .1))))
 
-    pub other-put : (fe : Bool) {a a′ : List ℕ} {at r : ℕ} → Wrote (gather placeWords (map (givenTo (Marked Read)) (placesAt ws l .what))) a at a′ r
+    pub other-put : (fe : Bool) {a a′ : List ℕ} {at r : ℕ} → Wrote (gather placeWords (map (givenTo (Marked Read)) (lastPlaces placeWidth ws l .what))) a at a′ r
         → PlacesPut (terminalPlaces fe (terminalFrom ws c .what)) c (terminalFrom ws c .next) a at a′ r
     other-put fe w = record {
       wrote = wrote-as w (ap (gather placeWords) (other-places fe));
       few = omega (
         arith,
         w .next,
-        place-words (map (givenTo (Marked Read)) (placesAt ws l .what)),
-        length-map (placesAt ws l .what) (givenTo (Marked Read)),
-        several-length (wide placeWidth placeAt) ws (l .count) (l .first),
+        places-length (map (givenTo (Marked Read)) (lastPlaces placeWidth ws l .what)),
+        length-map (lastPlaces placeWidth ws l .what) (givenTo (Marked Read)),
+        several-length (wide placeWidth (lastPlace placeWidth)) ws (l .count) (l .first),
         other-past ws c h e,
         is-other .1 .first,
       );

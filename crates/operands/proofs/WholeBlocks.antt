@@ -69,22 +69,22 @@ module _ (sheet : List ℕ) (c : Position) where
 abbrev pub InstructionsBelow : List InnerFunction → List Instruction → Type 0
 InstructionsBelow fs = Every (BelowOf fs)
 
-module _ (sheet : List ℕ) (c : Position) where
-  module _ {ws : List ℕ} {fs : List InnerFunction} (h : Ready blockFrom BlockOf sheet ws c fs) where
-    pub phis-ready : Ready phisFrom PhisBelow sheet ws (c + 1) fs
+module _ (sheet : List ℕ) {lists : List ℕ} (c : Position) where
+  module _ {ws : List ℕ} {fs : List InnerFunction} (h : Ready blockFrom BlockOf sheet lists ws c fs) where
+    pub phis-ready : Ready phisFrom PhisBelow sheet lists ws (c + 1) fs
     unfolding blockFrom
     phis-ready = record { known = h .known; below = h .below .0 }
 
     module _ {ws₁ : List ℕ} (k : Kept STARTS PASSED ws ws₁) {i : Position} (p : i ≡ phisFrom sheet (c + 1) .next) where
-      pub instructions-ready : Ready instructionsFrom InstructionsBelow sheet ws₁ i fs
+      pub instructions-ready : Ready instructionsFrom InstructionsBelow sheet lists ws₁ i fs
       unfolding blockFrom
       instructions-ready = record { known = known-kept k (h .known); below = subst (λ (d : Position). InstructionsBelow fs (instructionsFrom sheet d .what)) (sym p) (h .below .1) }
 
-    pub terminal-ready : {ws₁ : List ℕ} → Kept STARTS PASSED ws ws₁ → (j : Position) → Ready terminalFrom AnyTerminal sheet ws₁ j fs
+    pub terminal-ready : {ws₁ : List ℕ} → Kept STARTS PASSED ws ws₁ → (j : Position) → Ready terminalFrom AnyTerminal sheet lists ws₁ j fs
     terminal-ready k j = record { known = known-kept k (h .known); below = tt }
 
-  module _ {ws : List ℕ} {at : ℕ} (h : Passable blockFrom BlockOf sheet ws c at) where
-    pub phis-passable : Passable phisFrom PhisBelow sheet ws (c + 1) at
+  module _ {ws : List ℕ} {at : ℕ} (h : Passable blockFrom BlockOf sheet lists ws c at) where
+    pub phis-passable : Passable phisFrom PhisBelow sheet lists ws (c + 1) at
     phis-passable = record {
       functions = h .functions;
       ready = phis-ready (h .ready);
@@ -93,8 +93,8 @@ module _ (sheet : List ℕ) (c : Position) where
     }
 
   -- the phis were passed over, then the instructions, then the terminal
-  module _ (section : Section) (o : ℕ) {ws a : List ℕ} {at : ℕ} {ws₁ a₁ : List ℕ} {p : Copied} (ps : Passed phisFrom PhisBelow (λ (fs : List InnerFunction). phis o) section sheet (c + 1) ws a at ws₁ a₁ p) where
-    pub instructions-passable : Passable blockFrom BlockOf sheet ws c at → Passable instructionsFrom InstructionsBelow sheet ws₁ (p .next) (p .at)
+  module _ (section : Section) (o : ℕ) {ws a : List ℕ} {at : ℕ} {ws₁ a₁ : List ℕ} {p : Copied} (ps : Passed phisFrom PhisBelow (λ (fs : List InnerFunction). phis o) section sheet lists (c + 1) ws a at ws₁ a₁ p) where
+    pub instructions-passable : Passable blockFrom BlockOf sheet lists ws c at → Passable instructionsFrom InstructionsBelow sheet lists ws₁ (p .next) (p .at)
     instructions-passable h = record {
       functions = h .functions;
       ready = instructions-ready (h .ready) (ps .kept) (ps .after);
@@ -103,11 +103,11 @@ module _ (sheet : List ℕ) (c : Position) where
     }
 
     module _ {ws₂ a₂ : List ℕ} {i : Copied}
-        (is : Passed instructionsFrom InstructionsBelow (λ (fs : List InnerFunction). each (instruction fs)) section sheet (p .next) ws₁ a₁ (p .at) ws₂ a₂ i) where
+        (is : Passed instructionsFrom InstructionsBelow (λ (fs : List InnerFunction). each (instruction fs)) section sheet lists (p .next) ws₁ a₁ (p .at) ws₂ a₂ i) where
       both-kept : Kept STARTS PASSED ws ws₂
       both-kept = kept-then STARTS PASSED (ps .kept) (is .kept) (omega arith) (omega arith) (omega arith) (omega arith)
 
-      pub terminal-passable : Passable blockFrom BlockOf sheet ws c at → Passable terminalFrom AnyTerminal sheet ws₂ (i .next) (i .at)
+      pub terminal-passable : Passable blockFrom BlockOf sheet lists ws c at → Passable terminalFrom AnyTerminal sheet lists ws₂ (i .next) (i .at)
       terminal-passable h = record {
         functions = h .functions;
         ready = terminal-ready (h .ready) both-kept (i .next);
@@ -116,7 +116,7 @@ module _ (sheet : List ℕ) (c : Position) where
       }
 
       pub block-passed : (e : Bool) {d : Position} → d ≡ phisFrom sheet (c + 1) .next → o ≡ orderBehind sheet (instructionsFrom sheet d) → {a₃ : List ℕ} {r : Copied}
-          → Passed terminalFrom AnyTerminal (λ (fs : List InnerFunction). terminal e) section sheet (i .next) ws₂ a₂ (i .at) ws₂ a₃ r → Passed blockFrom BlockOf (block e) section sheet c ws a at ws₂ a₃ r
+          → Passed terminalFrom AnyTerminal (λ (fs : List InnerFunction). terminal e) section sheet lists (i .next) ws₂ a₂ (i .at) ws₂ a₃ r → Passed blockFrom BlockOf (block e) section sheet lists c ws a at ws₂ a₃ r
       unfolding block blockFrom
       block-passed e {d} f g {a₃} {r} ts =
           let first : Position = phisFrom sheet (c + 1) .next in

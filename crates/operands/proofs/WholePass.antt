@@ -49,23 +49,23 @@ places-patched l {x} {a} {a₁} {a₂} {a₃} {at} {at₁} {r} p w e =
     record { words = e ∙ ap (λ (n : ℕ). set a₂ at n) k ∙ s .words; next = s .next }
 
 -- ---- the contexts of the inner functions
-module _ {sheet ws : List ℕ} {count : ℕ} {a a₁ a₂ : List ℕ} {at at₁ r : ℕ} (put : Wrote (0 ∷ []) a at a₁ at₁) (contexts : ContextsPut count sheet ws a₁ at₁ a₂ r) where
-  module _ (some : (fs : List InnerFunction) × (Known sheet ws fs × (count ≡ length fs))) where
+module _ {lists ws : List ℕ} {count : ℕ} {a a₁ a₂ : List ℕ} {at at₁ r : ℕ} (put : Wrote (0 ∷ []) a at a₁ at₁) (contexts : ContextsPut count lists ws a₁ at₁ a₂ r) where
+  module _ (some : (fs : List InnerFunction) × (Known lists ws fs × (count ≡ length fs))) where
     pub inner-few : r ≤ at + mostInner
     inner-few = omega (arith, put .next, contexts .few, some .1 .0 .count, some .1 .1)
 
     pub inner-rises : at₁ ≤ r
     inner-rises = omega (arith, contexts .wrote (some .0) (some .1 .0) (some .1 .1) .next)
 
-    pub inner-put : {a₃ : List ℕ} → a₃ ≡ set a₂ at ((r - at₁) / placeWidth) → InnerPut count sheet ws a at a₃ r
+    pub inner-put : {a₃ : List ℕ} → a₃ ≡ set a₂ at ((r - at₁) / placeWidth) → InnerPut count lists ws a at a₃ r
     inner-put e = record {
       wrote = λ fs k n. places-patched (gather (λ (l : List Place). l) (contextsOf ws fs)) put (contexts .wrote fs k n) e;
       few = inner-few;
     }
 
 -- ---- what stays between the sections
-pub passing-kept : {s : Sheet} {sheet ws ws′ : List ℕ} {f : HirFunction} → Kept STARTS PASSED ws ws′ → Passing s sheet ws f → Passing s sheet ws′ f
-passing-kept {s} {sheet} {ws} {ws′} k p = record {
+pub passing-kept : {s : Sheet} {sheet lists ws ws′ : List ℕ} {f : HirFunction} → Kept STARTS PASSED ws ws′ → Passing s sheet lists ws f → Passing s sheet lists ws′ f
+passing-kept {ws = ws} {ws′} k p = record {
   describes = p .describes;
   stands = record {
     size = omega (arith, k .same, p .stands .size);
@@ -80,8 +80,8 @@ passing-kept {s} {sheet} {ws} {ws′} k p = record {
 abbrev begunOn : List EvaluationOrder → List EvaluationOrder → List (List Place) → Pass
 begunOn starts ends contexts = record { ranges = record { starts = starts; ends = ends }; contexts = contexts; phis = []; instructions = []; terminals = [] }
 
-module _ {s : Sheet} {sheet ws : List ℕ} {f : HirFunction} (p : Passing s sheet ws f) where
-  pub passing-known : Known sheet ws (s .functions)
+module _ {s : Sheet} {sheet lists ws : List ℕ} {f : HirFunction} (p : Passing s sheet lists ws f) where
+  pub passing-known : Known lists ws (s .functions)
   passing-known = record {
     size = p .stands .size;
     functions = p .stands .functions;
@@ -100,13 +100,13 @@ module _ {s : Sheet} {sheet ws : List ℕ} {f : HirFunction} (p : Passing s shee
         ∙ ap (λ (x : List EvaluationOrder). begunOn (sheetStarts (s .identifiers)) x (contextsOf ws₁ fs)) (b .ends ∙ p .ends)
         ∙ ap (begunOn (sheetStarts (s .identifiers)) (endsBefore s)) (b .contexts fs (p .below .functionCount) few)
 
-    pub blocks-ready : Ready (several (f .blocks .count) blockFrom) (λ (fs : List InnerFunction). Every (BlockOf fs)) sheet ws₁ (f .blocks .first) (s .functions)
+    pub blocks-ready : Ready (several (f .blocks .count) blockFrom) (λ (fs : List InnerFunction). Every (BlockOf fs)) sheet lists ws₁ (f .blocks .first) (s .functions)
     blocks-ready = record {
       known = known-kept (b .kept) passing-known;
       below = subst (Every (BlockOf (s .functions))) (sym (p .describes .blocks)) (blocks-wider (p .below .identifiers) (length (s .functions)) (s .blocks) (p .below .blocks));
     }
 
-    pub blocks-passable : (at : ℕ) {at₁ : ℕ} → at + mostSection ≤ farthest → at₁ ≡ at + 1 → Passable (several (f .blocks .count) blockFrom) (λ (fs : List InnerFunction). Every (BlockOf fs)) sheet ws₁ (f .blocks .first) at₁
+    pub blocks-passable : (at : ℕ) {at₁ : ℕ} → at + mostSection ≤ farthest → at₁ ≡ at + 1 → Passable (several (f .blocks .count) blockFrom) (λ (fs : List InnerFunction). Every (BlockOf fs)) sheet lists ws₁ (f .blocks .first) at₁
     blocks-passable at h e = record { functions = s .functions; ready = blocks-ready; inside = p .describes .blocksInside; room = omega (arith, h, e, p .describes .short) }
 
     -- what it leaves
@@ -118,9 +118,9 @@ module _ {s : Sheet} {sheet ws : List ℕ} {f : HirFunction} (p : Passing s shee
         ∙ ap (λ (x : Bool). each (block x (s .functions)) (s .blocks) (beforePass s)) (p .describes .functionExpression)
 
 -- ---- a section: the pass from its beginning
-module _ {which : Section} {sheet : List ℕ} {f : HirFunction} {ws ws₁ ws₂ a a₁ a₂ : List ℕ} {at at₁ : ℕ} {r : Copied} (begin : Begun (identifiersIn sheet (f .identifiers) .what) ws ws₁) (put : Wrote (0 ∷ []) a at a₁ at₁)
-    (blocks : Passed (several (f .blocks .count) blockFrom) (λ (fs : List InnerFunction). Every (BlockOf fs)) (λ (fs : List InnerFunction). each (block (f .«function_expression») fs)) which sheet (f .blocks .first) ws₁ a₁ at₁ ws₂ a₂ r) where
-  module _ {s : Sheet} (p : Passing s sheet ws f) where
+module _ {which : Section} {sheet lists : List ℕ} {f : HirFunction} {ws ws₁ ws₂ a a₁ a₂ : List ℕ} {at at₁ : ℕ} {r : Copied} (begin : Begun (identifiersIn sheet (f .identifiers) .what) ws ws₁) (put : Wrote (0 ∷ []) a at a₁ at₁)
+    (blocks : Passed (several (f .blocks .count) blockFrom) (λ (fs : List InnerFunction). Every (BlockOf fs)) (λ (fs : List InnerFunction). each (block (f .«function_expression») fs)) which sheet lists (f .blocks .first) ws₁ a₁ at₁ ws₂ a₂ r) where
+  module _ {s : Sheet} (p : Passing s sheet lists ws f) where
     section-places : Wrote (gather placeWords (placesIn which (afterPass s))) a₁ at₁ a₂ (r .at)
     section-places = wrote-as (blocks .steps (s .functions) (blocks-ready p begin) .wrote) (ap (λ (x : Pass). gather placeWords (placesIn which x)) (after-is p begin))
 
@@ -133,7 +133,7 @@ module _ {which : Section} {sheet : List ℕ} {f : HirFunction} {ws ws₁ ws₂ 
     pub section-rises : at₁ ≤ r .at
     section-rises = omega (arith, section-places .next)
 
-  pub section-put : ((s : Sheet) × Passing s sheet ws f) → {a₃ : List ℕ} → a₃ ≡ set a₂ at ((r .at - at₁) / placeWidth) → SectionPut which sheet f ws a at ws₂ a₃ (r .at)
+  pub section-put : ((s : Sheet) × Passing s sheet lists ws f) → {a₃ : List ℕ} → a₃ ≡ set a₂ at ((r .at - at₁) / placeWidth) → SectionPut which sheet lists f ws a at ws₂ a₃ (r .at)
   section-put some e = record {
     wrote = λ s p. places-patched (placesIn which (afterPass s)) put (section-places p) e;
     pass = λ s p. section-pass p;
@@ -150,22 +150,22 @@ pass-ranges : (ws : List ℕ) (fs : List InnerFunction) (q : Pass) → passOf ws
 unfolding passOf forget
 pass-ranges ws fs q e = ap (λ (x : Pass). x .ranges) e
 
-module _ {sheet : List ℕ} {f : HirFunction} {ws ws₁ a a₁ : List ℕ} {at at₁ : ℕ} (one : SectionPut Phis sheet f ws a at ws₁ a₁ at₁) where
-  pub after-one : ((s : Sheet) × Passing s sheet ws f) → (s : Sheet) × Passing s sheet ws₁ f
+module _ {sheet lists : List ℕ} {f : HirFunction} {ws ws₁ a a₁ : List ℕ} {at at₁ : ℕ} (one : SectionPut Phis sheet lists f ws a at ws₁ a₁ at₁) where
+  pub after-one : ((s : Sheet) × Passing s sheet lists ws f) → (s : Sheet) × Passing s sheet lists ws₁ f
   after-one some = (some .0, passing-kept (one .kept) (some .1))
 
-  module _ {ws₂ a₂ : List ℕ} {at₂ : ℕ} (two : SectionPut Instructions sheet f ws₁ a₁ at₁ ws₂ a₂ at₂) where
-    pub after-two : ((s : Sheet) × Passing s sheet ws f) → (s : Sheet) × Passing s sheet ws₂ f
+  module _ {ws₂ a₂ : List ℕ} {at₂ : ℕ} (two : SectionPut Instructions sheet lists f ws₁ a₁ at₁ ws₂ a₂ at₂) where
+    pub after-two : ((s : Sheet) × Passing s sheet lists ws f) → (s : Sheet) × Passing s sheet lists ws₂ f
     after-two some = (some .0, passing-kept (two .kept) (passing-kept (one .kept) (some .1)))
 
-    module _ {ws₃ a₃ : List ℕ} {at₃ : ℕ} (three : SectionPut Terminals sheet f ws₂ a₂ at₂ ws₃ a₃ at₃) where
-      all-passing : {s : Sheet} → Passing s sheet ws f → Passing s sheet ws₃ f
+    module _ {ws₃ a₃ : List ℕ} {at₃ : ℕ} (three : SectionPut Terminals sheet lists f ws₂ a₂ at₂ ws₃ a₃ at₃) where
+      all-passing : {s : Sheet} → Passing s sheet lists ws f → Passing s sheet lists ws₃ f
       all-passing p = passing-kept (three .kept) (passing-kept (two .kept) (passing-kept (one .kept) p))
 
-      pub after-three : ((s : Sheet) × Passing s sheet ws f) → (fs : List InnerFunction) × (Known sheet ws₃ fs × (f .m ≡ length fs))
+      pub after-three : ((s : Sheet) × Passing s sheet lists ws f) → (fs : List InnerFunction) × (Known lists ws₃ fs × (f .m ≡ length fs))
       after-three some = (some .0 .functions, (passing-known (all-passing (some .1)), some .1 .describes .m))
 
-      pub operands-put : {a₄ : List ℕ} {at₄ : ℕ} → InnerPut (f .m) sheet ws₃ a₃ at₃ a₄ at₄ → OperandsPut sheet f ws a at ws₃ a₄ at₄
+      pub operands-put : {a₄ : List ℕ} {at₄ : ℕ} → InnerPut (f .m) lists ws₃ a₃ at₃ a₄ at₄ → OperandsPut sheet lists f ws a at ws₃ a₄ at₄
       unfolding operandWords answer
       operands-put four = record {
         wrote = λ s p.

@@ -34,8 +34,8 @@ ofInstructions Instructions l = l
 ofInstructions Terminals l = []
 
 -- the context places of the inner function that it makes got their marks
-pub record ValueMarked (sheet : List ℕ) (i : Instruction) (ws ws′ : List ℕ) : Type 0 where
-  pub contexts : (fs : List InnerFunction) → InstructionKnown sheet ws fs i → contextsOf ws′ fs ≡ contextMarked (marksNow sheet ws i) (valueIs (i .value)) (contextsOf ws fs)
+pub record ValueMarked (sheet lists : List ℕ) (i : Instruction) (ws ws′ : List ℕ) : Type 0 where
+  pub contexts : (fs : List InnerFunction) → InstructionKnown sheet lists ws fs i → contextsOf ws′ fs ≡ contextMarked (marksNow sheet ws i) (valueIs (i .value)) (contextsOf ws fs)
   pub kept : Kept CONTEXTS PASSED ws ws′
 
 -- the starts of its operands and of those context places, then what it stores
@@ -44,12 +44,12 @@ lastRanges fs sheet i r =
     storeValue (i .order .0) (valueIs (i .value)) (each (startIf (i .order .0) (i .order .0)) (placesAt sheet (i .operands) .what ++ contextOf fs (valueIs (i .value))) r)
 
 -- they were set
-pub record AllStarted (sheet : List ℕ) (i : Instruction) (ws ws′ : List ℕ) : Type 0 where
-  pub ranges : (fs : List InnerFunction) → InstructionKnown sheet ws fs i → rangesOf ws′ ≡ lastRanges fs sheet i (rangesOf ws)
+pub record AllStarted (sheet lists : List ℕ) (i : Instruction) (ws ws′ : List ℕ) : Type 0 where
+  pub ranges : (fs : List InnerFunction) → InstructionKnown sheet lists ws fs i → rangesOf ws′ ≡ lastRanges fs sheet i (rangesOf ws)
   pub kept : Kept STARTS CONTEXTS ws ws′
 
 -- both, if there is a list of effects
-pub record ListedPassed (sheet : List ℕ) (i : Instruction) (ws ws′ : List ℕ) : Type 0 where
-  pub contexts : (fs : List InnerFunction) → InstructionKnown sheet ws fs i → contextsOf ws′ fs ≡ pick (i .listed) (contextMarked (marksNow sheet ws i) (valueIs (i .value)) (contextsOf ws fs)) (contextsOf ws fs)
-  pub ranges : (fs : List InnerFunction) → InstructionKnown sheet ws fs i → rangesOf ws′ ≡ pick (i .listed) (lastRanges fs sheet i (rangesOf ws)) (rangesOf ws)
+pub record ListedPassed (sheet lists : List ℕ) (i : Instruction) (ws ws′ : List ℕ) : Type 0 where
+  pub contexts : (fs : List InnerFunction) → InstructionKnown sheet lists ws fs i → contextsOf ws′ fs ≡ pick (i .listed) (contextMarked (marksNow sheet ws i) (valueIs (i .value)) (contextsOf ws fs)) (contextsOf ws fs)
+  pub ranges : (fs : List InnerFunction) → InstructionKnown sheet lists ws fs i → rangesOf ws′ ≡ pick (i .listed) (lastRanges fs sheet i (rangesOf ws)) (rangesOf ws)
   pub kept : Kept STARTS PASSED ws ws′

@@ -21,6 +21,10 @@ use Rattle.copies.specs.Functions.{Functions}
 abbrev pub InnerFunctions : Type 0
 InnerFunctions = List InnerFunction
 
+-- the words in which their lists stand
+abbrev pub Lists : Type 0
+Lists = List ℕ
+
 -- the places of a list
 abbrev pub placesAt : List ℕ → Listed → Part (List Place)
 placesAt sheet l = several (l .count) (wide placeWidth placeAt) sheet (l .first)
@@ -49,16 +53,15 @@ instructionIs sheet i = record {
   effects = listedIf (i .listed) (effectsIn sheet (i .effects) .what);
 }
 
--- fs are the inner functions of the sheet
-pub record Known (sheet ws : List ℕ) (fs : List InnerFunction) : Type 0 where
+-- fs are the inner functions whose lists these are
+pub record Known (lists ws : List ℕ) (fs : List InnerFunction) : Type 0 where
   pub size : LEAST ≤ length ws
-  pub functions : Functions sheet ws fs
+  pub functions : Functions lists ws fs
   pub contexts : Every (FunctionBelow mostIdentifiers) fs
   pub count : length fs ≤ mostFunctions
 
 -- the parts of an instruction of a sheet with these inner functions
-pub record InstructionKnown (sheet ws : List ℕ) (fs : List InnerFunction) (i : Instruction) : Type 0 where
-  pub known : Known sheet ws fs
+pub record InstructionIn (sheet : List ℕ) (fs : List InnerFunction) (i : Instruction) : Type 0 where
   pub below : InstructionBelow mostIdentifiers (length fs) (instructionIs sheet i)
   pub valueLvalues : placesAt sheet (i .«value_lvalues») .next ≤ length sheet
   pub operands : placesAt sheet (i .operands) .next ≤ length sheet
@@ -66,7 +69,12 @@ pub record InstructionKnown (sheet ws : List ℕ) (fs : List InnerFunction) (i :
   -- an absent list is kept as an empty one
   pub present : listOf (instructionIs sheet i) ≡ effectsIn sheet (i .effects) .what
 
+-- the same, where these functions stand in the lists
+pub record InstructionKnown (sheet lists ws : List ℕ) (fs : List InnerFunction) (i : Instruction) : Type 0 where
+  pub known : Known lists ws fs
+  pub parts : InstructionIn sheet fs i
+
 -- the context places of inner function k stand in this list
-pub record ContextOf (sheet ws : List ℕ) (k : ℕ) (l : Listed) : Type 0 where
-  pub is : (fs : List InnerFunction) → Known sheet ws fs → k < length fs → placesAt sheet l .what ≡ getD fs k noFunction .context
-  pub inside : placesAt sheet l .next ≤ length sheet
+pub record ContextOf (lists ws : List ℕ) (k : ℕ) (l : Listed) : Type 0 where
+  pub is : (fs : List InnerFunction) → Known lists ws fs → k < length fs → placesAt lists l .what ≡ getD fs k noFunction .context
+  pub inside : placesAt lists l .next ≤ length lists

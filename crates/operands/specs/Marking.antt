@@ -16,16 +16,16 @@ use Rattle.operands.specs.Contexts.{contextsOf}
 use Rattle.operands.specs.Known.{Known}
 
 -- the context places of inner function k got these marks, else Read
-pub record Marking (ms : List Mark) (k : ℕ) (sheet ws ws′ : List ℕ) : Type 0 where
-  pub contexts : (fs : List InnerFunction) → Known sheet ws fs → k < length fs → contextsOf ws′ fs ≡ set (contextsOf ws fs) k (map (withMark ms readEffect) (getD (contextsOf ws fs) k []))
+pub record Marking (ms : List Mark) (k : ℕ) (lists ws ws′ : List ℕ) : Type 0 where
+  pub contexts : (fs : List InnerFunction) → Known lists ws fs → k < length fs → contextsOf ws′ fs ≡ set (contextsOf ws fs) k (map (withMark ms readEffect) (getD (contextsOf ws fs) k []))
   pub kept : Kept CONTEXTS PASSED ws ws′
 
 -- the context places of inner function k were written
-pub record ContextPut (k : ℕ) (sheet ws answer : List ℕ) (at : ℕ) (answer′ : List ℕ) (r : ℕ) : Type 0 where
-  pub wrote : (fs : List InnerFunction) → Known sheet ws fs → k < length fs → Wrote (gather placeWords (getD (contextsOf ws fs) k [])) answer at answer′ r
+pub record ContextPut (k : ℕ) (lists ws answer : List ℕ) (at : ℕ) (answer′ : List ℕ) (r : ℕ) : Type 0 where
+  pub wrote : (fs : List InnerFunction) → Known lists ws fs → k < length fs → Wrote (gather placeWords (getD (contextsOf ws fs) k [])) answer at answer′ r
   pub few : r ≤ at + placeWidth * mostInnerContext
 
 -- those of all `count` inner functions
-pub record ContextsPut (count : ℕ) (sheet ws answer : List ℕ) (at : ℕ) (answer′ : List ℕ) (r : ℕ) : Type 0 where
-  pub wrote : (fs : List InnerFunction) → Known sheet ws fs → count ≡ length fs → Wrote (gather placeWords (gather (λ (l : List Place). l) (contextsOf ws fs))) answer at answer′ r
+pub record ContextsPut (count : ℕ) (lists ws answer : List ℕ) (at : ℕ) (answer′ : List ℕ) (r : ℕ) : Type 0 where
+  pub wrote : (fs : List InnerFunction) → Known lists ws fs → count ≡ length fs → Wrote (gather placeWords (gather (λ (l : List Place). l) (contextsOf ws fs))) answer at answer′ r
   pub few : r ≤ at + placeWidth * mostInnerContext * count

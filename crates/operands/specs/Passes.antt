@@ -36,14 +36,14 @@ placesIn Instructions p = p .instructions
 placesIn Terminals p = p .terminals
 
 -- a part of the sheet with these inner functions can be passed over
-pub record Ready {A : Type 0} (f : Standing A) (Below : List InnerFunction → A → Type 0) (sheet ws : List ℕ) (c : Position) (fs : List InnerFunction) : Type 0 where
-  pub known : Known sheet ws fs
+pub record Ready {A : Type 0} (f : Standing A) (Below : List InnerFunction → A → Type 0) (sheet lists ws : List ℕ) (c : Position) (fs : List InnerFunction) : Type 0 where
+  pub known : Known lists ws fs
   pub below : Below fs (f sheet c .what)
 
 -- it stands in the sheet, and there is room to count on
-pub record Passable {A : Type 0} (f : Standing A) (Below : List InnerFunction → A → Type 0) (sheet ws : List ℕ) (c : Position) (at : ℕ) : Type 0 where
+pub record Passable {A : Type 0} (f : Standing A) (Below : List InnerFunction → A → Type 0) (sheet lists ws : List ℕ) (c : Position) (at : ℕ) : Type 0 where
   pub functions : List InnerFunction
-  pub ready : Ready f Below sheet ws c functions
+  pub ready : Ready f Below sheet lists ws c functions
   pub inside : f sheet c .next ≤ length sheet
   pub room : at + length sheet ≤ farthest + c
 
@@ -53,8 +53,8 @@ pub record Steps (step : Pass → Pass) (section : Section) (fs : List InnerFunc
   pub wrote : Wrote (gather placeWords (placesIn section (step (passOf ws fs)))) answer at answer′ at′
 
 -- the part at c was passed over
-pub record Passed {A : Type 0} (f : Standing A) (Below : List InnerFunction → A → Type 0) (step : List InnerFunction → A → Pass → Pass) (section : Section) (sheet : List ℕ) (c : Position) (ws answer : List ℕ) (at : ℕ) (ws′ answer′ : List ℕ) (r : Copied) : Type 0 where
-  pub steps : (fs : List InnerFunction) → Ready f Below sheet ws c fs → Steps (step fs (f sheet c .what)) section fs ws answer at ws′ answer′ (r .at)
+pub record Passed {A : Type 0} (f : Standing A) (Below : List InnerFunction → A → Type 0) (step : List InnerFunction → A → Pass → Pass) (section : Section) (sheet lists : List ℕ) (c : Position) (ws answer : List ℕ) (at : ℕ) (ws′ answer′ : List ℕ) (r : Copied) : Type 0 where
+  pub steps : (fs : List InnerFunction) → Ready f Below sheet lists ws c fs → Steps (step fs (f sheet c .what)) section fs ws answer at ws′ answer′ (r .at)
   pub kept : Kept STARTS PASSED ws ws′
   pub after : r .next ≡ f sheet c .next
   pub few : r .at + c ≤ at + r .next

@@ -22,15 +22,15 @@ use Rattle.operands.specs.Contexts.{contextsOf}
 use Rattle.operands.specs.Known.{Known}
 use Rattle.operands.specs.Passes.{placesIn, passOf, forget}
 
--- what the pass asks of the workspace: where each inner function stands in the sheet (the tracked places have their marks by now, so not `Stands`)
-pub record Standing (s : Sheet) (sheet ws : List ℕ) : Type 0 where
+-- what the pass asks of the workspace: where each inner function stands in the lists (the tracked places have their marks by now, so not `Stands`)
+pub record Standing (s : Sheet) (lists ws : List ℕ) : Type 0 where
   pub size : LEAST ≤ length ws
-  pub functions : Functions sheet ws (s .functions)
+  pub functions : Functions lists ws (s .functions)
 
 -- the pass over s can run: its ends are those before the pass
-pub record Passing (s : Sheet) (sheet ws : List ℕ) (f : HirFunction) : Type 0 where
+pub record Passing (s : Sheet) (sheet lists ws : List ℕ) (f : HirFunction) : Type 0 where
   pub describes : Describes s sheet f
-  pub stands : Standing s sheet ws
+  pub stands : Standing s lists ws
   pub below : SheetBelow s
   pub ends : slice END SEEN ws ≡ endsBefore s
 
@@ -39,9 +39,9 @@ abbrev pub mostSection : ℕ
 mostSection = 1 + mostSheet
 
 -- the section was written, and the words have what the pass leaves
-pub record SectionPut (which : Section) (sheet : List ℕ) (f : HirFunction) (ws ans : List ℕ) (at : ℕ) (ws′ ans′ : List ℕ) (r : ℕ) : Type 0 where
-  pub wrote : (s : Sheet) → Passing s sheet ws f → Wrote (section placeWords (placesIn which (afterPass s))) ans at ans′ r
-  pub pass : (s : Sheet) → Passing s sheet ws f → passOf ws′ (s .functions) ≡ forget (afterPass s)
+pub record SectionPut (which : Section) (sheet lists : List ℕ) (f : HirFunction) (ws ans : List ℕ) (at : ℕ) (ws′ ans′ : List ℕ) (r : ℕ) : Type 0 where
+  pub wrote : (s : Sheet) → Passing s sheet lists ws f → Wrote (section placeWords (placesIn which (afterPass s))) ans at ans′ r
+  pub pass : (s : Sheet) → Passing s sheet lists ws f → passOf ws′ (s .functions) ≡ forget (afterPass s)
   pub kept : Kept STARTS PASSED ws ws′
   pub few : r ≤ at + mostSection
 
@@ -50,8 +50,8 @@ abbrev pub mostInner : ℕ
 mostInner = 1 + placeWidth * mostInnerContext * mostFunctions
 
 -- it was written
-pub record InnerPut (count : ℕ) (sheet ws ans : List ℕ) (at : ℕ) (ans′ : List ℕ) (r : ℕ) : Type 0 where
-  pub wrote : (fs : List InnerFunction) → Known sheet ws fs → count ≡ length fs → Wrote (section placeWords (gather (λ (l : List Place). l) (contextsOf ws fs))) ans at ans′ r
+pub record InnerPut (count : ℕ) (lists ws ans : List ℕ) (at : ℕ) (ans′ : List ℕ) (r : ℕ) : Type 0 where
+  pub wrote : (fs : List InnerFunction) → Known lists ws fs → count ≡ length fs → Wrote (section placeWords (gather (λ (l : List Place). l) (contextsOf ws fs))) ans at ans′ r
   pub few : r ≤ at + mostInner
 
 -- the words of the four sections
@@ -59,8 +59,8 @@ abbrev pub mostOperandWords : ℕ
 mostOperandWords = 3 * mostSection + mostInner
 
 -- the four sections were written, and the ranges in the words are those after the pass
-pub record OperandsPut (sheet : List ℕ) (f : HirFunction) (ws ans : List ℕ) (at : ℕ) (ws′ ans′ : List ℕ) (r : ℕ) : Type 0 where
-  pub wrote : (s : Sheet) → Passing s sheet ws f → Wrote (operandWords (answer s)) ans at ans′ r
-  pub ranges : (s : Sheet) → Passing s sheet ws f → rangesOf ws′ ≡ afterPass s .ranges
+pub record OperandsPut (sheet lists : List ℕ) (f : HirFunction) (ws ans : List ℕ) (at : ℕ) (ws′ ans′ : List ℕ) (r : ℕ) : Type 0 where
+  pub wrote : (s : Sheet) → Passing s sheet lists ws f → Wrote (operandWords (answer s)) ans at ans′ r
+  pub ranges : (s : Sheet) → Passing s sheet lists ws f → rangesOf ws′ ≡ afterPass s .ranges
   pub kept : Kept STARTS PASSED ws ws′
   pub few : r ≤ at + mostOperandWords

@@ -32,6 +32,7 @@ fn first_order(sheet: &[u32], from: usize) -> EvaluationOrder
 // A block: phis, instructions, terminal.
 fn pass_block(
     sheet: &[u32],
+    lists: &[u32],
     from: usize,
     expression: bool,
     section: Section,
@@ -39,19 +40,20 @@ fn pass_block(
     answer: &mut [u32],
     at: usize,
 ) -> Copied
-    requires { ⌜ Passable blockFrom BlockOf (now sheet) (now ws) from at ⌝ }
-    ensures { λ r. ⌜ Passed blockFrom BlockOf (block expression) section (now (sheet .entry)) from (now (ws .entry)) (now (answer .entry)) at (now (ws .exit)) (now (answer .exit)) r ⌝ }
+    requires { ⌜ Passable blockFrom BlockOf (now sheet) (now lists) (now ws) from at ⌝ }
+    ensures { λ r. ⌜ Passed blockFrom BlockOf (block expression) section (now (sheet .entry)) (now (lists .entry)) from (now (ws .entry)) (now (answer .entry)) at (now (ws .exit)) (now (answer .exit)) r ⌝ }
 {
     let inside = past_phis(sheet, from + 1);
     let order = first_order(sheet, inside);
     let p = pass_phis(sheet, from + 1, order, section, ws, answer, at);
-    let i = pass_instructions(sheet, p.next, section, ws, answer, p.at);
+    let i = pass_instructions(sheet, lists, p.next, section, ws, answer, p.at);
     pass_terminal(sheet, i.next, expression, section, ws, answer, i.at)
 }
 
 // `count` blocks.
 pub fn pass_blocks(
     sheet: &[u32],
+    lists: &[u32],
     from: usize,
     count: u32,
     expression: bool,
@@ -60,14 +62,14 @@ pub fn pass_blocks(
     answer: &mut [u32],
     at: usize,
 ) -> Copied
-    requires { ⌜ Passable (several count blockFrom) (λ (fs : InnerFunctions). Every (BlockOf fs)) (now sheet) (now ws) from at ⌝ }
-    ensures { λ r. ⌜ Passed (several count blockFrom) (λ (fs : InnerFunctions). Every (BlockOf fs)) (λ (fs : InnerFunctions). each (block expression fs)) section (now (sheet .entry)) from (now (ws .entry)) (now (answer .entry)) at (now (ws .exit)) (now (answer .exit)) r ⌝ }
+    requires { ⌜ Passable (several count blockFrom) (λ (fs : InnerFunctions). Every (BlockOf fs)) (now sheet) (now lists) (now ws) from at ⌝ }
+    ensures { λ r. ⌜ Passed (several count blockFrom) (λ (fs : InnerFunctions). Every (BlockOf fs)) (λ (fs : InnerFunctions). each (block expression fs)) section (now (sheet .entry)) (now (lists .entry)) from (now (ws .entry)) (now (answer .entry)) at (now (ws .exit)) (now (answer .exit)) r ⌝ }
 {
     let mut left = count;
     let mut next = from;
     let mut to = at;
     while 0 < left {
-        let r = pass_block(sheet, next, expression, section, ws, answer, to);
+        let r = pass_block(sheet, lists, next, expression, section, ws, answer, to);
         to = r.at;
         next = r.next;
         left -= 1;

@@ -3,24 +3,20 @@ ghost use mathlib.Core.Path.{_≡_};
 ghost use mathlib.Core.List.{map};
 ghost use Prim.Native.Nat.{_+_, _*_, _≤_};
 ghost use lib.ListN.{length};
-ghost use Rattle.model.specs.Limits.{placeWidth, operandWidth};
+ghost use Rattle.model.specs.Limits.{placeWidth};
 ghost use Rattle.model.specs.Lists.{gather};
-ghost use Rattle.model.specs.Sheet.{Place as ModelPlace, Operand};
+ghost use Rattle.model.specs.Sheet.{Place as ModelPlace};
 ghost use Rattle.model.specs.Answer.{placeWords};
 ghost use Rattle.model.specs.Marks.{withEffect};
 ghost use Rattle.hir.specs.Numbers.{effectNumber};
 ghost use Rattle.hir.specs.Says.{placeIs};
-ghost use Rattle.hir.specs.Words.{wide, operandAt, several};
 ghost use Rattle.writing.specs.Wrote.{Wrote, farthest};
-ghost use Rattle.operands.specs.Given.{givenTo, wordGives};
-ghost use Rattle.operands.specs.Known.{placesAt};
+ghost use Rattle.operands.specs.Given.{givenTo, wordGives, lastPlaces};
 use copies::put_place;
 use hir::Effect;
 use hir::Place;
 use hir::at::List;
-use hir::at::OPERAND_WIDTH;
 use hir::at::PLACE_WIDTH;
-use hir::at::operand_at;
 use hir::at::place_at;
 use hir::places::effect_in;
 
@@ -63,37 +59,27 @@ pub fn given_by(word: u32) -> Given
     Given::Marked(effect_in(word - 1))
 }
 
-// The places of a list.
-pub fn put_places(sheet: &[u32], list: List, given: Given, answer: &mut [u32], at: usize) -> usize
-    requires { ⌜ placesAt (now sheet) list .next ≤ length (now sheet) ⌝ }
+// The places of a list whose parts have `width` words: each ends with its place.
+pub fn put_places(
+    sheet: &[u32],
+    list: List,
+    width: usize,
+    given: Given,
+    answer: &mut [u32],
+    at: usize,
+) -> usize
+    requires { ⌜ (placeWidth ≤ width) × (lastPlaces width (now sheet) list .next ≤ length (now sheet)) ⌝ }
     requires { ⌜ at + placeWidth * list .count ≤ farthest ⌝ }
-    ensures { λ r. ⌜ Wrote (gather placeWords (map (givenTo given) (placesAt (now (sheet .entry)) list .what))) (now (answer .entry)) at (now (answer .exit)) r ⌝ }
+    ensures { λ r. ⌜ Wrote (gather placeWords (map (givenTo given) (lastPlaces width (now (sheet .entry)) list .what))) (now (answer .entry)) at (now (answer .exit)) r ⌝ }
 {
+    let before = width - PLACE_WIDTH;
     let mut left = list.count;
     let mut next = list.first;
     let mut to = at;
     while 0 < left {
-        let p = place_at(sheet, next);
+        let p = place_at(sheet, next + before);
         to = put_place(answer, to, give(p, given));
-        next += PLACE_WIDTH;
-        left -= 1;
-    }
-    to
-}
-
-// The places of phi operands.
-pub fn put_operands(sheet: &[u32], list: List, given: Given, answer: &mut [u32], at: usize) -> usize
-    requires { ⌜ several (list .count) (wide operandWidth operandAt) (now sheet) (list .first) .next ≤ length (now sheet) ⌝ }
-    requires { ⌜ at + placeWidth * list .count ≤ farthest ⌝ }
-    ensures { λ r. ⌜ Wrote (gather placeWords (map (λ (o : Operand). givenTo given (o .place)) (several (list .count) (wide operandWidth operandAt) (now (sheet .entry)) (list .first) .what))) (now (answer .entry)) at (now (answer .exit)) r ⌝ }
-{
-    let mut left = list.count;
-    let mut next = list.first;
-    let mut to = at;
-    while 0 < left {
-        let o = operand_at(sheet, next);
-        to = put_place(answer, to, give(o.place, given));
-        next += OPERAND_WIDTH;
+        next += width;
         left -= 1;
     }
     to

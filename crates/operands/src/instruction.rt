@@ -1,13 +1,15 @@
 // The instructions of a block.
 ghost use Prim.Native.Nat.{_+_, _*_, _≤_};
+ghost use lib.ListN.{length};
 ghost use Rattle.model.specs.Limits.{placeWidth};
 ghost use Rattle.model.specs.Lists.{gather, each, Every};
 ghost use Rattle.model.specs.Answer.{placeWords};
 ghost use Rattle.model.specs.Operands.{nameLvalues, instructionPlaces, instruction};
 ghost use Rattle.hir.specs.Words.{instructionFrom, instructionsFrom};
+ghost use Rattle.workspace.specs.Layout.{LEAST};
 ghost use Rattle.writing.specs.Wrote.{Wrote, farthest};
 ghost use Rattle.operands.specs.Ranges.{Ranged};
-ghost use Rattle.operands.specs.Known.{InnerFunctions, instructionIs, InstructionKnown};
+ghost use Rattle.operands.specs.Known.{InnerFunctions, instructionIs, InstructionIn, InstructionKnown};
 ghost use Rattle.operands.specs.Instruction.{marksNow, ofInstructions, BelowOf, ValueMarked, AllStarted, ListedPassed};
 ghost use Rattle.operands.specs.Passes.{Passable, Passed};
 use crate::Section;
@@ -31,7 +33,7 @@ use hir::at::list_at;
 
 // First the lvalues' ranges.
 fn name_all(sheet: &[u32], i: Instruction, ws: &mut [u32])
-    requires { ⌜ ((fs : InnerFunctions) × InstructionKnown (now sheet) (now ws) fs i) ⌝ }
+    requires { ⌜ (LEAST ≤ length (now ws)) × ((fs : InnerFunctions) × InstructionIn (now sheet) fs i) ⌝ }
     ensures { λ _. ⌜ Ranged (nameLvalues (instructionIs (now (sheet .entry)) i)) (now (ws .entry)) (now (ws .exit)) ⌝ }
 {
     name_lvalue(ws, i.lvalue, i.order);
@@ -40,7 +42,7 @@ fn name_all(sheet: &[u32], i: Instruction, ws: &mut [u32])
 
 // Its places with the marks of its effects: lvalues, else ConditionallyMutate; then operands, else Read.
 fn put_uses(sheet: &[u32], i: Instruction, ws: &[u32], answer: &mut [u32], at: usize) -> usize
-    requires { ⌜ ((fs : InnerFunctions) × InstructionKnown (now sheet) (now ws) fs i) ⌝ }
+    requires { ⌜ (LEAST ≤ length (now ws)) × ((fs : InnerFunctions) × InstructionIn (now sheet) fs i) ⌝ }
     requires { ⌜ at + placeWidth * (1 + i .«value_lvalues» .count + i .operands .count) ≤ farthest ⌝ }
     ensures { λ r. ⌜ Wrote (gather placeWords (instructionPlaces (marksNow (now (sheet .entry)) (now (ws .entry)) i) (instructionIs (now (sheet .entry)) i))) (now (answer .entry)) at (now (answer .exit)) r ⌝ }
 {
@@ -85,7 +87,7 @@ fn put_instruction(
     answer: &mut [u32],
     at: usize,
 ) -> usize
-    requires { ⌜ ((fs : InnerFunctions) × InstructionKnown (now sheet) (now ws) fs i) ⌝ }
+    requires { ⌜ (LEAST ≤ length (now ws)) × ((fs : InnerFunctions) × InstructionIn (now sheet) fs i) ⌝ }
     requires { ⌜ at + placeWidth * (1 + i .«value_lvalues» .count + i .operands .count) ≤ farthest ⌝ }
     ensures { λ r. ⌜ Wrote (gather placeWords (ofInstructions section (instructionPlaces (marksNow (now (sheet .entry)) (now (ws .entry)) i) (instructionIs (now (sheet .entry)) i)))) (now (answer .entry)) at (now (answer .exit)) r ⌝ }
 {
@@ -96,61 +98,62 @@ fn put_instruction(
 }
 
 // The marks of the context places of the inner function that it makes.
-fn mark_value(sheet: &[u32], i: Instruction, ws: &mut [u32])
-    requires { ⌜ ((fs : InnerFunctions) × InstructionKnown (now sheet) (now ws) fs i) ⌝ }
-    ensures { λ _. ⌜ ValueMarked (now (sheet .entry)) i (now (ws .entry)) (now (ws .exit)) ⌝ }
+fn mark_value(sheet: &[u32], lists: &[u32], i: Instruction, ws: &mut [u32])
+    requires { ⌜ ((fs : InnerFunctions) × InstructionKnown (now sheet) (now lists) (now ws) fs i) ⌝ }
+    ensures { λ _. ⌜ ValueMarked (now (sheet .entry)) (now (lists .entry)) i (now (ws .entry)) (now (ws .exit)) ⌝ }
 {
     let value = i.value;
     match value {
-        InstructionValue::Function(k) => mark_context(sheet, k, i.effects, ws, i.order),
+        InstructionValue::Function(k) => mark_context(sheet, lists, k, i.effects, ws, i.order),
         _ => {}
     }
 }
 
 // The starts of its operands, then of those context places; last what it stores.
-fn start_all(sheet: &[u32], i: Instruction, ws: &mut [u32])
-    requires { ⌜ ((fs : InnerFunctions) × InstructionKnown (now sheet) (now ws) fs i) ⌝ }
-    ensures { λ _. ⌜ AllStarted (now (sheet .entry)) i (now (ws .entry)) (now (ws .exit)) ⌝ }
+fn start_all(sheet: &[u32], lists: &[u32], i: Instruction, ws: &mut [u32])
+    requires { ⌜ ((fs : InnerFunctions) × InstructionKnown (now sheet) (now lists) (now ws) fs i) ⌝ }
+    ensures { λ _. ⌜ AllStarted (now (sheet .entry)) (now (lists .entry)) i (now (ws .entry)) (now (ws .exit)) ⌝ }
 {
     start_operands(sheet, i.operands, ws, i.order);
     let value = i.value;
     match value {
         InstructionValue::Plain => {}
         InstructionValue::Function(k) => {
-            let context = context_of(sheet, ws, k);
-            start_operands(sheet, context, ws, i.order);
+            let context = context_of(lists, ws, k);
+            start_operands(lists, context, ws, i.order);
         }
         InstructionValue::StoreContext(x) => store(ws, x, i.order),
     }
 }
 
 // What only an instruction with a list of effects does.
-fn pass_listed(sheet: &[u32], i: Instruction, ws: &mut [u32])
-    requires { ⌜ ((fs : InnerFunctions) × InstructionKnown (now sheet) (now ws) fs i) ⌝ }
-    ensures { λ _. ⌜ ListedPassed (now (sheet .entry)) i (now (ws .entry)) (now (ws .exit)) ⌝ }
+fn pass_listed(sheet: &[u32], lists: &[u32], i: Instruction, ws: &mut [u32])
+    requires { ⌜ ((fs : InnerFunctions) × InstructionKnown (now sheet) (now lists) (now ws) fs i) ⌝ }
+    ensures { λ _. ⌜ ListedPassed (now (sheet .entry)) (now (lists .entry)) i (now (ws .entry)) (now (ws .exit)) ⌝ }
 {
     if i.listed {
-        mark_value(sheet, i, ws);
-        start_all(sheet, i, ws);
+        mark_value(sheet, lists, i, ws);
+        start_all(sheet, lists, i, ws);
     }
 }
 
 // An instruction.
 fn pass_instruction(
     sheet: &[u32],
+    lists: &[u32],
     from: usize,
     section: Section,
     ws: &mut [u32],
     answer: &mut [u32],
     at: usize,
 ) -> Copied
-    requires { ⌜ Passable instructionFrom BelowOf (now sheet) (now ws) from at ⌝ }
-    ensures { λ r. ⌜ Passed instructionFrom BelowOf instruction section (now (sheet .entry)) from (now (ws .entry)) (now (answer .entry)) at (now (ws .exit)) (now (answer .exit)) r ⌝ }
+    requires { ⌜ Passable instructionFrom BelowOf (now sheet) (now lists) (now ws) from at ⌝ }
+    ensures { λ r. ⌜ Passed instructionFrom BelowOf instruction section (now (sheet .entry)) (now (lists .entry)) from (now (ws .entry)) (now (answer .entry)) at (now (ws .exit)) (now (answer .exit)) r ⌝ }
 {
     let i = instruction_at(sheet, from);
     name_all(sheet, i, ws);
     let to = put_instruction(sheet, i, section, ws, answer, at);
-    pass_listed(sheet, i, ws);
+    pass_listed(sheet, lists, i, ws);
     let effects = i.effects;
     Copied {
         at: to,
@@ -161,21 +164,22 @@ fn pass_instruction(
 // A block's instructions.
 pub fn pass_instructions(
     sheet: &[u32],
+    lists: &[u32],
     from: usize,
     section: Section,
     ws: &mut [u32],
     answer: &mut [u32],
     at: usize,
 ) -> Copied
-    requires { ⌜ Passable instructionsFrom (λ (fs : InnerFunctions). Every (BelowOf fs)) (now sheet) (now ws) from at ⌝ }
-    ensures { λ r. ⌜ Passed instructionsFrom (λ (fs : InnerFunctions). Every (BelowOf fs)) (λ (fs : InnerFunctions). each (instruction fs)) section (now (sheet .entry)) from (now (ws .entry)) (now (answer .entry)) at (now (ws .exit)) (now (answer .exit)) r ⌝ }
+    requires { ⌜ Passable instructionsFrom (λ (fs : InnerFunctions). Every (BelowOf fs)) (now sheet) (now lists) (now ws) from at ⌝ }
+    ensures { λ r. ⌜ Passed instructionsFrom (λ (fs : InnerFunctions). Every (BelowOf fs)) (λ (fs : InnerFunctions). each (instruction fs)) section (now (sheet .entry)) (now (lists .entry)) from (now (ws .entry)) (now (answer .entry)) at (now (ws .exit)) (now (answer .exit)) r ⌝ }
 {
     let list = list_at(sheet, from);
     let mut left = list.count;
     let mut next = list.first;
     let mut to = at;
     while 0 < left {
-        let r = pass_instruction(sheet, next, section, ws, answer, to);
+        let r = pass_instruction(sheet, lists, next, section, ws, answer, to);
         to = r.at;
         next = r.next;
         left -= 1;

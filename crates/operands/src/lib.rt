@@ -36,21 +36,23 @@ pub enum Section {
 // One section of places: the pass from its beginning.
 fn put_section(
     sheet: &[u32],
+    lists: &[u32],
     f: HirFunction,
     section: Section,
     ws: &mut [u32],
     answer: &mut [u32],
     at: usize,
 ) -> usize
-    requires { ⌜ Limited f × ((s : Sheet) × Passing s (now sheet) (now ws) f) ⌝ }
+    requires { ⌜ Limited f × ((s : Sheet) × Passing s (now sheet) (now lists) (now ws) f) ⌝ }
     requires { ⌜ at + mostSection ≤ farthest ⌝ }
-    ensures { λ r. ⌜ SectionPut section (now (sheet .entry)) f (now (ws .entry)) (now (answer .entry)) at (now (ws .exit)) (now (answer .exit)) r ⌝ }
+    ensures { λ r. ⌜ SectionPut section (now (sheet .entry)) (now (lists .entry)) f (now (ws .entry)) (now (answer .entry)) at (now (ws .exit)) (now (answer .exit)) r ⌝ }
 {
     begin::begin(sheet, f.identifiers, ws);
     let start = put(answer, at, 0);
     let blocks = f.blocks;
     let r = blocks::pass_blocks(
         sheet,
+        lists,
         blocks.first,
         blocks.count,
         f.function_expression,
@@ -64,31 +66,32 @@ fn put_section(
 }
 
 // The section of inner contexts.
-fn put_inner(sheet: &[u32], functions: u32, ws: &[u32], answer: &mut [u32], at: usize) -> usize
-    requires { ⌜ ((fs : InnerFunctions) × (Known (now sheet) (now ws) fs × (functions ≡ length fs))) ⌝ }
+fn put_inner(lists: &[u32], functions: u32, ws: &[u32], answer: &mut [u32], at: usize) -> usize
+    requires { ⌜ ((fs : InnerFunctions) × (Known (now lists) (now ws) fs × (functions ≡ length fs))) ⌝ }
     requires { ⌜ at + mostInner ≤ farthest ⌝ }
-    ensures { λ r. ⌜ InnerPut functions (now (sheet .entry)) (now (ws .entry)) (now (answer .entry)) at (now (answer .exit)) r ⌝ }
+    ensures { λ r. ⌜ InnerPut functions (now (lists .entry)) (now (ws .entry)) (now (answer .entry)) at (now (answer .exit)) r ⌝ }
 {
     let start = put(answer, at, 0);
-    let to = contexts::put_contexts(sheet, ws, functions, answer, start);
+    let to = contexts::put_contexts(lists, ws, functions, answer, start);
     patch(answer, at, ((to - start) / PLACE_WIDTH) as u32);
     to
 }
 
-// The four sections of places: phis, instructions, terminals, inner. The ranges after the pass are left in the workspace.
+// The four sections of places: phis, instructions, terminals, inner; the context places of inner functions stand in `lists`. The ranges after the pass are left in the workspace.
 pub fn put_operands(
     sheet: &[u32],
+    lists: &[u32],
     f: HirFunction,
     ws: &mut [u32],
     answer: &mut [u32],
     at: usize,
 ) -> usize
-    requires { ⌜ Limited f × ((s : Sheet) × Passing s (now sheet) (now ws) f) ⌝ }
+    requires { ⌜ Limited f × ((s : Sheet) × Passing s (now sheet) (now lists) (now ws) f) ⌝ }
     requires { ⌜ at + mostOperandWords ≤ farthest ⌝ }
-    ensures { λ r. ⌜ OperandsPut (now (sheet .entry)) f (now (ws .entry)) (now (answer .entry)) at (now (ws .exit)) (now (answer .exit)) r ⌝ }
+    ensures { λ r. ⌜ OperandsPut (now (sheet .entry)) (now (lists .entry)) f (now (ws .entry)) (now (answer .entry)) at (now (ws .exit)) (now (answer .exit)) r ⌝ }
 {
-    let a = put_section(sheet, f, Section::Phis, ws, answer, at);
-    let b = put_section(sheet, f, Section::Instructions, ws, answer, a);
-    let c = put_section(sheet, f, Section::Terminals, ws, answer, b);
-    put_inner(sheet, f.m, ws, answer, c)
+    let a = put_section(sheet, lists, f, Section::Phis, ws, answer, at);
+    let b = put_section(sheet, lists, f, Section::Instructions, ws, answer, a);
+    let c = put_section(sheet, lists, f, Section::Terminals, ws, answer, b);
+    put_inner(lists, f.m, ws, answer, c)
 }

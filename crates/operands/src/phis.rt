@@ -14,12 +14,12 @@ ghost use Rattle.writing.specs.Wrote.{Wrote, farthest};
 ghost use Rattle.operands.specs.Ranges.{rangesOf, Ranged};
 ghost use Rattle.operands.specs.Given.{givenPhi};
 ghost use Rattle.operands.specs.Phis.{phiIdentifier, phisIn, PhisBelow, PlacesPut};
-ghost use Rattle.operands.specs.Known.{InnerFunctions};
+ghost use Rattle.operands.specs.Known.{InnerFunctions, Lists};
 ghost use Rattle.operands.specs.Passes.{Passable, Passed};
 use crate::Section;
 use crate::given::Given;
 use crate::given::give;
-use crate::given::put_operands;
+use crate::given::put_places;
 use crate::marks::capture_or_read;
 use crate::ranges::start_if;
 use copies::Copied;
@@ -29,6 +29,7 @@ use hir::Effect;
 use hir::EvaluationOrder;
 use hir::IdentifierId;
 use hir::at::List;
+use hir::at::OPERAND_WIDTH;
 use hir::at::list_at;
 use hir::at::phi_at;
 
@@ -64,7 +65,7 @@ fn put_phi(
 {
     let phi = phi_at(sheet, from);
     let to = put_place(answer, at, give(phi.place, place));
-    put_operands(sheet, phi.operands, operands, answer, to)
+    put_places(sheet, phi.operands, OPERAND_WIDTH, operands, answer, to)
 }
 
 // The phis' places: of those with one identifier only the first is marked, as the original finds them by identifier.
@@ -137,8 +138,8 @@ pub fn pass_phis(
     answer: &mut [u32],
     at: usize,
 ) -> Copied
-    requires { ⌜ Passable phisFrom PhisBelow (now sheet) (now ws) from at ⌝ }
-    ensures { λ r. ⌜ Passed phisFrom PhisBelow (λ (fs : InnerFunctions). phis (order .0)) section (now (sheet .entry)) from (now (ws .entry)) (now (answer .entry)) at (now (ws .exit)) (now (answer .exit)) r ⌝ }
+    requires { ⌜ ((lists : Lists) × Passable phisFrom PhisBelow (now sheet) lists (now ws) from at) ⌝ }
+    ensures { λ r. ⌜ ((lists : Lists) → Passed phisFrom PhisBelow (λ (fs : InnerFunctions). phis (order .0)) section (now (sheet .entry)) lists from (now (ws .entry)) (now (answer .entry)) at (now (ws .exit)) (now (answer .exit)) r) ⌝ }
 {
     let list = list_at(sheet, from);
     let to = match section {

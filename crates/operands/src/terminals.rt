@@ -9,7 +9,7 @@ ghost use Rattle.hir.specs.Numbers.{effectNumber};
 ghost use Rattle.hir.specs.Words.{terminalFrom};
 ghost use Rattle.writing.specs.Wrote.{farthest};
 ghost use Rattle.operands.specs.Phis.{PlacesPut};
-ghost use Rattle.operands.specs.Known.{InnerFunctions};
+ghost use Rattle.operands.specs.Known.{InnerFunctions, Lists};
 ghost use Rattle.operands.specs.Passes.{AnyTerminal, Passable, Passed};
 use crate::Section;
 use crate::given::Given;
@@ -19,6 +19,7 @@ use copies::Copied;
 use copies::past::past_terminal;
 use copies::put_place;
 use hir::Effect;
+use hir::at::PLACE_WIDTH;
 use hir::at::Terminal;
 use hir::at::terminal_at;
 
@@ -48,6 +49,7 @@ fn put_terminal(
         Terminal::Other(operands) => put_places(
             sheet,
             operands,
+            PLACE_WIDTH,
             Given::Marked(Effect::Read),
             answer,
             at,
@@ -71,8 +73,8 @@ pub fn pass_terminal(
     answer: &mut [u32],
     at: usize,
 ) -> Copied
-    requires { ⌜ Passable terminalFrom AnyTerminal (now sheet) (now ws) from at ⌝ }
-    ensures { λ r. ⌜ Passed terminalFrom AnyTerminal (λ (fs : InnerFunctions). terminal expression) section (now (sheet .entry)) from (now (ws .entry)) (now (answer .entry)) at (now (ws .entry)) (now (answer .exit)) r ⌝ }
+    requires { ⌜ ((lists : Lists) × Passable terminalFrom AnyTerminal (now sheet) lists (now ws) from at) ⌝ }
+    ensures { λ r. ⌜ ((lists : Lists) → Passed terminalFrom AnyTerminal (λ (fs : InnerFunctions). terminal expression) section (now (sheet .entry)) lists from (now (ws .entry)) (now (answer .entry)) at (now (ws .entry)) (now (answer .exit)) r) ⌝ }
 {
     let to = match section {
         Section::Terminals => put_terminal(sheet, from, expression, answer, at),

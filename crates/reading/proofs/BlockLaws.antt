@@ -15,7 +15,7 @@ use Rattle.model.specs.Sections.{place, placeAsking, effectAfter, instructionVa
 use Rattle.model.specs.Effects.{kindOf}
 use Rattle.model.specs.Totals.{over}
 use Rattle.model.specs.Traits.{effectOf, reactiveOf}
-use Rattle.model.proofs.Ahead.{after-kind}
+use Rattle.model.proofs.SheetAhead.{after-kind}
 use Rattle.model.proofs.Got.{got-next, not-both, bind-got}
 use Rattle.model.specs.Asking.{effect, effects, operand, phi, instruction, terminalOf, terminal, block, tellEffect, tellOperand, tellPhi, tellInstruction, tellTerminal, tellBlock}
 use Rattle.reading.specs.Judging.{Told, telling, judge, withRelation, tellKind, totalsOf, askTold, counting, judgedValue, instructionEffects, terminalEffects, blocksOf}
@@ -208,12 +208,6 @@ module _ (n m : ℕ) (t : Told) (ws : List ℕ) (c : Position) where
       (λ k e2. rw (e1, e2)))
       (λ k e1. rw e1)
 
-  -- a terminal after its kind and order
-  pub terminal-got : (k o : ℕ) (d e : Position) → atMost mostTerminal ws c ≡ got k d → atMost mostOrder ws d ≡ got o e →
-      judge (terminal counting n m) (tellTerminal counting) t ws c ≡ telling (terminalOf counting n m t k o) (tellTerminal counting) t ws e
-  unfolding terminal
-  terminal-got k o d e x y = then-got (atMost mostTerminal) _ (tellTerminal counting) t ws c k d x ∙ then-got (atMost mostOrder) _ (tellTerminal counting) t ws d o e y
-
   pub terminal-kind-refused : (r : ℕ) → atMost mostTerminal ws c ≡ refused r → judge (terminal counting n m) (tellTerminal counting) t ws c ≡ refused r
   unfolding terminal
   terminal-kind-refused r x = then-refused (atMost mostTerminal) _ (tellTerminal counting) t ws c r x
@@ -223,30 +217,38 @@ module _ (n m : ℕ) (t : Told) (ws : List ℕ) (c : Position) where
   unfolding terminal
   terminal-order-refused k d r x y = then-got (atMost mostTerminal) _ (tellTerminal counting) t ws c k d x ∙ then-refused (atMost mostOrder) _ (tellTerminal counting) t ws d r y
 
-  -- each kind of terminal
-  pub other-judged : (o : ℕ) → telling (terminalOf counting n m t 0 o) (tellTerminal counting) t ws c ≡ (lengthOf (counted mostOperands (place n)) >>= λ (k : ℕ). pure t) ws c
-  unfolding terminalOf lengthOf telling
-  other-judged o = result-case (counted mostOperands (place n) ws c) (λ ps d e. rw e) (λ k e. rw e)
+  -- each kind of terminal, after its kind and order
+  module _ (o : ℕ) (d e : Position) (y : atMost mostOrder ws d ≡ got o e) where
+    -- what is left to read
+    terminal-got : (k : ℕ) → atMost mostTerminal ws c ≡ got k d → judge (terminal counting n m) (tellTerminal counting) t ws c ≡ telling (terminalOf counting n m t k o) (tellTerminal counting) t ws e
+    unfolding terminal
+    terminal-got k x = then-got (atMost mostTerminal) _ (tellTerminal counting) t ws c k d x ∙ then-got (atMost mostOrder) _ (tellTerminal counting) t ws d o e y
 
-  pub throw-judged : (o : ℕ) → telling (terminalOf counting n m t 2 o) (tellTerminal counting) t ws c ≡ terminalEffects n m t ws c
-  unfolding terminalOf terminalEffects telling
-  throw-judged o =
-      result-case (effects counting true n m t ws c)
-      (λ l d1 e1. result-case (fixed noOperands ws d1)
-      (λ k d2 e2. rw (e1, e2))
-      (λ k e2. rw (e1, e2)))
-      (λ k e1. rw e1)
+    pub other-judged : atMost mostTerminal ws c ≡ got 0 d → judge (terminal counting n m) (tellTerminal counting) t ws c ≡ (lengthOf (counted mostOperands (place n)) >>= λ (k : ℕ). pure t) ws e
+    unfolding terminalOf lengthOf telling
+    other-judged x = terminal-got 0 x ∙ result-case (counted mostOperands (place n) ws e) (λ ps f z. rw z) (λ k z. rw z)
 
-  pub return-judged : (o : ℕ) → telling (terminalOf counting n m t 1 o) (tellTerminal counting) t ws c ≡ (judgedValue n t >>= λ (u : Told). terminalEffects n m u) ws c
-  unfolding terminalOf terminalEffects telling
-  return-judged o =
-      result-case (placeAsking (askTold (withRelation t)) n ws c)
-      (λ p d1 e1. result-case (effects counting true n m (withRelation t) ws d1)
-      (λ l d2 e2. result-case (fixed noOperands ws d2)
-      (λ k d3 e3. rw (e1, e2, e3))
-      (λ k e3. rw (e1, e2, e3)))
-      (λ k e2. rw (e1, e2)))
-      (λ k e1. rw e1)
+    pub throw-judged : atMost mostTerminal ws c ≡ got 2 d → judge (terminal counting n m) (tellTerminal counting) t ws c ≡ terminalEffects n m t ws e
+    unfolding terminalOf terminalEffects telling
+    throw-judged x =
+        terminal-got 2 x
+        ∙ result-case (effects counting true n m t ws e)
+        (λ l d1 e1. result-case (fixed noOperands ws d1)
+        (λ k d2 e2. rw (e1, e2))
+        (λ k e2. rw (e1, e2)))
+        (λ k e1. rw e1)
+
+    pub return-judged : atMost mostTerminal ws c ≡ got 1 d → judge (terminal counting n m) (tellTerminal counting) t ws c ≡ (judgedValue n t >>= λ (u : Told). terminalEffects n m u) ws e
+    unfolding terminalOf terminalEffects telling
+    return-judged x =
+        terminal-got 1 x
+        ∙ result-case (placeAsking (askTold (withRelation t)) n ws e)
+        (λ p d1 e1. result-case (effects counting true n m (withRelation t) ws d1)
+        (λ l d2 e2. result-case (fixed noOperands ws d2)
+        (λ k d3 e3. rw (e1, e2, e3))
+        (λ k e3. rw (e1, e2, e3)))
+        (λ k e2. rw (e1, e2)))
+        (λ k e1. rw e1)
 
   pub block-got : (x : BlockId) (u v : Told) (d e : Position) → judge (phis n) (each (tellPhi counting)) t ws c ≡ got u d →
       judge (instructions n m) (each (tellInstruction counting)) u ws d ≡ got v e →

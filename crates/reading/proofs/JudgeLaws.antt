@@ -102,11 +102,18 @@ module _ {A B : Type 0} (f : B → Read A) (tell : A → B → B) (ws : List ℕ
   times-done zero b c h = refl
   times-done (suc k) b c h = absurd (not-suc-le-zero h)
 
-  -- a section: its count, then its parts
-  pub section-got : (most k : ℕ) (b : B) (c d : Position) → count most ws c ≡ got k d →
-      judge (countedFrom most f tell) (each tell) b ws c ≡ judge (timesFrom k f tell) (each tell) b ws d
-  unfolding countedFrom
-  section-got most k b c d e = then-got (count most) (λ (k : ℕ). timesFrom k f tell b) (each tell) b ws c k d e
+  -- a section: its count, then its parts; from one part to another nothing is lost
+  module _ (most : ℕ) (b : B) (c : Position) (k : ℕ) (d : Position) (x : count most ws c ≡ got k d) (j : ℕ) (b1 : B) (e : Position)
+      (same : judge (timesFrom k f tell) (each tell) b ws d ≡ judge (timesFrom j f tell) (each tell) b1 ws e) where
+    section-from : judge (countedFrom most f tell) (each tell) b ws c ≡ judge (timesFrom j f tell) (each tell) b1 ws e
+    unfolding countedFrom
+    section-from = then-got (count most) (λ (k : ℕ). timesFrom k f tell b) (each tell) b ws c k d x ∙ same
+
+    pub section-stop : (n : ℕ) → 0 < j → judge f tell b1 ws e ≡ refused n → judge (countedFrom most f tell) (each tell) b ws c ≡ refused n
+    section-stop n h q = section-from ∙ times-stop j b1 e n h q
+
+    pub section-done : j ≤ 0 → judge (countedFrom most f tell) (each tell) b ws c ≡ got b1 e
+    section-done h = section-from ∙ times-done j b1 e h
 
   pub section-refused : (most : ℕ) (b : B) (c : Position) (n : ℕ) → count most ws c ≡ refused n → judge (countedFrom most f tell) (each tell) b ws c ≡ refused n
   unfolding countedFrom

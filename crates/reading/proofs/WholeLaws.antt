@@ -16,7 +16,8 @@ use Rattle.model.specs.Reading.{Position, pure, refuse, count, fixed, counted, 
 use Rattle.model.specs.Sections.{flags, identifier, innerFunction, place}
 use Rattle.model.specs.Asking.{block, tellBlock, sheet as askedSheet}
 use Rattle.model.proofs.Limited.{not-over, few-not-over}
-use Rattle.model.proofs.Ahead.{Comes, same, neither, stopped, Asked, on, off, Related, sheet-ahead}
+use Rattle.model.proofs.Ahead.{Comes, same, neither, stopped}
+use Rattle.model.proofs.SheetAhead.{Asked, on, off, Related, sheet-ahead}
 use Rattle.reading.specs.Judging.{Told, telling, bump, withRelation, withMutation, withRender, withDiagnosis, withApply, tellRole, tellKind, noTotals, totalsOf, askTold, counting, blocksOf}
 use Rattle.reading.proofs.JudgeLaws.{result-case}
 use Rattle.reading.specs.Whole.{lengthOf, heading, placeLists, judgedSheet, tellSheet}

@@ -27,7 +27,7 @@ use Rattle.aliasing.specs.Potential.{phi}
 use Rattle.aliasing.proofs.Hands.{function-is}
 use Rattle.aliasing.proofs.Parts.{slice-below, slice-above, nodes-below, seen-below, rows-below, rows-above, mark-kept, mark-seen, seen-at, seen-length}
 use Rattle.aliasing.proofs.Potential.{phi-falls}
-use Rattle.aliasing.proofs.Steps.{last, placeAt, queue-last, state-same, graph-missing, graph-there}
+use Rattle.aliasing.proofs.Entries.{last, placeAt, queue-last, state-same, graph-missing, graph-there}
 use Rattle.renders.specs.Renders.{passesW, originsW, placesOf, taken, Shows, unseen, Ready, Stepped}
 use Rattle.renders.proofs.Origins.{origin-places, places-push, origins-le}
 use Rattle.renders.proofs.Marks.{mark-at, mark-set, is-taken, not-taken, passes-true, passes-false, has-record, unseen-falls, function-one}

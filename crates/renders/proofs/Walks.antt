@@ -15,7 +15,7 @@ use Rattle.workspace.specs.Sort.{clearW}
 use Rattle.aliasing.specs.State.{seenOf, stateOf}
 use Rattle.aliasing.specs.Potential.{phi}
 use Rattle.aliasing.proofs.Parts.{seen-length}
-use Rattle.aliasing.proofs.Steps.{placeAt}
+use Rattle.aliasing.proofs.Entries.{placeAt}
 use Rattle.aliasing.proofs.Walks.{aside-none, aside-then}
 use Rattle.aliasing.proofs.Begin.{Begun, begun}
 use Rattle.renders.specs.Renders.{placesOf, taken, Shows, Ready, Unmoved, Stepped, Walked, renderAt, Rendered}

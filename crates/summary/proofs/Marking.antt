@@ -13,6 +13,7 @@ use Rattle.model.specs.Sheet.{Place}
 use Rattle.model.specs.Traits.{captureEffect}
 use Rattle.model.specs.State.{hasRecord, State}
 use Rattle.model.specs.Summary.{recordOf, captureMark, marked}
+use Rattle.model.specs.Marks.{withEffect}
 use Rattle.workspace.specs.Layout.{SEEN, TRACKED}
 use Rattle.workspace.specs.Rows.{Kept}
 use Rattle.workspace.specs.Graph.{tab}
@@ -38,7 +39,7 @@ module _ (ws : List ℕ) (p : Place) (b : p .identifier < mostIdentifiers) where
   -- with a record
   pub mark-yes : {r : Bool} → r ≡ hasRecord (recordAt (nodesOf ws) (p .identifier)) → r ≡ true → (t : State) → Holds ws t
       → _≡_ {A = Place} (record { identifier = p .identifier; effect = captureEffect; reactive = p .reactive; span = p .span }) (marked t p)
-  unfolding captureMark
+  unfolding captureMark withEffect
   mark-yes e f t h = sym (mark-is t h ∙ ap (λ (x : Bool). pick x (captureMark p) p) (sym e ∙ f))
 
   -- without one
@@ -47,7 +48,7 @@ module _ (ws : List ℕ) (p : Place) (b : p .identifier < mostIdentifiers) where
 
 -- a mark keeps the identifier
 same-identifier : (p : Place) (b : Bool) → pick b (captureMark p) p .identifier ≡ p .identifier
-unfolding captureMark
+unfolding captureMark withEffect
 same-identifier p true = refl
 same-identifier p false = refl
 

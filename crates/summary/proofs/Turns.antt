@@ -29,7 +29,7 @@ use Rattle.aliasing.specs.Walks.{Callable, Unmarked, Mutated}
 use Rattle.aliasing.proofs.Parts.{slice-below, nodes-below, rows-below}
 use Rattle.aliasing.proofs.Hands.{handing-behind, handing-anew}
 use Rattle.aliasing.proofs.Begin.{Remarked, remarked, unmarked-handing}
-use Rattle.aliasing.proofs.Steps.{state-same}
+use Rattle.aliasing.proofs.Entries.{state-same}
 use Rattle.writing.specs.Wrote.{Wrote}
 use Rattle.writing.proofs.Writing.{wrote-none, wrote-then, wrote-as}
 use Rattle.model.proofs.Gathers.{gather-append}

@@ -11,14 +11,11 @@ use Rattle.model.specs.Summary.{marked, afterRenders}
 use Rattle.model.specs.Simulated.{tracked}
 use Rattle.workspace.specs.Graph.{tab}
 use Rattle.workspace.proofs.Tables.{tab-length}
+use Rattle.dataflow.specs.Function.{Tracking}
 use Rattle.summary.specs.Records.{Holds}
 use Rattle.workspace.specs.Tracked.{trackedAt, trackedOf, trackedFrom}
 use Rattle.summary.specs.Tracked.{Marks}
 use Rattle.workspace.proofs.Places.{tracked-parts, tracked-first, tracked-high}
-
--- all places of the sheet are tracked
-abbrev pub Tracking : Sheet → List ℕ → Type 0
-Tracking s ws = trackedOf ws (length (s .params) + length (s .context) + 1) ≡ s .params ++ (s .context ++ (s .returns ∷ []))
 
 -- two lists in a row, taken apart
 module _ {A : Type 0} where

@@ -16,7 +16,7 @@ use Rattle.hir.specs.Words.{identifierAt, several, blockFrom}
 use Rattle.workspace.specs.Layout.{HANDED, MUTATIONS, SIMULATED}
 use Rattle.workspace.specs.Rows.{Good, Indexed}
 use Rattle.aliasing.proofs.Parts.{slice-below, nodes-below, rows-below}
-use Rattle.aliasing.proofs.Steps.{state-same}
+use Rattle.aliasing.proofs.Entries.{state-same}
 use Rattle.writing.specs.Wrote.{Wrote}
 use Rattle.writing.proofs.Writing.{wrote-none, wrote-then, wrote-as}
 use Rattle.copies.specs.Copies.{Copies}
@@ -83,14 +83,14 @@ module _ (sheet ws : List ℕ) (f : HirFunction) (index : ℕ) (limited : Limite
         wrote-as (c (afterRenders s) (holds-after s b))
         (ap (λ (l : List Place). gather effectWords (gather (collectParamEffects (afterRenders s)) l))
         (ap (λ (n : ℕ). trackedFrom ws n (f .context)) (b .describes .params) ∙ ap (λ (n : ℕ). trackedFrom ws (length (s .params)) n) (b .describes .context)
-        ∙ context-tracked s ws (b .stands .tracked)))
+        ∙ context-tracked s ws (b .tracked)))
 
     params-wrote : {a a′ : List ℕ} {at at′ : ℕ} → Collected ws (trackedFrom ws 0 (f .params)) a at a′ at′
         → Wrote (gather effectWords (gather (collectParamEffects (afterRenders s)) (s .params))) a at a′ at′
     params-wrote c =
         wrote-as (c (afterRenders s) (holds-after s b))
         (ap (λ (l : List Place). gather effectWords (gather (collectParamEffects (afterRenders s)) l))
-        (ap (λ (n : ℕ). trackedFrom ws 0 n) (b .describes .params) ∙ params-tracked s ws (b .stands .tracked)))
+        (ap (λ (n : ℕ). trackedFrom ws 0 n) (b .describes .params) ∙ params-tracked s ws (b .tracked)))
 
     returns-is : s .returns .identifier ≡ f .returns .identifier .0
     returns-is = ap (λ (p : Place). p .identifier) (sym (b .describes .returns))
@@ -103,7 +103,7 @@ module _ (sheet ws : List ℕ) (f : HirFunction) (index : ℕ) (limited : Limite
     marked-before {ws₁} m =
         let e : f .params + f .context ≡ length (s .params) + length (s .context) = omega (arith, b .describes .params, b .describes .context) in
         record {
-          places = sym (ap (λ (n : ℕ). trackedOf ws₁ (n + 1)) e ∙ marks-tracked s ws (b .stands .tracked) (holds-after s b) (subst (λ (n : ℕ). Marks ws n ws₁) e m));
+          places = sym (ap (λ (n : ℕ). trackedOf ws₁ (n + 1)) e ∙ marks-tracked s ws (b .tracked) (holds-after s b) (subst (λ (n : ℕ). Marks ws n ws₁) e m));
           identifier = returns-is;
           state = state-same ws ws₁ HANDED HANDED (rows-below (m .kept) (omega arith)) (nodes-below (m .kept) (omega arith)) (slice-below (m .kept) HANDED HANDED (omega arith)) ∙ b .state;
           first = b .first;

@@ -20,7 +20,7 @@ use Rattle.writing.specs.Wrote.{Wrote}
 use Rattle.workspace.specs.Tracked.{mostTracked, trackedOf}
 use Rattle.summary.specs.Sections.{simulatedOf}
 use Rattle.dataflow.specs.declared.function.HirFunction.{HirFunction}
-use Rattle.dataflow.specs.Function.{Describes, Stands}
+use Rattle.dataflow.specs.Function.{Describes, Tracking}
 
 -- the words that the simulated walks can leave: an effect for each two places
 abbrev pub mostFlows : ℕ
@@ -70,7 +70,7 @@ pub record CopiedPut (sheet : List ℕ) (f : HirFunction) (answer : List ℕ) (a
 -- the workspace before the section of effects of s is written
 pub record Before (s : Sheet) (sheet ws : List ℕ) (f : HirFunction) (index : ℕ) : Type 0 where
   pub describes : Describes s sheet f
-  pub stands : Stands s sheet ws
+  pub tracked : Tracking s ws
   pub state : stateOf ws HANDED ≡ unhanded (afterRenders s)
   pub first : index ≡ build s .index
 

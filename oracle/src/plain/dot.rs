@@ -53,8 +53,3 @@ pub fn lend(judged: &Result<Vec<u8>, u32>, workspace_len: usize, text_len: usize
         Ok(text) => Drawn::Text(text.clone()),
     }
 }
-
-/// The whole call.
-pub fn outcome(sheet: &[u32], workspace_len: usize, text_len: usize) -> Drawn {
-    lend(&judge(sheet), workspace_len, text_len)
-}

@@ -197,6 +197,25 @@ pub fn is_render(kind: u32) -> bool {
 pub const APPLY: u32 = 12;
 
 impl Sheet {
+    /// With validations, identifiers of which nothing is known, no inner function and no context.
+    pub fn plain(
+        identifiers: usize,
+        params: Vec<Place>,
+        returns: Place,
+        blocks: Vec<Block>,
+    ) -> Sheet {
+        Sheet {
+            function_expression: false,
+            validations: true,
+            identifiers: vec![Identifier::default(); identifiers],
+            functions: Vec::new(),
+            params,
+            context: Vec::new(),
+            returns,
+            blocks,
+        }
+    }
+
     /// Every effect, in terminals too.
     pub fn effects_mut(&mut self) -> Vec<&mut Effect> {
         let mut all: Vec<&mut Effect> = Vec::new();

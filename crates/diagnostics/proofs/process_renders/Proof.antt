@@ -9,10 +9,10 @@ use Rattle.diagnostics.proofs.process_renders.Statement.{statement}
 use Rattle.diagnostics.proofs.process_renders.Tie as tie
 
 abbrev Inv-loop : tie.InvT-loop
-Inv-loop sheet ws₀ count renders answer₀ at to₀ i₀ ws answer to i = Rendering (functionsOf sheet ws₀ count) ws₀ renders answer₀ at ws answer to i
+Inv-loop lists ws₀ count renders answer₀ at to₀ i₀ ws answer to i = Rendering (functionsOf lists ws₀ count) ws₀ renders answer₀ at ws answer to i
 
 abbrev μ-loop : tie.MeasureT-loop
-μ-loop sheet ws₀ count renders answer₀ at to₀ i₀ ws answer to i = renders - i
+μ-loop lists ws₀ count renders answer₀ at to₀ i₀ ws answer to i = renders - i
 
 loop-holds : tie.Need-loop-holds Inv-loop μ-loop
 loop-holds c =

@@ -6,29 +6,29 @@ use Rattle.operands.proofs.put_operands.Tie as tie
 
 put-section-requires : tie.Need-put-section-requires
 put-section-requires c κs =
-    let b5 = c .before .before .before .before .before in
-    (b5 .pre .0, omega (arith, b5 .pre .1))
+    let b6 = c .before .before .before .before .before .before in
+    (b6 .pre .0, omega (arith, b6 .pre .1))
 
 put-section-requires-2 : tie.Need-put-section-requires-2
 put-section-requires-2 c κs =
     let b6 = c .before .before .before .before .before .before in
-    let b12 = b6 .before .before .before .before .before .before in
-    ((b12 .pre .0 .0, after-one (b6 .put-section .ensures) (b12 .pre .0 .1)), omega (arith, b12 .pre .1, b6 .put-section .ensures .few))
+    let b13 = b6 .before .before .before .before .before .before .before in
+    ((b13 .pre .0 .0, after-one (b6 .put-section .ensures) (b13 .pre .0 .1)), omega (arith, b13 .pre .1, b6 .put-section .ensures .few))
 
 put-section-requires-3 : tie.Need-put-section-requires-3
 put-section-requires-3 c κs =
     let b6 = c .before .before .before .before .before .before in
     let b13 = b6 .before .before .before .before .before .before .before in
-    let b19 = b13 .before .before .before .before .before .before in
-    ((b19 .pre .0 .0, after-two (b13 .put-section .ensures) (b6 .put-section2 .ensures) (b19 .pre .0 .1)), omega (arith, b19 .pre .1, b13 .put-section .ensures .few, b6 .put-section2 .ensures .few))
+    let b20 = b13 .before .before .before .before .before .before .before in
+    ((b20 .pre .0 .0, after-two (b13 .put-section .ensures) (b6 .put-section2 .ensures) (b20 .pre .0 .1)), omega (arith, b20 .pre .1, b13 .put-section .ensures .few, b6 .put-section2 .ensures .few))
 
 put-inner-requires : tie.Need-put-inner-requires
 put-inner-requires c κs =
     let b6 = c .before .before .before .before .before .before in
     let b13 = b6 .before .before .before .before .before .before .before in
     let b20 = b13 .before .before .before .before .before .before .before in
-    let b26 = b20 .before .before .before .before .before .before in
-    (after-three (b20 .put-section .ensures) (b13 .put-section2 .ensures) (b6 .put-section3 .ensures) (b26 .pre .0 .1), omega (arith, b26 .pre .1, b20 .put-section .ensures .few, b13 .put-section2 .ensures .few, b6 .put-section3 .ensures .few))
+    let b27 = b20 .before .before .before .before .before .before .before in
+    (after-three (b20 .put-section .ensures) (b13 .put-section2 .ensures) (b6 .put-section3 .ensures) (b27 .pre .0 .1), omega (arith, b27 .pre .1, b20 .put-section .ensures .few, b13 .put-section2 .ensures .few, b6 .put-section3 .ensures .few))
 
 same-length : tie.Need-same-length
 same-length c =
@@ -42,7 +42,7 @@ same-length-2 c =
     let b9 = c .before .before .before .before .before .before .before .before .before in
     let b16 = b9 .before .before .before .before .before .before .before in
     let b23 = b16 .before .before .before .before .before .before .before in
-    c .before .before .put-inner .kept .1 .1 .1 .0 ∙ b9 .put-section3 .kept .1 .1 .1 .1 .0 ∙ b16 .put-section2 .kept .1 .1 .1 .1 .0 ∙ b23 .put-section .kept .1 .1 .1 .1 .0
+    c .before .before .put-inner .kept .1 .1 .1 .0 ∙ b9 .put-section3 .kept .1 .1 .1 .1 .1 .0 ∙ b16 .put-section2 .kept .1 .1 .1 .1 .1 .0 ∙ b23 .put-section .kept .1 .1 .1 .1 .1 .0
 
 returns : tie.Need-returns
 returns c =

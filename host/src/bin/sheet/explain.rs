@@ -245,64 +245,61 @@ a  1..2 -> 1..4
         assert!(text.contains("-> d, of which c may be an alias, so perhaps: MaybeAlias d into c"));
     }
 
-    /// Each use that can set a start or an end in the pass over operands.
-    #[test]
-    fn every_kind_of_use() {
-        let text = explained(
+    /// A sheet that uses its values in every way; its two instructions end with these lines. What is
+    /// said of it, with these lines for b, c and s.
+    fn uses(lists: &str, b: &str, c: &str, s: &str) {
+        let text = explained(&format!(
             "identifier a\nidentifier b range 0 9\nidentifier c range 0 9\n\
              identifier p range 0 9\nidentifier s range 1 3\nidentifier t\n\
              function f context c\nreturns a\n\
              block 4\nphi p\n\
-             instruction at 2 function f\noperand b\n\
-             instruction at 3 StoreContext s\nlvalue t\noperand t\noperand s\n\
-             terminal Other at 4\n",
-        );
-        let expected = "\
+             instruction at 2 function f\noperand b\n{lists}\
+             instruction at 3 StoreContext s\nlvalue t\noperand t\noperand s\n{lists}\
+             terminal Other at 4\n"
+        ));
+        let expected = format!(
+            "\
 a  0..0 -> 2..3
     end 3: it was 0, and the instruction at 2 in block 4 has it as an lvalue
     start 2: it was 0, and the instruction at 2 in block 4 has it as an lvalue
-b  0..9 -> 2..9
-    start 2: it was 0, and the instruction at 2 in block 4 has it as an operand
-c  0..9 -> 2..9
-    start 2: it was 0, and the instruction at 2 in block 4 makes f, which has it in its context
+b  0..9{b}
+c  0..9{c}
 p  0..9 -> 1..9
     start 1: it was 0, and it is a phi of block 4, which begins at 2
-s  1..3 -> 1..4
-    end 4: the instruction at 3 in block 4 stores it by StoreContext
+s  1..3{s}
 t  0..0 -> 3..4
     end 4: it was 0, and the instruction at 3 in block 4 has it as an lvalue
     start 3: it was 0, and the instruction at 3 in block 4 has it as an lvalue
-";
+"
+        );
         assert_eq!(text, expected);
+    }
+
+    /// Each use that can set a start or an end in the pass over operands.
+    #[test]
+    fn every_kind_of_use() {
+        uses(
+            "",
+            " -> 2..9\n    \
+             start 2: it was 0, and the instruction at 2 in block 4 has it as an operand",
+            " -> 2..9\n    \
+             start 2: it was 0, and the instruction at 2 in block 4 makes f, which has it in its \
+             context",
+            " -> 1..4\n    end 4: the instruction at 3 in block 4 stores it by StoreContext",
+        );
     }
 
     /// The same without lists: only the lvalues set something.
     #[test]
     fn no_use_without_a_list() {
-        let text = explained(
-            "identifier a\nidentifier b range 0 9\nidentifier c range 0 9\n\
-             identifier p range 0 9\nidentifier s range 1 3\nidentifier t\n\
-             function f context c\nreturns a\n\
-             block 4\nphi p\n\
-             instruction at 2 function f\noperand b\nno effects\n\
-             instruction at 3 StoreContext s\nlvalue t\noperand t\noperand s\nno effects\n\
-             terminal Other at 4\n",
+        uses(
+            "no effects\n",
+            ", not moved",
+            ", not moved",
+            ", not moved\n    \
+             end still 3: the instruction at 3 in block 4 has no list of effects, so that its \
+             StoreContext stores nothing",
         );
-        let expected = "\
-a  0..0 -> 2..3
-    end 3: it was 0, and the instruction at 2 in block 4 has it as an lvalue
-    start 2: it was 0, and the instruction at 2 in block 4 has it as an lvalue
-b  0..9, not moved
-c  0..9, not moved
-p  0..9 -> 1..9
-    start 1: it was 0, and it is a phi of block 4, which begins at 2
-s  1..3, not moved
-    end still 3: the instruction at 3 in block 4 has no list of effects, so that its StoreContext stores nothing
-t  0..0 -> 3..4
-    end 4: it was 0, and the instruction at 3 in block 4 has it as an lvalue
-    start 3: it was 0, and the instruction at 3 in block 4 has it as an lvalue
-";
-        assert_eq!(text, expected);
     }
 
     /// A later store with a list: the one without is not spoken of.

@@ -23,20 +23,12 @@ pub enum Origin {
     Return { order: EvaluationOrder, block: BlockId },
 }
 
-/// A forward edge, stored at "from".
+/// A relation, with the index at which it came.
 #[derive(Debug, Clone, Copy, PartialEq, Eq)]
-pub struct Edge {
-    pub into: IdentifierId,
+pub struct Link {
     pub relation: Relation,
-    pub index: u32,
-    pub origin: Origin,
-}
-
-/// An entry, stored at "into".
-#[derive(Debug, Clone, Copy, PartialEq, Eq)]
-pub struct Entry {
     pub from: IdentifierId,
-    pub relation: Relation,
+    pub into: IdentifierId,
     pub index: u32,
     pub origin: Origin,
 }
@@ -44,9 +36,10 @@ pub struct Entry {
 #[derive(Debug, Clone, PartialEq, Eq)]
 pub struct Node {
     pub is_phi: bool,
-    pub edges: Vec<Edge>,
-    /// Those of every relation, in stored order.
-    pub entries: Vec<Entry>,
+    /// The relations from it, in stored order.
+    pub edges: Vec<Link>,
+    /// The relations into it, in stored order.
+    pub entries: Vec<Link>,
 }
 
 /// Conditional is below Definite.
@@ -75,15 +68,6 @@ pub struct Graph {
     next_index: u32,
 }
 
-/// A phi operand whose predecessor has not come yet.
-struct Waiting {
-    predecessor: BlockId,
-    from: IdentifierId,
-    into: IdentifierId,
-    index: u32,
-    origin: Origin,
-}
-
 impl Graph {
     pub fn build(sheet: &Sheet) -> Graph {
         let nodes = vec![None; sheet.identifiers().len()];
@@ -92,6 +76,7 @@ impl Graph {
             graph.create(place.identifier, false);
         }
         let mut come = Vec::new();
+        // Phi operands whose predecessor has not come yet.
         let mut waiting = Vec::new();
         for block in sheet.blocks() {
             let number = block.number;
@@ -102,10 +87,11 @@ impl Graph {
                     let predecessor = operand.predecessor;
                     let (from, index) = (operand.place.identifier, graph.next());
                     let origin = Origin::Operand { phi: into, predecessor, block: number };
+                    let link = Link { relation: Relation::Alias, from, into, index, origin };
                     if come.contains(&predecessor) {
-                        graph.store(Relation::Alias, from, into, index, origin);
+                        graph.store(link);
                     } else {
-                        waiting.push(Waiting { predecessor, from, into, index, origin });
+                        waiting.push((predecessor, link));
                     }
                 }
             }
@@ -119,21 +105,19 @@ impl Graph {
                 }
             }
 
-            for w in waiting.iter().filter(|w| w.predecessor == number) {
-                graph.store(Relation::Alias, w.from, w.into, w.index, w.origin);
+            for &(_, link) in waiting.iter().filter(|(predecessor, _)| *predecessor == number) {
+                graph.store(link);
             }
             let order = block.terminal.order();
             if let Terminal::Return { value, .. } = block.terminal {
-                let (into, index) = (sheet.returns().identifier, graph.next());
+                let (from, into) = (value.identifier, sheet.returns().identifier);
                 let origin = Origin::Return { order, block: number };
-                graph.store(Relation::Alias, value.identifier, into, index, origin);
+                graph.relate(Relation::Alias, from, into, origin);
             }
             for effect in &block.terminal_effects {
                 if let &AliasingEffect::Alias { from, into } = effect {
-                    let index = graph.next();
                     let origin = Origin::TerminalEffect { effect: *effect, order, block: number };
-                    let (from, into) = (from.identifier, into.identifier);
-                    graph.store(Relation::Alias, from, into, index, origin);
+                    graph.relate(Relation::Alias, from.identifier, into.identifier, origin);
                 }
             }
         }
@@ -158,45 +142,33 @@ impl Graph {
         self.nodes[identifier.0 as usize] = Some(node);
     }
 
-    fn store(
+    /// A relation that takes the next index.
+    fn relate(
         &mut self,
         relation: Relation,
         from: IdentifierId,
         into: IdentifierId,
-        index: u32,
         origin: Origin,
     ) {
-        if self.node(from).is_some() && self.node(into).is_some() {
-            self.store_edge(relation, from, into, index, origin);
-            self.store_entry(relation, from, into, index, origin);
+        let index = self.next();
+        self.store(Link { relation, from, into, index, origin });
+    }
+
+    fn store(&mut self, link: Link) {
+        if self.node(link.from).is_some() && self.node(link.into).is_some() {
+            self.store_halves(link);
         }
     }
 
-    fn store_edge(
-        &mut self,
-        relation: Relation,
-        from: IdentifierId,
-        into: IdentifierId,
-        index: u32,
-        origin: Origin,
-    ) {
-        if let Some(node) = self.node_mut(from) {
-            node.edges.push(Edge { into, relation, index, origin });
+    /// The forward edge if "from" has a node, and the entry if "into" has one.
+    fn store_halves(&mut self, link: Link) {
+        if let Some(node) = self.node_mut(link.from) {
+            node.edges.push(link);
         }
-    }
-
-    fn store_entry(
-        &mut self,
-        relation: Relation,
-        from: IdentifierId,
-        into: IdentifierId,
-        index: u32,
-        origin: Origin,
-    ) {
-        if let Some(node) = self.node_mut(into)
-            && !node.entries.iter().any(|e| e.from == from && e.relation == relation)
+        if let Some(node) = self.node_mut(link.into)
+            && !node.entries.iter().any(|e| e.from == link.from && e.relation == link.relation)
         {
-            node.entries.push(Entry { from, relation, index, origin });
+            node.entries.push(link);
         }
     }
 
@@ -215,9 +187,8 @@ impl Graph {
             EffectKind::MaybeAlias => Relation::MaybeAlias,
             EffectKind::CreateFrom => {
                 self.create(into, false);
-                let index = self.next();
-                self.store_edge(Relation::CreateFrom, from, into, index, origin);
-                self.store_entry(Relation::CreateFrom, from, into, index, origin);
+                let (relation, index) = (Relation::CreateFrom, self.next());
+                self.store_halves(Link { relation, from, into, index, origin });
                 return;
             }
             EffectKind::Create | EffectKind::CreateFunction => return self.create(from, false),
@@ -248,8 +219,7 @@ impl Graph {
         if effect.kind() == EffectKind::Assign && self.node(into).is_none() {
             self.create(into, false);
         }
-        let index = self.next();
-        self.store(relation, from, into, index, origin);
+        self.relate(relation, from, into, origin);
     }
 }
 

@@ -4,7 +4,7 @@ use std::collections::VecDeque;
 
 use service_host::{EvaluationOrder, IdentifierId, Sheet};
 
-use crate::graph::{Graph, Mutation, MutationKind, Origin, Relation};
+use crate::graph::{Graph, Link, Mutation, MutationKind, Origin, Relation};
 
 /// Where a walk or a chain stands.
 #[derive(Debug, Clone, Copy, PartialEq, Eq)]
@@ -76,9 +76,8 @@ pub fn steps(graph: &Graph, at: State, mutation_index: u32) -> Vec<Step> {
         (Relation::MaybeAlias, aliases),
         (Relation::Capture, at.transitive),
     ] {
-        let stored = |entry: &&crate::graph::Entry| {
-            followed && entry.relation == relation && entry.index < mutation_index
-        };
+        let stored =
+            |entry: &&Link| followed && entry.relation == relation && entry.index < mutation_index;
         steps.extend(node.entries.iter().filter(stored).map(|entry| Step {
             to: State {
                 identifier: entry.from,

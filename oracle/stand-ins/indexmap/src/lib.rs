@@ -30,14 +30,6 @@ impl<K, V, S: Default> Default for IndexMap<K, V, S> {
 }
 
 impl<K, V, S> IndexMap<K, V, S> {
-    pub fn len(&self) -> usize {
-        self.entries.len()
-    }
-
-    pub fn is_empty(&self) -> bool {
-        self.entries.is_empty()
-    }
-
     pub fn iter(&self) -> Iter<'_, K, V> {
         Iter { inner: self.entries.iter() }
     }
@@ -94,10 +86,6 @@ impl<K: Hash + Eq, V, S: BuildHasher> IndexMap<K, V, S> {
         }
         let position = self.table[self.slot(self.hasher.hash_one(key), key)];
         (position != EMPTY).then_some(position as usize)
-    }
-
-    pub fn contains_key(&self, key: &K) -> bool {
-        self.get_index_of(key).is_some()
     }
 
     pub fn get(&self, key: &K) -> Option<&V> {

@@ -116,12 +116,6 @@ impl<I: Idx, T> IndexMut<I> for IndexSlice<I, [T]> {
 }
 
 impl<I, T> IndexSlice<I, [T]> {
-    pub fn len(&self) -> usize {
-        self.raw.len()
-    }
-    pub fn is_empty(&self) -> bool {
-        self.raw.is_empty()
-    }
     pub fn iter(&self) -> std::slice::Iter<'_, T> {
         self.raw.iter()
     }

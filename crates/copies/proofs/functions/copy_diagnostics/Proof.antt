@@ -10,10 +10,10 @@ use Rattle.copies.proofs.functions.copy_diagnostics.Statement.{statemen
 use Rattle.copies.proofs.functions.copy_diagnostics.Tie as tie
 
 abbrev Inv-loop : tie.InvT-loop
-Inv-loop sheet answer₀ at left₀ next₀ to₀ answer left next to = Copying diagnosticFrom diagnosticWords sheet left₀ next₀ answer₀ at left next answer to
+Inv-loop lists answer₀ at left₀ next₀ to₀ answer left next to = Copying diagnosticFrom diagnosticWords lists left₀ next₀ answer₀ at left next answer to
 
 abbrev μ-loop : tie.MeasureT-loop
-μ-loop sheet answer₀ at left₀ next₀ to₀ answer left next to = left
+μ-loop lists answer₀ at left₀ next₀ to₀ answer left next to = left
 
 loop-holds : tie.Need-loop-holds Inv-loop μ-loop
 loop-holds c = copying-start _ _ _ _ _ _ _

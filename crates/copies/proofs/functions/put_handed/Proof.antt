@@ -7,10 +7,10 @@ use Rattle.copies.proofs.functions.put_handed.Statement.{statement}
 use Rattle.copies.proofs.functions.put_handed.Tie as tie
 
 abbrev Inv-loop : tie.InvT-loop
-Inv-loop sheet ws count hand answer₀ at to₀ i₀ answer to i = Handing (functionsOf sheet ws count) ws hand answer₀ at i answer to
+Inv-loop lists ws count hand answer₀ at to₀ i₀ answer to i = Handing (functionsOf lists ws count) ws hand answer₀ at i answer to
 
 abbrev μ-loop : tie.MeasureT-loop
-μ-loop sheet ws count hand answer₀ at to₀ i₀ answer to i = hand - i
+μ-loop lists ws count hand answer₀ at to₀ i₀ answer to i = hand - i
 
 loop-holds : tie.Need-loop-holds Inv-loop μ-loop
 loop-holds c = handing-start _ _ _ _ _

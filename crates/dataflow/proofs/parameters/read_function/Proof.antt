@@ -1,4 +1,4 @@
-use Rattle.dataflow.proofs.Before.{function-read}
+use Rattle.dataflow.proofs.ReadFunction.{function-read}
 use borrow.Author.Needs.{needs}
 use Rattle.dataflow.proofs.parameters.read_function.Statement.{statement}
 use Rattle.dataflow.proofs.parameters.read_function.Tie as tie

@@ -1,5 +1,6 @@
 use Rattle.hir.specs.Says.{wordSays, placeSays}
 use Rattle.hir.proofs.Answers.{says}
+use Rattle.hir.proofs.EffectTable.{places-read}
 use borrow.Author.Needs.{needs}
 use Rattle.hir.proofs.effects.effect_after.Statement.{statement}
 use Rattle.hir.proofs.effects.effect_after.Tie as tie
@@ -35,57 +36,33 @@ enum-known-k1 c = search needs
 
 returns : tie.Need-returns
 returns c =
-    let b3 = c .before .before .before in
-    let b5 = b3 .before .before in
-    let b7 = b5 .before .before in
-    let b10 = b7 .before .before .before in
-    let b12 = b10 .before .before in
-    let b15 = b12 .before .before .before in
+    let b5 = c .before .before .before .before .before in
+    let b10 = b5 .before .before .before .before .before in
     rw (
-      ← b15 .pre .places,
-      ← b15 .pre .instance,
-      says placeSays (b10 .first .given .1) (b12 .place-if .ensures),
-      says placeSays (b5 .second .given .1) (b7 .place-if2 .ensures),
-      says wordSays (c .before .x .given .1) (b3 .extra .ensures),
+      places-read _ _ _ _ _ _ _ _ _ (b10 .before .before .before .before .before .pre) (says placeSays (b10 .first .given .1) (b10 .before .before .place-if .ensures)) (says placeSays (b5 .second .given .1) (b5 .before .before .place-if2 .ensures)),
+      says wordSays (c .before .x .given .1) (c .before .before .before .extra .ensures),
     )
 
 returns-2 : tie.Need-returns-2
 returns-2 c =
-    let b3 = c .before .before .before in
-    let b5 = b3 .before .before in
-    let b7 = b5 .before .before in
-    let b10 = b7 .before .before .before in
-    let b12 = b10 .before .before in
-    let b15 = b12 .before .before .before in
+    let b5 = c .before .before .before .before .before in
+    let b10 = b5 .before .before .before .before .before in
     rw (
-      ← b15 .pre .places,
-      ← b15 .pre .instance,
-      says placeSays (b10 .first .given .1) (b12 .place-if .ensures),
-      says placeSays (b5 .second .given .1) (b7 .place-if2 .ensures),
-      says wordSays (c .before .k3 .given .1) (b3 .extra .ensures),
+      places-read _ _ _ _ _ _ _ _ _ (b10 .before .before .before .before .before .pre) (says placeSays (b10 .first .given .1) (b10 .before .before .place-if .ensures)) (says placeSays (b5 .second .given .1) (b5 .before .before .place-if2 .ensures)),
+      says wordSays (c .before .k3 .given .1) (c .before .before .before .extra .ensures),
     )
 
 returns-3 : tie.Need-returns-3
 returns-3 c =
     let b3 = c .before .before .before in
     let b6 = b3 .before .before .before in
-    let b8 = b6 .before .before in
-    let b11 = b8 .before .before .before in
-    rw (
-      ← b11 .pre .places,
-      ← b11 .pre .instance,
-      says placeSays (b6 .first .given .1) (b8 .place-if .ensures),
-      says placeSays (c .before .k2 .given .1) (b3 .place-if2 .ensures),
-    )
+    let own = b6 .before .before .before .before .before .pre in
+    rw (← own .places, ← own .instance, says placeSays (b6 .first .given .1) (b6 .before .before .place-if .ensures), says placeSays (c .before .k2 .given .1) (b3 .place-if2 .ensures))
 
 returns-4 : tie.Need-returns-4
 returns-4 c =
     let b3 = c .before .before .before in
-    let b6 = b3 .before .before .before in
-    rw (
-      ← b6 .pre .places,
-      says placeSays (c .before .k1 .given .1) (b3 .place-if .ensures),
-    )
+    rw (← b3 .before .before .before .pre .places, says placeSays (c .before .k1 .given .1) (b3 .place-if .ensures))
 
 pub effect-after-spec : {M : Type 1} → statement M
 effect-after-spec =

@@ -9,28 +9,28 @@ use Rattle.operands.proofs.contexts.mark_context.Statement.{statement}
 use Rattle.operands.proofs.contexts.mark_context.Tie as tie
 
 abbrev Inv-loop : tie.InvT-loop
-Inv-loop sheet effects ws₀ order left₀ next₀ to₀ ws left next to = Setting (operandEffects (rangesOf ws₀ .ends) (order .0) (effectsIn sheet effects .what)) sheet ws₀ left₀ next₀ to₀ ws left next to
+Inv-loop sheet lists effects ws₀ order left₀ next₀ to₀ ws left next to = Setting (operandEffects (rangesOf ws₀ .ends) (order .0) (effectsIn sheet effects .what)) lists ws₀ left₀ next₀ to₀ ws left next to
 
 abbrev μ-loop : tie.MeasureT-loop
-μ-loop sheet effects ws₀ order left₀ next₀ to₀ ws left next to = left
+μ-loop sheet lists effects ws₀ order left₀ next₀ to₀ ws left next to = left
 
 context-of-requires : tie.Need-context-of-requires Inv-loop μ-loop
 context-of-requires c κs =
-    let b3 = c .before .before .before in
-    b3 .pre .0
+    let b4 = c .before .before .before .before in
+    b4 .pre .0
 
 cast-to : tie.Need-cast-to Inv-loop μ-loop
 cast-to c = omega arith
 
 mul-to : tie.Need-mul-to Inv-loop μ-loop
 mul-to c =
-    let b5 = c .before .before .before .before .before in
-    omega (arith, b5 .pre .0 .1 .0 .count, b5 .pre .0 .1 .1)
+    let b6 = c .before .before .before .before .before .before in
+    omega (arith, b6 .pre .0 .1 .0 .count, b6 .pre .0 .1 .1)
 
 add-to : tie.Need-add-to Inv-loop μ-loop
 add-to c =
-    let b5 = c .before .before .before .before .before in
-    omega (arith, b5 .pre .0 .1 .0 .count, b5 .pre .0 .1 .1)
+    let b6 = c .before .before .before .before .before .before in
+    omega (arith, b6 .pre .0 .1 .0 .count, b6 .pre .0 .1 .1)
 
 loop-holds : tie.Need-loop-holds Inv-loop μ-loop
 loop-holds c = setting-start _ _ _ _ _ _
@@ -43,8 +43,8 @@ place-at-requires c κs =
 mark-of-requires : tie.Need-mark-of-requires Inv-loop μ-loop
 mark-of-requires c κs =
     let b3 = c .before .before .before in
-    let b9 = b3 .before .before .before .before .before .before in
-    (b9 .pre .1 .0, (b9 .pre .1 .1, omega (arith, b3 .loop .inv .kept .same, b9 .pre .0 .1 .0 .size)))
+    let b10 = b3 .before .before .before .before .before .before .before in
+    (b10 .pre .1 .0, (b10 .pre .1 .1, omega (arith, b3 .loop .inv .kept .same, b10 .pre .0 .1 .0 .size)))
 
 number-requires : tie.Need-number-requires Inv-loop μ-loop
 number-requires c κs = tt
@@ -57,31 +57,32 @@ mul-ws c =
     let b4 = c .before .before .before .before in
     let b5 = b4 .before in
     let b7 = b5 .before .before in
-    let b11 = b7 .before .before .before .before in
-    omega (arith, setting-word (b11 .pre .0 .1 .0) (b11 .pre .0 .1 .1) (b7 .context-of .ensures) (b5 .loop .inv) (b4 .loop-test .taken))
+    let b12 = b7 .before .before .before .before .before in
+    omega (arith, setting-word (b12 .pre .0 .1 .0) (b12 .pre .0 .1 .1) (b7 .context-of .ensures) (b5 .loop .inv) (b4 .loop-test .taken))
 
 slice-write-ws : tie.Need-slice-write-ws Inv-loop μ-loop
 slice-write-ws c =
     let b4 = c .before .before .before .before in
     let b5 = b4 .before in
     let b7 = b5 .before .before in
-    let b11 = b7 .before .before .before .before in
-    omega (arith, setting-word (b11 .pre .0 .1 .0) (b11 .pre .0 .1 .1) (b7 .context-of .ensures) (b5 .loop .inv) (b4 .loop-test .taken), b5 .loop .inv .kept .same, b11 .pre .0 .1 .0 .size)
+    let b12 = b7 .before .before .before .before .before in
+    omega (arith, setting-word (b12 .pre .0 .1 .0) (b12 .pre .0 .1 .1) (b7 .context-of .ensures) (b5 .loop .inv) (b4 .loop-test .taken), b5 .loop .inv .kept .same, b12 .pre .0 .1 .0 .size)
 
 add-next : tie.Need-add-next Inv-loop μ-loop
 add-next c =
     let b4 = c .before .before .before .before in
     let b5 = b4 .before in
     let b7 = b5 .before .before in
-    omega (arith, setting-inside (b5 .loop .inv) (b4 .loop-test .taken) (b7 .context-of .ensures .inside))
+    let b12 = b7 .before .before .before .before .before in
+    omega (arith, setting-inside (b5 .loop .inv) (b4 .loop-test .taken) (b7 .context-of .ensures .inside), b12 .good)
 
 add-to-2 : tie.Need-add-to-2 Inv-loop μ-loop
 add-to-2 c =
     let b4 = c .before .before .before .before in
     let b5 = b4 .before in
     let b7 = b5 .before .before in
-    let b11 = b7 .before .before .before .before in
-    omega (arith, setting-word (b11 .pre .0 .1 .0) (b11 .pre .0 .1 .1) (b7 .context-of .ensures) (b5 .loop .inv) (b4 .loop-test .taken))
+    let b12 = b7 .before .before .before .before .before in
+    omega (arith, setting-word (b12 .pre .0 .1 .0) (b12 .pre .0 .1 .1) (b7 .context-of .ensures) (b5 .loop .inv) (b4 .loop-test .taken))
 
 sub-left : tie.Need-sub-left Inv-loop μ-loop
 sub-left c = omega arith
@@ -95,8 +96,8 @@ loop-again c =
     let b4 = b3 .before in
     let b5 = b4 .before in
     let b7 = b5 .before .before in
-    let b11 = b7 .before .before .before .before in
-    setting-turn (b5 .loop .inv) (b4 .loop-test .taken) (omega arith) (setting-word (b11 .pre .0 .1 .0) (b11 .pre .0 .1 .1) (b7 .context-of .ensures) (b5 .loop .inv) (b4 .loop-test .taken)) (c .before .mark-of .result) (b3 .place-at .ensures) (c .before .mark-of .ensures
+    let b12 = b7 .before .before .before .before .before in
+    setting-turn (b5 .loop .inv) (b4 .loop-test .taken) (omega arith) (setting-word (b12 .pre .0 .1 .0) (b12 .pre .0 .1 .1) (b7 .context-of .ensures) (b5 .loop .inv) (b4 .loop-test .taken)) (c .before .mark-of .result) (b3 .place-at .ensures) (c .before .mark-of .ensures
     ∙ mark-kept (b5 .loop .inv .kept) _ _ _ _) (c .number .ensures)
 
 same-length : tie.Need-same-length Inv-loop μ-loop

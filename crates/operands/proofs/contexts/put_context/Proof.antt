@@ -6,10 +6,10 @@ use Rattle.operands.proofs.contexts.put_context.Statement.{statement}
 use Rattle.operands.proofs.contexts.put_context.Tie as tie
 
 abbrev Inv-loop : tie.InvT-loop
-Inv-loop sheet ws answer₀ at left₀ next₀ word₀ to₀ answer left next word to = Putting sheet ws left₀ next₀ word₀ answer₀ at left next word answer to
+Inv-loop lists ws answer₀ at left₀ next₀ word₀ to₀ answer left next word to = Putting lists ws left₀ next₀ word₀ answer₀ at left next word answer to
 
 abbrev μ-loop : tie.MeasureT-loop
-μ-loop sheet ws answer₀ at left₀ next₀ word₀ to₀ answer left next word to = left
+μ-loop lists ws answer₀ at left₀ next₀ word₀ to₀ answer left next word to = left
 
 context-of-requires : tie.Need-context-of-requires Inv-loop μ-loop
 context-of-requires c κs =

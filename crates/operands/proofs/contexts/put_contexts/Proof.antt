@@ -6,10 +6,10 @@ use Rattle.operands.proofs.contexts.put_contexts.Statement.{statement}
 use Rattle.operands.proofs.contexts.put_contexts.Tie as tie
 
 abbrev Inv-loop : tie.InvT-loop
-Inv-loop sheet ws count answer₀ at k₀ to₀ answer k to = PuttingAll sheet ws count answer₀ at k answer to
+Inv-loop lists ws count answer₀ at k₀ to₀ answer k to = PuttingAll lists ws count answer₀ at k answer to
 
 abbrev μ-loop : tie.MeasureT-loop
-μ-loop sheet ws count answer₀ at k₀ to₀ answer k to = count - k
+μ-loop lists ws count answer₀ at k₀ to₀ answer k to = count - k
 
 loop-holds : tie.Need-loop-holds Inv-loop μ-loop
 loop-holds c = all-start _ _ _ _ _

@@ -9,8 +9,8 @@ enum-known-value c = search needs
 
 mark-context-requires : tie.Need-mark-context-requires
 mark-context-requires c κs =
-    let b6 = c .before .before .before .before .before .before in
-    ((b6 .pre .0, (b6 .pre .1 .known, function-known (b6 .pre .1) (c .before .before .value .given .1))), (b6 .pre .1 .effects, intos-below (b6 .pre .1)))
+    let b7 = c .before .before .before .before .before .before .before in
+    ((b7 .pre .0, (b7 .pre .1 .known, function-known (b7 .pre .1 .parts) (c .before .before .value .given .1))), (b7 .pre .1 .parts .effects, intos-below (b7 .pre .1 .parts)))
 
 same-length : tie.Need-same-length
 same-length c = search needs

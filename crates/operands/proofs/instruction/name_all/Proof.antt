@@ -10,13 +10,13 @@ use Rattle.operands.proofs.instruction.name_all.Tie as tie
 name-lvalue-requires : tie.Need-name-lvalue-requires
 name-lvalue-requires c κs =
     let b3 = c .before .before .before in
-    (b3 .pre .1 .below .lvalue, (b3 .pre .1 .known .size, b3 .pre .1 .below .order))
+    (b3 .pre .1 .1 .below .lvalue, (b3 .pre .0, b3 .pre .1 .1 .below .order))
 
 name-lvalues-requires : tie.Need-name-lvalues-requires
 name-lvalues-requires c κs =
     let b3 = c .before .before .before in
     let b7 = b3 .before .before .before .before in
-    (lvalues-in (b7 .pre .1), (omega (arith, b7 .pre .1 .known .size, b3 .name-lvalue .ensures .kept .same), b7 .pre .1 .below .order))
+    (lvalues-in (b7 .pre .1 .1), (omega (arith, b7 .pre .0, b3 .name-lvalue .ensures .kept .same), b7 .pre .1 .1 .below .order))
 
 same-length : tie.Need-same-length
 same-length c = search needs

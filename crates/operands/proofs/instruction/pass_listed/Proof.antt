@@ -10,8 +10,8 @@ mark-value-requires c κs = search needs
 start-all-requires : tie.Need-start-all-requires
 start-all-requires c κs =
     let b3 = c .before .before .before in
-    let b8 = b3 .before .before .before .before .before in
-    (b8 .pre .0, instruction-known-kept (kept-contexts (b3 .mark-value .ensures .kept)) (b8 .pre .1))
+    let b9 = b3 .before .before .before .before .before .before in
+    (b9 .pre .0, instruction-known-kept (kept-contexts (b3 .mark-value .ensures .kept)) (b9 .pre .1))
 
 same-length : tie.Need-same-length
 same-length c = search needs

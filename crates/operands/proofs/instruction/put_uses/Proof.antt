@@ -15,7 +15,7 @@ use Rattle.operands.proofs.instruction.put_uses.Tie as tie
 mark-of-requires : tie.Need-mark-of-requires
 mark-of-requires c κs =
     let b4 = c .before .before .before .before in
-    (b4 .pre .0 .1 .effects, (intos-below (b4 .pre .0 .1), b4 .pre .0 .1 .known .size))
+    (b4 .pre .0 .1 .1 .effects, (intos-below (b4 .pre .0 .1 .1), b4 .pre .0 .0))
 
 with-effect-requires : tie.Need-with-effect-requires
 with-effect-requires c κs = tt
@@ -29,7 +29,7 @@ put-marked-requires : tie.Need-put-marked-requires
 put-marked-requires c κs =
     let b3 = c .before .before .before in
     let b11 = b3 .before .before .before .before .before .before .before .before in
-    (b11 .pre .0 .1 .valueLvalues, (b11 .pre .0 .1 .effects, ((intos-below (b11 .pre .0 .1), b11 .pre .0 .1 .known .size), omega (arith, b3 .put-place .ensures .next, b11 .pre .1))))
+    (b11 .pre .0 .1 .1 .valueLvalues, (b11 .pre .0 .1 .1 .effects, ((intos-below (b11 .pre .0 .1 .1), b11 .pre .0 .0), omega (arith, b3 .put-place .ensures .next, b11 .pre .1))))
 
 put-marked-requires-2 : tie.Need-put-marked-requires-2
 put-marked-requires-2 c κs =
@@ -39,7 +39,7 @@ put-marked-requires-2 c κs =
     let a = b15 .args in
     let marked = withMark (marksNow (a .sheet .now) (a .ws .now) (a .i)) conditionallyMutateEffect in
     let lvalues = places-end marked (a .sheet .now) (a .i .«value_lvalues») (b3 .put-marked .ensures) in
-    (b15 .pre .0 .1 .operands, (b15 .pre .0 .1 .effects, ((intos-below (b15 .pre .0 .1), b15 .pre .0 .1 .known .size), omega (arith, b7 .put-place .ensures .next, lvalues, b15 .pre .1))))
+    (b15 .pre .0 .1 .1 .operands, (b15 .pre .0 .1 .1 .effects, ((intos-below (b15 .pre .0 .1 .1), b15 .pre .0 .0), omega (arith, b7 .put-place .ensures .next, lvalues, b15 .pre .1))))
 
 same-length : tie.Need-same-length
 same-length c = search needs

@@ -8,8 +8,8 @@ use Rattle.operands.proofs.instruction.start_all.Tie as tie
 
 start-operands-requires : tie.Need-start-operands-requires
 start-operands-requires c κs =
-    let b3 = c .before .before .before in
-    (operands-in (b3 .pre .1), b3 .pre .1 .known .size)
+    let b4 = c .before .before .before .before in
+    (operands-in (b4 .pre .1 .parts), b4 .pre .1 .known .size)
 
 enum-told : tie.Need-enum-told
 enum-told c = search needs
@@ -20,15 +20,15 @@ enum-known-value c = search needs
 context-of-requires : tie.Need-context-of-requires
 context-of-requires c κs =
     let b6 = c .before .before .before .before .before .before in
-    let b10 = b6 .before .before .before .before in
-    (b10 .pre .0, (known-kept (kept-ranges (b6 .start-operands .ensures .kept)) (b10 .pre .1 .known), function-known (b10 .pre .1) (c .before .before .value .given .1)))
+    let b11 = b6 .before .before .before .before .before in
+    (b11 .pre .0, (known-kept (kept-ranges (b6 .start-operands .ensures .kept)) (b11 .pre .1 .known), function-known (b11 .pre .1 .parts) (c .before .before .value .given .1)))
 
 start-operands-requires-2 : tie.Need-start-operands-requires-2
 start-operands-requires-2 c κs =
     let b4 = c .before .before .before .before in
     let b8 = b4 .before .before .before .before in
-    let b12 = b8 .before .before .before .before in
-    (context-in (known-kept (kept-ranges (b8 .start-operands .ensures .kept)) (b12 .pre .1 .known)) (function-known (b12 .pre .1) (b4 .value .given .1)) (c .before .context-of .ensures), omega (arith, b12 .pre .1 .known .size, b8 .start-operands .ensures .kept .same))
+    let b13 = b8 .before .before .before .before .before in
+    (context-in (known-kept (kept-ranges (b8 .start-operands .ensures .kept)) (b13 .pre .1 .known)) (function-known (b13 .pre .1 .parts) (b4 .value .given .1)) (c .before .context-of .ensures), omega (arith, b13 .pre .1 .known .size, b8 .start-operands .ensures .kept .same))
 
 enum-known-value-2 : tie.Need-enum-known-value-2
 enum-known-value-2 c = search needs
@@ -36,8 +36,8 @@ enum-known-value-2 c = search needs
 store-requires : tie.Need-store-requires
 store-requires c κs =
     let b6 = c .before .before .before .before .before .before in
-    let b10 = b6 .before .before .before .before in
-    (store-known (b10 .pre .1) (c .before .before .value2 .given .1), (omega (arith, b10 .pre .1 .known .size, b6 .start-operands .ensures .kept .same), b10 .pre .1 .below .order))
+    let b11 = b6 .before .before .before .before .before in
+    (store-known (b11 .pre .1 .parts) (c .before .before .value2 .given .1), (omega (arith, b11 .pre .1 .known .size, b6 .start-operands .ensures .kept .same), b11 .pre .1 .parts .below .order))
 
 same-length : tie.Need-same-length
 same-length c = search needs

@@ -11,7 +11,7 @@ use Rattle.operands.proofs.phis.pass_phis.Tie as tie
 list-at-requires : tie.Need-list-at-requires
 list-at-requires c κs =
     let b3 = c .before .before .before in
-    phis-count _ _ (b3 .pre .inside)
+    phis-count _ _ (b3 .pre .1 .inside)
 
 enum-told : tie.Need-enum-told
 enum-told c = search needs
@@ -20,12 +20,12 @@ put-phis-requires : tie.Need-put-phis-requires
 put-phis-requires c κs =
     let b4 = c .before .before .before .before in
     let b8 = b4 .before .before .before .before in
-    (phis-inside (b4 .list-at .ensures) (b8 .pre), ((phis-below (b4 .list-at .ensures) (b8 .pre), b8 .pre .ready .known .size), phis-room (b4 .list-at .ensures) (b8 .pre)))
+    (phis-inside (b4 .list-at .ensures) (b8 .pre .1), ((phis-below (b4 .list-at .ensures) (b8 .pre .1), b8 .pre .1 .ready .known .size), phis-room (b4 .list-at .ensures) (b8 .pre .1)))
 
 start-phis-requires : tie.Need-start-phis-requires
 start-phis-requires c κs =
     let b6 = c .before .before .before .before .before .before in
-    (phis-inside (c .before .before .list-at .ensures) (b6 .pre), (phis-below (c .before .before .list-at .ensures) (b6 .pre), b6 .pre .ready .known .size))
+    (phis-inside (c .before .before .list-at .ensures) (b6 .pre .1), (phis-below (c .before .before .list-at .ensures) (b6 .pre .1), b6 .pre .1 .ready .known .size))
 
 -- where the arms meet
 joined : (c : tie.At-match-came)
@@ -53,7 +53,7 @@ returns : tie.Need-returns
 returns c =
     let b3 = c .before .before .before in
     let b5 = b3 .before .before in
-    phis-passed (b5 .list-at .ensures) _ _ _ _ (joined (b3 .before)) (c .before .before .start-phis .ensures)
+    λ lists. phis-passed (b5 .list-at .ensures) _ _ _ _ (joined (b3 .before)) (c .before .before .start-phis .ensures)
 
 pub pass-phis-spec : {M : Type 1} → statement M
 pass-phis-spec =

@@ -14,12 +14,12 @@ put-terminal-requires : tie.Need-put-terminal-requires
 put-terminal-requires c κs =
     let b5 = c .before .before .before .before .before in
     let b6 = b5 .before in
-    (b6 .pre .inside, b6 .pre .room)
+    (b6 .pre .1 .inside, b6 .pre .1 .room)
 
 past-terminal-requires : tie.Need-past-terminal-requires
 past-terminal-requires c κs =
     let b4 = c .before .before .before .before in
-    b4 .pre .inside
+    b4 .pre .1 .inside
 
 -- where the arms meet
 joined : (c : tie.At-match-came)
@@ -38,7 +38,7 @@ same-length : tie.Need-same-length
 same-length c = put-same (joined (c .before))
 
 returns : tie.Need-returns
-returns c = terminal-passed _ _ _ (joined (c .before)) (c .past-terminal .ensures)
+returns c = λ lists. terminal-passed _ _ _ (joined (c .before)) (c .past-terminal .ensures)
 
 pub pass-terminal-spec : {M : Type 1} → statement M
 pass-terminal-spec =

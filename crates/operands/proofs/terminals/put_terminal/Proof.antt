@@ -1,4 +1,5 @@
 use Rattle.operands.proofs.TerminalPlaces.{other-inside, other-room, other-put, return-room, return-put, throw-put}
+use native.Mathlib.Omega.{arith}
 use borrow.Author.Needs.{needs}
 use Rattle.operands.proofs.terminals.put_terminal.Statement.{statement}
 use Rattle.operands.proofs.terminals.put_terminal.Tie as tie
@@ -13,7 +14,7 @@ put-places-requires : tie.Need-put-places-requires
 put-places-requires c κs =
     let b4 = c .before .before .before .before in
     let b7 = b4 .before .before .before in
-    (other-inside _ _ (b4 .terminal-at .ensures) (c .before .before .operands .given .1) (b7 .pre .0), other-room _ _ (b4 .terminal-at .ensures) (c .before .before .operands .given .1) _ (b7 .pre .0) (b7 .pre .1))
+    ((omega arith, other-inside _ _ (b4 .terminal-at .ensures) (c .before .before .operands .given .1) (b7 .pre .0)), other-room _ _ (b4 .terminal-at .ensures) (c .before .before .operands .given .1) _ (b7 .pre .0) (b7 .pre .1))
 
 enum-known-value : tie.Need-enum-known-value
 enum-known-value c = search needs

@@ -1,4 +1,4 @@
-use Rattle.reading.proofs.JudgeLaws.{times-next, times-stop, times-done, section-got, section-refused}
+use Rattle.reading.proofs.JudgeLaws.{times-next, section-stop, section-done, section-refused}
 use Rattle.reading.specs.TotalsSays.{totalsAre, totalsSays}
 use Rattle.reading.specs.Judging.{judge, counting}
 use Rattle.hir.specs.Says.{wordSays}
@@ -30,9 +30,7 @@ enum-known-k1 c = search needs
 
 returns : tie.Need-returns Inv-loop μ-loop
 unfolding effects
-returns c =
-    let b3 = c .before .before .before in
-    sym (section-refused _ _ _ _ _ _ _ (says wordSays (c .before .k1 .given .1) (b3 .count .ensures)))
+returns c = sym (section-refused _ _ _ _ _ _ _ (says wordSays (c .before .k1 .given .1) (c .before .before .before .count .ensures)))
 
 loop-holds : tie.Need-loop-holds Inv-loop μ-loop
 loop-holds c = refl
@@ -50,13 +48,8 @@ returns-2 : tie.Need-returns-2 Inv-loop μ-loop
 unfolding effects
 returns-2 c =
     let b3 = c .before .before .before in
-    let b4 = b3 .before in
-    let b5 = b4 .before in
-    let b7 = b5 .before .before in
-    let b9 = b7 .before .before in
-    sym (section-got _ _ _ _ _ _ _ _ (says wordSays (b7 .count2 .given .1) (b9 .count .ensures))
-    ∙ b5 .loop .inv
-    ∙ times-stop _ _ _ _ _ _ _ (b4 .loop-test .taken) (says totalsSays (c .before .k2 .given .1) (b3 .effect .ensures)))
+    let b7 = b3 .before .before .before .before in
+    sym (section-stop _ _ _ _ _ _ _ _ (says wordSays (b7 .count2 .given .1) (b7 .before .before .count .ensures)) _ _ _ (b3 .before .before .loop .inv) _ (b3 .before .loop-test .taken) (says totalsSays (c .before .k2 .given .1) (b3 .effect .ensures)))
 
 sub-left : tie.Need-sub-left Inv-loop μ-loop
 sub-left c = omega arith
@@ -67,18 +60,13 @@ loop-less c = omega arith
 loop-again : tie.Need-loop-again Inv-loop μ-loop
 loop-again c =
     let b3 = c .before .before .before in
-    let b4 = b3 .before in
-    b4 .before .loop .inv
-    ∙ times-next _ _ _ _ _ _ _ _ (b4 .loop-test .taken) (says totalsSays (c .before .u .given .1) (b3 .effect .ensures))
+    b3 .before .before .loop .inv ∙ times-next _ _ _ _ _ _ _ _ (b3 .before .loop-test .taken) (says totalsSays (c .before .u .given .1) (b3 .effect .ensures))
 
 returns-3 : tie.Need-returns-3 Inv-loop μ-loop
 unfolding effects
 returns-3 c =
     let b3 = c .before .before .before in
-    let b5 = b3 .before .before in
-    sym (section-got _ _ _ _ _ _ _ _ (says wordSays (b3 .count2 .given .1) (b5 .count .ensures))
-    ∙ c .before .loop .inv
-    ∙ times-done _ _ _ _ _ _ (c .loop-test .left))
+    sym (section-done _ _ _ _ _ _ _ _ (says wordSays (b3 .count2 .given .1) (b3 .before .before .count .ensures)) _ _ _ (c .before .loop .inv) (c .loop-test .left))
 
 pub effects-spec : {M : Type 1} → statement M
 effects-spec =

@@ -1,4 +1,4 @@
-use Rattle.reading.proofs.BlockLaws.{terminal-got, terminal-kind-refused, terminal-order-refused, other-judged, return-judged, throw-judged}
+use Rattle.reading.proofs.BlockLaws.{terminal-kind-refused, terminal-order-refused, other-judged, return-judged, throw-judged}
 use Rattle.hir.specs.Says.{wordSays, kindStepSays, orderSays}
 use Rattle.reading.specs.TotalsSays.{totalsSays}
 use mathlib.Core.Path.{sym}
@@ -17,9 +17,7 @@ enum-known-k1 : tie.Need-enum-known-k1
 enum-known-k1 c = search needs
 
 returns : tie.Need-returns
-returns c =
-    let b3 = c .before .before .before in
-    sym (terminal-kind-refused _ _ _ _ _ _ (says kindStepSays (c .before .k1 .given .1) (b3 .terminal-kind .ensures)))
+returns c = sym (terminal-kind-refused _ _ _ _ _ _ (says kindStepSays (c .before .k1 .given .1) (c .before .before .before .terminal-kind .ensures)))
 
 order-requires : tie.Need-order-requires
 order-requires c κs = search needs
@@ -32,10 +30,8 @@ enum-known-k2 c = search needs
 
 returns-2 : tie.Need-returns-2
 returns-2 c =
-    let b3 = c .before .before .before in
-    let b5 = b3 .before .before in
-    let b7 = b5 .before .before in
-    sym (terminal-order-refused _ _ _ _ _ _ _ _ (says kindStepSays (b5 .t .given .1) (b7 .terminal-kind .ensures)) (says orderSays (c .before .k2 .given .1) (b3 .order .ensures)))
+    let b5 = c .before .before .before .before .before in
+    sym (terminal-order-refused _ _ _ _ _ _ _ _ (says kindStepSays (b5 .t .given .1) (b5 .before .before .terminal-kind .ensures)) (says orderSays (c .before .k2 .given .1) (c .before .before .before .order .ensures)))
 
 enum-told : tie.Need-enum-told
 enum-told c = search needs
@@ -72,68 +68,38 @@ terminal-effects-requires-2 c κs = search needs
 
 returns-3 : tie.Need-returns-3
 returns-3 c =
-    let b3 = c .before .before .before in
-    let b4 = b3 .before in
-    let b7 = b4 .before .before .before in
-    let b9 = b7 .before .before in
-    let b11 = b9 .before .before in
-    let b13 = b11 .before .before in
-    rw (
-      terminal-got _ _ _ _ _ _ _ _ _ (rw (b4 .enum-told .given .1) at (says kindStepSays (b11 .t .given .1) (b13 .terminal-kind .ensures))) (says orderSays (b7 .d2 .given .1) (b9 .order .ensures)),
-      other-judged _ _ _ _ _ _,
-      says wordSays (c .before .c3 .given .1) (b3 .places .ensures),
-    )
+    let told = c .before .before .before .before in
+    let b = told .before .before .before in
+    let kind = says kindStepSays (b .before .before .before .before .t .given .1) (b .before .before .before .before .before .before .terminal-kind .ensures) in
+    rw (other-judged _ _ _ _ _ _ _ _ (says orderSays (b .d2 .given .1) (b .before .before .order .ensures)) (rw (told .enum-told .given .1) at kind), says wordSays (c .before .c3 .given .1) (c .before .before .before .places .ensures))
 
 returns-4 : tie.Need-returns-4
 returns-4 c =
-    let b3 = c .before .before .before in
-    let b4 = b3 .before in
-    let b7 = b4 .before .before .before in
-    let b9 = b7 .before .before in
-    let b11 = b9 .before .before in
-    let b13 = b11 .before .before in
-    rw (
-      terminal-got _ _ _ _ _ _ _ _ _ (rw (b4 .enum-told .given .1) at (says kindStepSays (b11 .t .given .1) (b13 .terminal-kind .ensures))) (says orderSays (b7 .d2 .given .1) (b9 .order .ensures)),
-      other-judged _ _ _ _ _ _,
-      says wordSays (c .before .k3 .given .1) (b3 .places .ensures),
-    )
+    let told = c .before .before .before .before in
+    let b = told .before .before .before in
+    let kind = says kindStepSays (b .before .before .before .before .t .given .1) (b .before .before .before .before .before .before .terminal-kind .ensures) in
+    rw (other-judged _ _ _ _ _ _ _ _ (says orderSays (b .d2 .given .1) (b .before .before .order .ensures)) (rw (told .enum-told .given .1) at kind), says wordSays (c .before .k3 .given .1) (c .before .before .before .places .ensures))
 
 returns-5 : tie.Need-returns-5
 returns-5 c =
-    let b3 = c .before .before .before in
-    let b4 = b3 .before in
-    let b5 = b4 .before in
-    let b8 = b5 .before .before .before in
-    let b10 = b8 .before .before in
-    let b12 = b10 .before .before in
-    let b14 = b12 .before .before in
-    rw (
-      terminal-got _ _ _ _ _ _ _ _ _ (rw (b5 .enum-told2 .given .1) at (says kindStepSays (b12 .t .given .1) (b14 .terminal-kind .ensures))) (says orderSays (b8 .d2 .given .1) (b10 .order .ensures)),
-      return-judged _ _ _ _ _ _,
-      says totalsSays (c .before .before .t4 .given .1) (b4 .value .ensures),
-    ) (c .terminal-effects .ensures)
+    let told = c .before .before .before .before .before in
+    let b = told .before .before .before in
+    let kind = says kindStepSays (b .before .before .before .before .t .given .1) (b .before .before .before .before .before .before .terminal-kind .ensures) in
+    rw (return-judged _ _ _ _ _ _ _ _ (says orderSays (b .d2 .given .1) (b .before .before .order .ensures)) (rw (told .enum-told2 .given .1) at kind), says totalsSays (c .before .before .t4 .given .1) (c .before .before .before .before .value .ensures)) (c .terminal-effects .ensures)
 
 returns-6 : tie.Need-returns-6
 returns-6 c =
-    let b3 = c .before .before .before in
-    let b4 = b3 .before in
-    let b7 = b4 .before .before .before in
-    let b9 = b7 .before .before in
-    let b11 = b9 .before .before in
-    let b13 = b11 .before .before in
-    rw (
-      terminal-got _ _ _ _ _ _ _ _ _ (rw (b4 .enum-told2 .given .1) at (says kindStepSays (b11 .t .given .1) (b13 .terminal-kind .ensures))) (says orderSays (b7 .d2 .given .1) (b9 .order .ensures)),
-      return-judged _ _ _ _ _ _,
-      says totalsSays (c .before .k4 .given .1) (b3 .value .ensures),
-    )
+    let told = c .before .before .before .before in
+    let b = told .before .before .before in
+    let kind = says kindStepSays (b .before .before .before .before .t .given .1) (b .before .before .before .before .before .before .terminal-kind .ensures) in
+    rw (return-judged _ _ _ _ _ _ _ _ (says orderSays (b .d2 .given .1) (b .before .before .order .ensures)) (rw (told .enum-told2 .given .1) at kind), says totalsSays (c .before .k4 .given .1) (c .before .before .before .value .ensures))
 
 returns-7 : tie.Need-returns-7
 returns-7 c =
-    let b4 = c .before .before .before .before in
-    let b6 = b4 .before .before in
-    let b8 = b6 .before .before in
-    let b10 = b8 .before .before in
-    rw (terminal-got _ _ _ _ _ _ _ _ _ (rw (c .before .enum-told3 .given .1) at (says kindStepSays (b8 .t .given .1) (b10 .terminal-kind .ensures))) (says orderSays (b4 .d2 .given .1) (b6 .order .ensures)), throw-judged _ _ _ _ _ _) (c .terminal-effects2 .ensures)
+    let told = c .before in
+    let b = told .before .before .before in
+    let kind = says kindStepSays (b .before .before .before .before .t .given .1) (b .before .before .before .before .before .before .terminal-kind .ensures) in
+    rw (throw-judged _ _ _ _ _ _ _ _ (says orderSays (b .d2 .given .1) (b .before .before .order .ensures)) (rw (told .enum-told3 .given .1) at kind)) (c .terminal-effects2 .ensures)
 
 pub terminal-spec : {M : Type 1} → statement M
 terminal-spec =

@@ -27,9 +27,7 @@ enum-known-k1 : tie.Need-enum-known-k1 Inv-loop μ-loop
 enum-known-k1 c = search needs
 
 returns : tie.Need-returns Inv-loop μ-loop
-returns c =
-    let b3 = c .before .before .before in
-    sym (count-stopped _ _ _ _ _ (says wordSays (c .before .k1 .given .1) (b3 .count .ensures)))
+returns c = sym (count-stopped _ _ _ _ _ (says wordSays (c .before .k1 .given .1) (c .before .before .before .count .ensures)))
 
 loop-holds : tie.Need-loop-holds Inv-loop μ-loop
 loop-holds c = refl
@@ -46,12 +44,9 @@ enum-known-k2 c = search needs
 returns-2 : tie.Need-returns-2 Inv-loop μ-loop
 returns-2 c =
     let b3 = c .before .before .before in
-    let b4 = b3 .before in
-    let b5 = b4 .before in
-    let b7 = b5 .before .before in
-    let b9 = b7 .before .before in
-    sym (section-stopped _ _ _ _ _ _ _ (says wordSays (b7 .k .given .1) (b9 .count .ensures)) (b5 .loop .inv
-    ∙ times-stop _ _ _ _ _ _ _ (b4 .loop-test .taken) (says cursorSays (c .before .k2 .given .1) (b3 .inner-function .ensures))))
+    let b7 = b3 .before .before .before .before in
+    sym (section-stopped _ _ _ _ _ _ _ (says wordSays (b7 .k .given .1) (b7 .before .before .count .ensures)) (b3 .before .before .loop .inv
+    ∙ times-stop _ _ _ _ _ _ _ (b3 .before .loop-test .taken) (says cursorSays (c .before .k2 .given .1) (b3 .inner-function .ensures))))
 
 sub-left : tie.Need-sub-left Inv-loop μ-loop
 sub-left c = omega arith
@@ -62,17 +57,12 @@ loop-less c = omega arith
 loop-again : tie.Need-loop-again Inv-loop μ-loop
 loop-again c =
     let b3 = c .before .before .before in
-    let b4 = b3 .before in
-    let b5 = b4 .before in
-    b5 .loop .inv
-    ∙ times-next _ _ _ _ _ _ _ _ (b4 .loop-test .taken) (says cursorSays (c .before .d2 .given .1) (b3 .inner-function .ensures))
+    b3 .before .before .loop .inv ∙ times-next _ _ _ _ _ _ _ _ (b3 .before .loop-test .taken) (says cursorSays (c .before .d2 .given .1) (b3 .inner-function .ensures))
 
 returns-3 : tie.Need-returns-3 Inv-loop μ-loop
 returns-3 c =
     let b3 = c .before .before .before in
-    let b5 = b3 .before .before in
-    sym (section-read _ _ _ _ _ _ _ (says wordSays (b3 .k .given .1) (b5 .count .ensures)) (c .before .loop .inv
-    ∙ times-done _ _ _ _ _ _ (c .loop-test .left)))
+    sym (section-read _ _ _ _ _ _ _ (says wordSays (b3 .k .given .1) (b3 .before .before .count .ensures)) (c .before .loop .inv ∙ times-done _ _ _ _ _ _ (c .loop-test .left)))
 
 pub functions-spec : {M : Type 1} → statement M
 functions-spec =
