@@ -65,11 +65,124 @@ fn explained() {
     ));
     assert!(text.ends_with(
         "result  0..0, not moved\n\
-         8 of 9 ends moved, 3 of them by the pass over operands. Ranges and walks made here agree \
-         with the library's answer.\n"
+         param props  Definite (MutateTransitive)\n    \
+         MutateTransitive rows span 88, instruction at 6 in block 2 (index 4) \
+         changes rows and all that it has captured\n    \
+         -> rows.given, of which rows is an alias: \
+         phi rows in block 2, operand from block 1 (index 3)\n    \
+         -> props, from which rows.given was created, and all that it has captured: \
+         CreateFrom props into rows.given, instruction at 4 in block 1 (index 1)\n\
+         Not exact here (a phi): chains may lead to a place that its kinds do not show.\n\
+         8 of 9 ends moved, 3 of them by the pass over operands. Ranges, walks and reports made \
+         here agree with the library's answer.\n"
     ));
     let words = String::from_utf8(out(&["explain", "case1.sheet"])).unwrap();
     assert!(words.starts_with("x0  0..0 -> 1..3\n"), "{words}");
+}
+
+/// What `explain` says of context and parameters: the lines between those of the ranges and the last.
+fn sure(path: &str) -> String {
+    let text = String::from_utf8(out(&["explain", path])).unwrap();
+    let lines = text
+        .lines()
+        .skip_while(|line| !line.starts_with("context ") && !line.starts_with("param "));
+    let mut lines: Vec<&str> = lines.collect();
+    lines.pop();
+    lines.join("\n")
+}
+
+const EXACT: &str = "Exact here (no phi, every mutation transitive): to a Conditional place no \
+                     Definite mutation leads without a maybe-alias step, to one not reported no \
+                     mutation leads.";
+
+/// Whether a parameter's mutation is Definite or Conditional, with the chain.
+#[test]
+fn how_sure() {
+    let expected = format!(
+        "param props  Definite (MutateTransitive)\n    \
+         MutateTransitive list span 60, instruction at 3 in block 0 (index 2) \
+         changes list and all that it has captured\n    \
+         -> row, which list has captured: \
+         Capture row into list, instruction at 2 in block 0 (index 1)\n    \
+         -> props, from which row was created, and all that it has captured: \
+         CreateFrom props into row, instruction at 1 in block 0 (index 0)\n\
+         param cache  Conditional (MutateTransitiveConditionally)\n    \
+         MutateTransitive found span 98, instruction at 5 in block 0 (index 4) \
+         changes found and all that it has captured\n    \
+         -> cache, of which found may be an alias, so perhaps: \
+         MaybeAlias cache into found, instruction at 4 in block 0 (index 3)\n\
+         param theme  not reported\n{EXACT}"
+    );
+    assert_eq!(sure("sure.txt"), expected);
+
+    // Each place has its lines: context first, a parameter that is listed twice. The Definite mutation
+    // is named although a Conditional one came before it; forwards over a MaybeAlias it is Conditional.
+    let text = "identifier a\nidentifier b\nidentifier c\ncontext a\nparam b\nparam a\nreturns c\n\
+                block 0\ninstruction at 1\nMaybeAlias a into b\nMutateTransitiveConditionally a\n\
+                MutateTransitive a\nterminal Other at 2\n";
+    let of_a = "  Definite (MutateTransitive)\n    \
+                MutateTransitive a, instruction at 1 in block 0 (index 2) \
+                changes a and all that it has captured\n";
+    let expected = format!(
+        "context a{of_a}\
+         param b  Conditional (MutateTransitiveConditionally)\n    \
+         MutateTransitiveConditionally a, instruction at 1 in block 0 (index 1) \
+         may change a and all that it has captured\n    \
+         -> b, which may be an alias of a, so perhaps: \
+         MaybeAlias a into b, instruction at 1 in block 0 (index 0)\n\
+         param a{of_a}{EXACT}"
+    );
+    assert_eq!(sure(&file("sure-places.txt", text.as_bytes())), expected);
+
+    // A longer chain of aliases beside a short one with a MaybeAlias; the alias of d comes too late.
+    let text = "identifier a\nidentifier b\nidentifier c\nidentifier d\nparam a\nparam d\nreturns c\n\
+                block 3\ninstruction at 4\nCreate b\nCreate c\nMaybeAlias a into c\nAlias a into b\n\
+                Alias b into c\nMaybeAlias d into c\nMutateTransitive c\nAlias d into c\n\
+                terminal Other at 5\n";
+    let mutated = "    MutateTransitive c, instruction at 4 in block 3 (index 4) \
+                   changes c and all that it has captured\n";
+    let expected = format!(
+        "param a  Definite (MutateTransitive)\n{mutated}    \
+         -> b, of which c is an alias: Alias b into c, instruction at 4 in block 3 (index 2)\n    \
+         -> a, of which b is an alias: Alias a into b, instruction at 4 in block 3 (index 1)\n\
+         param d  Conditional (MutateTransitiveConditionally)\n{mutated}    \
+         -> d, of which c may be an alias, so perhaps: \
+         MaybeAlias d into c, instruction at 4 in block 3 (index 3)\n{EXACT}"
+    );
+    assert_eq!(sure(&file("sure-longer.txt", text.as_bytes())), expected);
+}
+
+/// Sheets that order 8 does not speak of: what is reported and why, and no more. A place can have two
+/// reports.
+#[test]
+fn not_exact() {
+    let text = "identifier a\nidentifier b\nidentifier c\nparam a\nparam b\nreturns c\n\
+                block 0\nphi c\ninstruction at 1\nCreateFrom a into a\nCapture b into a\n\
+                Mutate a reason AssignCurrentProperty\nMutateTransitiveConditionally a\n\
+                terminal Other at 2\n";
+    let expected = "param a  Definite (Mutate)\n    \
+                    Mutate a reason AssignCurrentProperty, instruction at 1 in block 0 (index 2) \
+                    changes a\n\
+                    param a  Conditional (MutateTransitiveConditionally)\n    \
+                    MutateTransitiveConditionally a, instruction at 1 in block 0 (index 3) \
+                    may change a and all that it has captured\n\
+                    param b  Conditional (MutateTransitiveConditionally)\n    \
+                    MutateTransitiveConditionally a, instruction at 1 in block 0 (index 3) \
+                    may change a and all that it has captured\n    \
+                    -> b, which a has captured: \
+                    Capture b into a, instruction at 1 in block 0 (index 1)\n\
+                    Not exact here (a phi, a mutation that is not transitive): chains may lead to a \
+                    place that its kinds do not show.";
+    assert_eq!(sure(&file("not-exact.txt", text.as_bytes())), expected);
+    // A local mutation alone: a chain leads to b, by a step that makes it transitive.
+    let text = text.replace("phi c\n", "").replace("MutateTransitiveConditionally a\n", "");
+    let expected = "param a  Definite (Mutate)\n    \
+                    Mutate a reason AssignCurrentProperty, instruction at 1 in block 0 (index 2) \
+                    changes a\n\
+                    param b  not reported\n\
+                    Not exact here (a mutation that is not transitive): chains may lead to a place \
+                    that its kinds do not show.";
+    assert_eq!(sure(&file("not-exact.txt", text.as_bytes())), expected);
 }
 
 #[test]

@@ -4,6 +4,7 @@
 
 pub mod boundaries;
 pub mod cases;
+pub mod certainty;
 pub mod compare;
 pub mod damage;
 pub mod dense;

@@ -1,6 +1,6 @@
 //! The original pass on a sheet: the sheet's parts become HIR, the pass runs, and
 //! what it changed becomes the nine sections that it has; or the graph that it
-//! builds becomes a drawing.
+//! builds is handed over, or becomes a drawing.
 
 use original::react_compiler_hir::environment::Environment;
 use original::react_compiler_hir::object_shape::BUILT_IN_JSX_ID;
@@ -15,7 +15,7 @@ use original::react_compiler_hir::{
     InstructionId, InstructionValue, MutableRange, MutableRangeId, MutationReason, ParamPattern,
     Phi, Place, ReactFunctionType, ReturnVariant, SpreadPattern, Terminal, Type, TypeId,
 };
-use original::react_compiler_inference::graph::built_graph;
+use original::react_compiler_inference::graph::{BuiltGraph, built_graph};
 use original::react_compiler_inference::infer_mutation_aliasing_ranges::infer_mutation_aliasing_ranges;
 use original::react_compiler_utils::OrderedMap;
 use original::react_compiler_utils::ordered_map::{ArenaOrderedMap, ArenaOrderedSet};
@@ -500,16 +500,22 @@ pub fn answer(sheet: &sheet::Sheet) -> Option<Answered> {
 }
 
 // =============================================================================
-// To the drawing
+// To the graph and the drawing
 // =============================================================================
 
-/// The lines of document 02, order 6, for the graph that the original has built. An Apply does not
-/// matter: the original meets it later.
-pub fn drawing(sheet: &sheet::Sheet) -> Vec<u8> {
+/// The graph that the original has built, and its mutations. An Apply does not matter: the original
+/// meets it later.
+pub fn graph(sheet: &sheet::Sheet) -> BuiltGraph {
     let allocator = Allocator::new();
     let Prepared { mut func, mut env, is_function_expression, .. } = prepare(sheet, &allocator);
-    let graph = built_graph(&mut func, &mut env, is_function_expression);
-    let edges = graph.iter().flat_map(|(from, edges)| edges.iter().map(move |edge| (from, edge)));
+    built_graph(&mut func, &mut env, is_function_expression)
+}
+
+/// The lines of document 02, order 6, for that graph.
+pub fn drawing(sheet: &sheet::Sheet) -> Vec<u8> {
+    let nodes = graph(sheet).nodes;
+    let edges =
+        nodes.iter().flat_map(|(from, node)| node.edges.iter().map(move |edge| (from, edge)));
     let word = |kind: &str| match kind {
         "Capture" => "capture",
         "Alias" => "alias",
@@ -517,7 +523,7 @@ pub fn drawing(sheet: &sheet::Sheet) -> Vec<u8> {
         _ => unreachable!("EdgeKind has no {kind}"),
     };
     let mut lines = vec!["digraph g {".to_string()];
-    lines.extend(graph.keys().map(|id| ["  n", &id.to_string(), ";"].concat()));
+    lines.extend(nodes.keys().map(|id| ["  n", &id.to_string(), ";"].concat()));
     lines.extend(edges.map(|(from, edge)| {
         let [from, into, index] = [*from, edge.into, edge.index].map(|number| number.to_string());
         ["  n", &from, " -> n", &into, " [label=\"", word(&edge.kind), " ", &index, "\"];"].concat()

@@ -105,7 +105,7 @@ function-back n f h =
     (last-back (counted mostInnerContext (place n)) (λ (cs : List Place). record { diagnostics = l; context = cs }) (section placeWords (f .context)) (f .context) (places-back n mostInnerContext (f .context) (h .1)))
 
 -- ---- effects
-kind-back : (k : EffectKind) → kindOf (rowOf k .number) ≡ k
+pub kind-back : (k : EffectKind) → kindOf (rowOf k .number) ≡ k
 unfolding kindOf rowOf
 kind-back Freeze = refl
 kind-back Mutate = refl

@@ -1,7 +1,7 @@
 -- Lists that are gathered.
-use mathlib.Core.Path.{_≡_, refl, sym, ap, _∙_}
+use mathlib.Core.Path.{_≡_, refl, sym, ap, subst, _∙_}
 use mathlib.Core.Bool.{Bool, true, false}
-use mathlib.Core.List.{List, [], _∷_, _++_, map, append-assoc}
+use mathlib.Core.List.{List, [], _∷_, _++_, map, append-assoc, List·Memᴰ, List·Memᴰ·head, List·Memᴰ·tail, Memᴰ·append-left, Memᴰ·append-right}
 use Rattle.model.specs.Lists.{gather, keep, consIf, listIf}
 
 module _ {A B : Type 0} (f : A → List B) where
@@ -9,6 +9,11 @@ module _ {A B : Type 0} (f : A → List B) where
   pub gather-append : (l r : List A) → gather f (l ++ r) ≡ gather f l ++ gather f r
   gather-append [] r = refl
   gather-append (a ∷ l) r = ap (λ (z : List B). f a ++ z) (gather-append l r) ∙ sym (append-assoc (f a) (gather f l) (gather f r))
+
+  -- what is in a member's list
+  pub mem-gather : {a : A} {l : List A} {b : B} → List·Memᴰ a l → List·Memᴰ b (f a) → List·Memᴰ b (gather f l)
+  mem-gather {b = c} (List·Memᴰ·head {x = a} {xs = l} e) h = Memᴰ·append-left (gather f l) (subst (λ (z : A). List·Memᴰ c (f z)) e h)
+  mem-gather (List·Memᴰ·tail {x = a} {xs = l} m) h = Memᴰ·append-right (f a) (mem-gather m h)
 
 module _ {A B C : Type 0} (f : B → List C) (g : A → List B) where
   -- of a gathered list

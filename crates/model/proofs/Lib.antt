@@ -13,9 +13,11 @@ pub mod Potential
 pub mod Twice
 pub mod Fuel
 pub mod GraphAlone
+pub mod Touched
 -- lists of mutations
 pub mod Ends
 pub mod Sets
+pub mod Levels
 -- building
 pub mod Steady
 pub mod Nodes
@@ -77,3 +79,8 @@ pub mod Drawn
 pub mod LoadAccepted
 -- document 02, order 6: the graph as a DOT file
 pub mod Digits
+-- document 02, order 8: how sure a parameter's mutation is
+pub mod MaybeSteps
+pub mod Mutations
+pub mod Reports
+pub mod Certainty

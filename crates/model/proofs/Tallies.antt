@@ -1,10 +1,12 @@
 -- How much the members of a list come to together: each so much, or at most so much.
-use Prim.Native.Nat.{ℕ, suc, _*_, _≤_}
+use Prim.Native.Nat.{ℕ, suc, _*_, _≤_, _<_}
 use native.Mathlib.Omega.{arith}
 use mathlib.Core.Path.{_≡_, refl, ap}
 use mathlib.Core.Bool.{Bool, true, false}
 use mathlib.Core.List.{List, [], _∷_, List·Memᴰ, List·Memᴰ·head, List·Memᴰ·tail}
 use lib.ListN.{length, length-append}
+use lib.Dec.{ltb}
+use borrow.Author.Tests.{ltb-true, ltb-false}
 use Rattle.model.specs.Lists.{gather, tally, keep, oneIf, Every}
 use Rattle.model.specs.Sheet.{Effect, Instruction, listOf}
 use Rattle.model.specs.Effects.{Role, rowOf}
@@ -19,6 +21,19 @@ module _ {A : Type 0} (f : A → ℕ) where
   pub tally-most : (k : ℕ) (l : List A) → Every (λ (a : A). f a ≤ k) l → tally f l ≤ k * length l
   tally-most k [] h = omega arith
   tally-most k (a ∷ l) h = omega (arith, h .0, tally-most k l (h .1))
+
+  -- a member counts at most what all do; where something counts, a member does
+  pub tally-member : {a : A} {l : List A} → List·Memᴰ a l → f a ≤ tally f l
+  tally-member {l = b ∷ l} (List·Memᴰ·head e) = omega (arith, ap f e)
+  tally-member {l = b ∷ l} (List·Memᴰ·tail m) = omega (arith, tally-member m)
+
+  pub tally-some : (l : List A) → 0 < tally f l → (a : A) × List·Memᴰ a l × (0 < f a)
+  tally-some [] h = absurd (omega arith)
+  tally-some (a ∷ l) h = go (ltb 0 (f a)) refl (λ k. tally-some l k)
+    where
+      go : (t : Bool) → ltb 0 (f a) ≡ t → (0 < tally f l → (b : A) × List·Memᴰ b l × (0 < f b)) → (b : A) × List·Memᴰ b (a ∷ l) × (0 < f b)
+      go true e again = (a, List·Memᴰ·head refl, ltb-true _ _ e)
+      go false e again = let n : f a ≤ 0 = ltb-false _ _ e in let w = again (omega arith) in (w .0, List·Memᴰ·tail (w .1), w .2)
 
   -- each at most one, and one of them nothing
   pub tally-but-one : {a : A} {l : List A} → List·Memᴰ a l → f a ≡ 0 → Every (λ (b : A). f b ≤ 1) l → suc (tally f l) ≤ length l

@@ -63,3 +63,4 @@ pub mod Demand3
 pub mod EndsSet
 pub mod SecondProperty
 pub mod CallEnds
+pub mod Certainty

@@ -1,19 +1,21 @@
-//! compare --seed S --sheets N --damaged M --loads L --drawings D [--graphviz G] [--threads T]
-//!         [--program PATH --runs R] [--files F..]
+//! compare --seed S --sheets N --damaged M --loads L --drawings D --certainty C [--graphviz G]
+//!         [--threads T] [--program PATH --runs R] [--files F..]
 //!
 //! Makes N accepted sheets and M damaged calls from a seed and compares the
 //! original, the plain reader and, with the feature `service`, our own library on
 //! them, and on the fixed sheets: bench cases, ranges of words, totals, smallest/ and long
 //! walks. Then class loads: those at the corners of the bounds, arguments outside, and
 //! L from the seed. Then drawings: of the fixed sheets, and of D sheets and D damaged calls
-//! from the seed; G texts of sheets from the seed are given to Graphviz. Then runs of the
-//! program at PATH: on its fixed files, and R on files from the seed. With files, compares
-//! those instead.
+//! from the seed; G texts of sheets from the seed are given to Graphviz. Then how sure the
+//! mutation of each parameter is: of the fixed sheets that order 8 speaks of, and of C such
+//! sheets from the seed. Then runs of the program at PATH: on its fixed files, and R on files
+//! from the seed. With files, compares those instead.
 
 use std::path::{Path, PathBuf};
 use std::process::ExitCode;
 use std::time::{Duration, Instant};
 
+use oracle::certainty::{self, SORTS, compare_certainty};
 use oracle::compare::{Difference, Side, compare, lines, original_lines, roomy, shrink};
 use oracle::damage::{Call, Room, damaged};
 use oracle::drawing::{self, Drawer, compare_drawing};
@@ -34,6 +36,7 @@ struct Arguments {
     damaged: u64,
     loads: u64,
     drawings: u64,
+    certainty: u64,
     graphviz: u64,
     threads: u64,
     program: Option<PathBuf>,
@@ -48,6 +51,7 @@ fn arguments() -> Result<Arguments, String> {
         damaged: 100_000,
         loads: 1_000,
         drawings: 10_000,
+        certainty: 10_000,
         graphviz: 0,
         threads: 1,
         program: None,
@@ -72,6 +76,7 @@ fn arguments() -> Result<Arguments, String> {
             "--damaged" => arguments.damaged = number,
             "--loads" => arguments.loads = number,
             "--drawings" => arguments.drawings = number,
+            "--certainty" => arguments.certainty = number,
             "--graphviz" => arguments.graphviz = number,
             "--threads" => arguments.threads = number.max(1),
             "--runs" => arguments.runs = number,
@@ -105,6 +110,11 @@ fn drawers() -> Vec<Box<dyn Drawer>> {
     ]
 }
 
+/// Sums one by one.
+fn add<const N: usize>(sums: &mut [u64; N], numbers: [u64; N]) {
+    sums.iter_mut().zip(numbers).for_each(|(sum, number)| *sum += number);
+}
+
 #[derive(Default)]
 struct Counts {
     fixed: u64,
@@ -119,6 +129,10 @@ struct Counts {
     /// By refusal of the call at its own lengths; 0 stays 0.
     not_drawn: [u64; 11],
     drawing_calls: u64,
+    /// Sheets of order 8, their places by kind, and the places whose kind needs a sort of steps.
+    certain: u64,
+    certain_places: [u64; 3],
+    certain_needed: [u64; 7],
     /// Texts that Graphviz took, with their nodes and edges.
     pictures: (u64, u64, u64),
     runs: u64,
@@ -201,6 +215,21 @@ impl Counts {
         }
     }
 
+    /// How sure each parameter's mutation is, by chains and by the answers.
+    fn compare_certainty(&mut self, call: Call, sides: &mut [Box<dyn Side>]) {
+        let seen = compare_certainty(&call, sides);
+        self.certain += 1;
+        add(&mut self.certain_places, seen.places);
+        add(&mut self.certain_needed, seen.needed);
+        if !seen.of_class {
+            println!("a sheet is refused, or order 8 does not speak of it: {:?}", call.sheet);
+            self.differences += 1;
+        }
+        if let Some(difference) = seen.difference {
+            self.differs(call, difference);
+        }
+    }
+
     fn add(&mut self, other: Counts) {
         self.fixed += other.fixed;
         self.sheets += other.sheets;
@@ -210,18 +239,17 @@ impl Counts {
         self.drawn += other.drawn;
         self.drawn_applies += other.drawn_applies;
         self.drawing_calls += other.drawing_calls;
-        for (sum, n) in self.not_drawn.iter_mut().zip(other.not_drawn) {
-            *sum += n;
-        }
+        add(&mut self.not_drawn, other.not_drawn);
+        self.certain += other.certain;
+        add(&mut self.certain_places, other.certain_places);
+        add(&mut self.certain_needed, other.certain_needed);
         self.pictures.0 += other.pictures.0;
         self.pictures.1 += other.pictures.1;
         self.pictures.2 += other.pictures.2;
         self.runs += other.runs;
         self.fixed_runs += other.fixed_runs;
         self.differences += other.differences;
-        for (sum, n) in self.refusals.iter_mut().zip(other.refusals) {
-            *sum += n;
-        }
+        add(&mut self.refusals, other.refusals);
         if let Some((call, difference)) = other.shortest {
             self.keep(call, difference);
         }
@@ -254,6 +282,18 @@ impl Counts {
         if let (texts @ 1.., nodes, edges) = self.pictures {
             parts.push(format!("{texts} texts taken by Graphviz ({nodes} nodes, {edges} edges)"));
         }
+        if self.certain > 0 {
+            let [three, four, none] = self.certain_places;
+            let needed = SORTS.iter().zip(self.certain_needed);
+            let needed: Vec<String> = needed.map(|((_, name), n)| format!("{name} {n}")).collect();
+            parts.push(format!(
+                "{} sheets of order 8 ({} places: {three} of kind 3, {four} of kind 4, {none} not \
+                 reported; whose kind needs a step {})",
+                self.certain,
+                three + four + none,
+                needed.join(", ")
+            ));
+        }
         if self.runs > 0 {
             let fixed = self.fixed_runs;
             parts.push(format!("{} runs of the program ({fixed} on fixed files)", self.runs));
@@ -280,7 +320,11 @@ fn target(name: &str) -> PathBuf {
 fn report(call: &Call, difference: &Difference) {
     let (mut sides, mut drawers) = (sides(), drawers());
     let mut again = |call: &Call| {
-        let found = [compare(call, &mut sides).1, compare_drawing(call, &mut drawers).difference];
+        let found = [
+            compare(call, &mut sides).1,
+            compare_drawing(call, &mut drawers).difference,
+            compare_certainty(call, &mut sides).difference,
+        ];
         found.into_iter().flatten().find(|found| found.side == difference.side)
     };
     let small = shrink(call, |call| again(call).is_some());
@@ -395,6 +439,23 @@ fn compare_drawings(arguments: &Arguments, own: u64) -> Counts {
     counts
 }
 
+/// The fixed sheets of order 8, and such sheets from the seed, as above.
+fn compare_certainties(arguments: &Arguments, own: u64) -> Counts {
+    let mut sides = sides();
+    let mut counts = Counts::default();
+    if own == 0 {
+        certainty::fixed().into_iter().for_each(|c| counts.compare_certainty(c, &mut sides));
+    }
+    let mut random = Random::new(arguments.seed);
+    for i in 0..arguments.certainty {
+        let mut random = Random::new(random.word());
+        if i % arguments.threads == own {
+            counts.compare_certainty(certainty::made(&mut random), &mut sides);
+        }
+    }
+    counts
+}
+
 /// Texts of sheets from the seed, given to Graphviz. It takes long for a graph of a thousand edges, so
 /// that only shorter texts are taken.
 fn compare_pictures(arguments: &Arguments) -> Result<Counts, String> {
@@ -485,6 +546,9 @@ fn compare_all(arguments: &Arguments) -> Result<Counts, String> {
             counts.add(in_threads(arguments, compare_drawings));
         }
         counts.add(compare_pictures(arguments)?);
+        if arguments.certainty > 0 {
+            counts.add(in_threads(arguments, compare_certainties));
+        }
     }
     if let Some(program) = &arguments.program {
         let runs = compare_runs(program, arguments);

@@ -1,10 +1,11 @@
-//! Why each range is where it is, in words.
+//! Why each range is where it is, and why each parameter is reported, in words.
 
 use std::fmt::Write;
 
 use service_host::text::Names;
 use service_host::{Answer, IdentifierId, MutableRange, Sheet};
 
+use crate::certainty::{self, Certainty};
 use crate::graph::{Graph, Mutation, MutationKind, Origin, Relation};
 use crate::operands::{Passed, Set, Use, pass};
 use crate::walks::{Step, chain, walk_all};
@@ -22,8 +23,15 @@ pub struct Moved {
     pub not_stored: Option<Set>,
 }
 
-/// One for each identifier. Fails if the walks made here and the library's answer disagree.
-pub fn explain(sheet: &Sheet, answer: &Answer) -> Result<Vec<Moved>, String> {
+/// What there is to say of a sheet and its answer.
+pub struct Explained {
+    /// One for each identifier.
+    pub ranges: Vec<Moved>,
+    pub certainty: Certainty,
+}
+
+/// Fails if the walks made here and the library's answer disagree.
+pub fn explain(sheet: &Sheet, answer: &Answer) -> Result<Explained, String> {
     let graph = Graph::build(sheet);
     let walked = walk_all(&graph, sheet);
     let library = &answer.walks()[..graph.mutations.len()];
@@ -48,7 +56,8 @@ pub fn explain(sheet: &Sheet, answer: &Answer) -> Result<Vec<Moved>, String> {
             None => None,
             Some(mover) => {
                 let mutation = graph.mutations[mover];
-                let chain = chain(&graph, &mutation, id).ok_or_else(|| {
+                let chain = chain(&graph, &mutation, |state| state.identifier == id);
+                let chain = chain.ok_or_else(|| {
                     format!("no allowed chain leads to identifier {at}, whose end moved")
                 })?;
                 Some((mutation, chain))
@@ -59,7 +68,8 @@ pub fn explain(sheet: &Sheet, answer: &Answer) -> Result<Vec<Moved>, String> {
         let before = sheet.identifiers()[at].range;
         all.push(Moved { before, after, by, start, end, not_stored });
     }
-    Ok(all)
+    let certainty = certainty::certainty(sheet, &graph, &walked, answer)?;
+    Ok(Explained { ranges: all, certainty })
 }
 
 fn origin(origin: &Origin, names: &Names) -> String {
@@ -133,11 +143,33 @@ fn reason(set: &Set, names: &Names) -> String {
     }
 }
 
+/// The lines of a mutation and of a chain from it.
+pub fn led(mutation: &Mutation, chain: &[Step], names: &Names) -> Vec<String> {
+    let mut here = names.identifier(mutation.identifier);
+    let mut lines = vec![format!(
+        "    {} (index {}) {}",
+        origin(&mutation.origin, names),
+        mutation.index,
+        deed(mutation, here)
+    )];
+    for step in chain {
+        let there = names.identifier(step.to.identifier);
+        lines.push(format!(
+            "    -> {}: {} (index {})",
+            way(step, here, there),
+            origin(&step.origin, names),
+            step.index
+        ));
+        here = there;
+    }
+    lines
+}
+
 /// The explanation as text.
-pub fn write(all: &[Moved], names: &Names) -> String {
+pub fn write(explained: &Explained, names: &Names) -> String {
     let name = |id: IdentifierId| names.identifier(id);
     let mut text = String::new();
-    for (i, moved) in all.iter().enumerate() {
+    for (i, moved) in explained.ranges.iter().enumerate() {
         let (before, after) = (moved.before, moved.after);
         let id = IdentifierId(i as u32);
         let mut put = |line: String| writeln!(text, "{line}").expect("a string takes every line");
@@ -154,23 +186,7 @@ pub fn write(all: &[Moved], names: &Names) -> String {
             ));
         }
         if let Some((mutation, chain)) = &moved.by {
-            let mut here = name(mutation.identifier);
-            put(format!(
-                "    {} (index {}) {}",
-                origin(&mutation.origin, names),
-                mutation.index,
-                deed(mutation, here)
-            ));
-            for step in chain {
-                let there = name(step.to.identifier);
-                put(format!(
-                    "    -> {}: {} (index {})",
-                    way(step, here, there),
-                    origin(&step.origin, names),
-                    step.index
-                ));
-                here = there;
-            }
+            led(mutation, chain, names).into_iter().for_each(&mut put);
         }
         if let Some(set) = &moved.end {
             put(format!("    end {}: {}", after.end.0, reason(set, names)));
@@ -186,11 +202,11 @@ pub fn write(all: &[Moved], names: &Names) -> String {
             ));
         }
     }
-    text
+    text + &certainty::write(&explained.certainty, names)
 }
 
 #[cfg(test)]
-mod tests {
+pub mod tests {
     use std::collections::HashSet;
 
     use oracle::generate;
@@ -218,6 +234,10 @@ props  0..0 -> 1..3
 list  0..0 -> 0..3
     MutateTransitive list span 7, instruction at 2 in block 0 (index 1) changes list and all that it has captured
 result  0..0, not moved
+param props  Definite (MutateTransitive)
+    MutateTransitive list span 7, instruction at 2 in block 0 (index 1) changes list and all that it has captured
+    -> props, which list has captured: Capture props into list, instruction at 1 in block 0 (index 0)
+Exact here (no phi, every mutation transitive): to a Conditional place no Definite mutation leads without a maybe-alias step, to one not reported no mutation leads.
 ";
         assert_eq!(explained(include_str!("../../../../examples/case1.txt")), expected);
     }
@@ -323,7 +343,7 @@ s  0..0 -> 0..6
     }
 
     /// The rules of an allowed chain, read off the plain implementation's graph.
-    fn is_allowed(built: &plain::building::Built, mutation: &Mutation, chain: &[Step]) -> bool {
+    pub fn is_allowed(built: &plain::building::Built, mutation: &Mutation, chain: &[Step]) -> bool {
         use plain::building::{Relation as Stored, Value};
         let node = |id: IdentifierId| built.nodes[id.0 as usize].as_ref();
         let mut at = (mutation.identifier, mutation.kind, mutation.transitive, false);
@@ -410,11 +430,12 @@ s  0..0 -> 0..6
             let plain_sheet = generate::sheet(&mut random);
             let sheet = Sheet::read(&plain_sheet.words()).unwrap();
             let answer = service.infer(&sheet.words()).unwrap();
-            let all = explain(&sheet, &answer).unwrap();
+            let explained = explain(&sheet, &answer).unwrap();
+            let all = &explained.ranges;
             let built = plain::building::build(&plain_sheet);
             let graph = Graph::build(&sheet);
             let ends = plain::walks::trace(&plain_sheet, built.clone()).ends;
-            for (id, m) in sheet.identifier_ids().zip(&all) {
+            for (id, m) in sheet.identifier_ids().zip(all) {
                 let before_pass = ends[id.0 as usize];
                 assert_eq!(m.start.is_some(), m.before.start != m.after.start);
                 assert_eq!(m.end.is_some(), before_pass != m.after.end.0);
@@ -436,7 +457,7 @@ s  0..0 -> 0..6
                 steps += chain.len();
                 longest = longest.max(chain.len());
             }
-            write(&all, &Names::numbered(&sheet));
+            write(&explained, &Names::numbered(&sheet));
         }
         assert!(moved > 5_000 && passed > 2_000, "{moved} {passed}");
         assert!(steps > 5_000 && longest > 5, "{steps} {longest}");
@@ -483,7 +504,8 @@ s  0..0 -> 0..6
              instruction at 1\nCreateFrom a into a\nCapture b into a\nMutateConditionally a\n\
              terminal Other at 2\n",
         );
-        assert!(text.ends_with("b  0..0, not moved\n"), "{text}");
+        assert!(text.contains("\nb  0..0, not moved\nparam a"), "{text}");
+        assert!(text.contains("\nparam b  not reported\nNot exact here"), "{text}");
     }
 
     #[test]

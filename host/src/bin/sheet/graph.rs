@@ -56,6 +56,7 @@ pub struct Mutation {
     pub kind: MutationKind,
     pub transitive: bool,
     pub identifier: IdentifierId,
+    pub span: u32,
     pub origin: Origin,
 }
 
@@ -204,12 +205,14 @@ impl Graph {
                     if definite { MutationKind::Definite } else { MutationKind::Conditional };
                 let transitive = !local;
                 let identifier = from;
+                let span = first.unwrap_or(NOWHERE).span;
                 self.mutations.push(Mutation {
                     index,
                     order,
                     kind,
                     transitive,
                     identifier,
+                    span,
                     origin,
                 });
                 return;

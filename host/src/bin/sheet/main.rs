@@ -1,6 +1,7 @@
 //! Sheets for people: words to text, text to words, the library's answer, why each end is where it
-//! is, drawings, and class loads.
+//! is and how sure each parameter's mutation is, drawings, and class loads.
 
+mod certainty;
 mod class_load;
 mod explain;
 mod graph;
@@ -21,7 +22,8 @@ const USAGE: &str = "\
 usage: sheet text FILE [-o OUT]      a file of words as text
        sheet words FILE [-o OUT]     text as a file of words
        sheet answer FILE [-o OUT]    the answer, a line for each section: either form
-       sheet explain FILE [-o OUT]   each identifier's range before and after, and why: either form
+       sheet explain FILE [-o OUT]   each identifier's range before and after, and why; whether each
+                                     parameter's mutation is Definite or Conditional: either form
        sheet dot FILE [-o OUT]       the graph as a DOT file, for Graphviz: either form
        sheet load SEED N M [--text] [-o OUT]
                                      the class load of a seed: a sheet of N identifiers (2 to 512)
@@ -182,13 +184,14 @@ fn explained(file: &Path) -> Result<Vec<u8>, String> {
     let (sheet, names) = either(file)?;
     let mut service = Service::new();
     let answer = service.infer(&sheet.words()).map_err(|refusal| why(&sheet, refusal))?;
-    let all = explain::explain(&sheet, &answer)?;
+    let explained = explain::explain(&sheet, &answer)?;
+    let all = &explained.ranges;
     let moved = all.iter().filter(|m| m.before.end != m.after.end).count();
     let passed = all.iter().filter(|m| m.end.is_some()).count();
-    let mut text = explain::write(&all, &names);
+    let mut text = explain::write(&explained, &names);
     text += &format!(
-        "{moved} of {} ends moved, {passed} of them by the pass over operands. Ranges and walks \
-         made here agree with the library's answer.\n",
+        "{moved} of {} ends moved, {passed} of them by the pass over operands. Ranges, walks and \
+         reports made here agree with the library's answer.\n",
         all.len()
     );
     Ok(text.into_bytes())

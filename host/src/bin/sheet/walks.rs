@@ -98,8 +98,8 @@ pub fn steps(graph: &Graph, at: State, mutation_index: u32) -> Vec<Step> {
 pub struct Walk {
     /// Entries taken, skipped ones included.
     pub taken: u32,
-    /// The identifiers accepted, in order; one that was accepted at both kinds stands twice.
-    pub accepted: Vec<IdentifierId>,
+    /// The entries accepted, in order; an identifier that was accepted at both kinds stands twice.
+    pub accepted: Vec<State>,
 }
 
 pub fn walk(graph: &Graph, mutation: &Mutation) -> Walk {
@@ -114,11 +114,19 @@ pub fn walk(graph: &Graph, mutation: &Mutation) -> Walk {
         }
         *kind = Some(at.kind);
         if graph.node(at.identifier).is_some() {
-            walk.accepted.push(at.identifier);
+            walk.accepted.push(at);
             queue.extend(steps(graph, at, mutation.index).iter().map(|step| step.to));
         }
     }
     walk
+}
+
+/// A node's record: the highest kind at which it was accepted, and the mutation that brought it
+/// first, as a position in the list.
+#[derive(Debug, Clone, Copy, PartialEq, Eq)]
+pub struct Record {
+    pub kind: MutationKind,
+    pub mutation: usize,
 }
 
 /// What the walks of all mutations leave.
@@ -126,6 +134,8 @@ pub struct Walked {
     pub ends: Vec<EvaluationOrder>,
     /// For each identifier the mutation that moved its end last, as a position in the list.
     pub movers: Vec<Option<usize>>,
+    /// For each identifier the record of local entries and that of transitive ones.
+    pub records: Vec<[Option<Record>; 2]>,
     /// The entries that each walk took.
     pub taken: Vec<u32>,
 }
@@ -135,16 +145,21 @@ pub fn walk_all(graph: &Graph, sheet: &Sheet) -> Walked {
     let mut walked = Walked {
         ends: sheet.identifiers().iter().map(|identifier| identifier.range.end).collect(),
         movers: vec![None; sheet.identifiers().len()],
+        records: vec![[None; 2]; sheet.identifiers().len()],
         taken: Vec::new(),
     };
     for (i, mutation) in graph.mutations.iter().enumerate() {
         let walk = walk(graph, mutation);
         let end = EvaluationOrder(mutation.order.0 + 1);
-        for identifier in walk.accepted {
-            let at = identifier.0 as usize;
+        for entry in walk.accepted {
+            let at = entry.identifier.0 as usize;
             if walked.ends[at] < end {
                 walked.ends[at] = end;
                 walked.movers[at] = Some(i);
+            }
+            let record = &mut walked.records[at][entry.transitive as usize];
+            if record.is_none_or(|record| record.kind < entry.kind) {
+                *record = Some(Record { kind: entry.kind, mutation: i });
             }
         }
         walked.taken.push(walk.taken);
@@ -152,16 +167,20 @@ pub fn walk_all(graph: &Graph, sheet: &Sheet) -> Walked {
     walked
 }
 
-/// A shortest allowed chain from the mutation to an identifier, if there is one. It has no step
-/// if the mutation names the identifier.
-pub fn chain(graph: &Graph, mutation: &Mutation, to: IdentifierId) -> Option<Vec<Step>> {
+/// A shortest allowed chain from the mutation that arrives so, if there is one. It has no step if
+/// the mutation itself does.
+pub fn chain(
+    graph: &Graph,
+    mutation: &Mutation,
+    arrives: impl Fn(&State) -> bool,
+) -> Option<Vec<Step>> {
     let start = State::start(mutation);
     graph.node(start.identifier)?;
     // For each state the step that led to it first, and the state before.
     let mut came: Vec<Option<(State, Step)>> = vec![None; graph.nodes.len() * 8];
     let mut queue = VecDeque::from([start]);
     while let Some(at) = queue.pop_front() {
-        if at.identifier == to {
+        if arrives(&at) {
             let mut chain = Vec::new();
             let mut state = at;
             while state != start {

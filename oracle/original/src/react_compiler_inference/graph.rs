@@ -15,21 +15,77 @@ pub struct BuiltEdge {
     pub index: usize,
 }
 
-/// The forward edges of each node in the order in which they are stored, by the node's identifier.
-pub type BuiltGraph = BTreeMap<usize, Vec<BuiltEdge>>;
+/// What a node keeps of a relation into it.
+#[derive(Debug, Clone, Copy, PartialEq, Eq)]
+pub struct BuiltEntry {
+    pub from: usize,
+    pub index: usize,
+}
+
+/// A node, each list in the order in which it is stored.
+#[derive(Debug, Clone, PartialEq, Eq)]
+pub struct BuiltNode {
+    pub phi: bool,
+    pub edges: Vec<BuiltEdge>,
+    pub created_from: Vec<BuiltEntry>,
+    pub aliases: Vec<BuiltEntry>,
+    pub maybe_aliases: Vec<BuiltEntry>,
+    pub captures: Vec<BuiltEntry>,
+}
+
+#[derive(Debug, Clone, Copy, PartialEq, Eq)]
+pub struct BuiltMutation {
+    pub index: usize,
+    pub identifier: usize,
+    pub transitive: bool,
+    /// Definite, not Conditional.
+    pub definite: bool,
+}
+
+/// Nodes by their identifiers, and mutations in their order.
+#[derive(Debug, Clone, PartialEq, Eq, Default)]
+pub struct BuiltGraph {
+    pub nodes: BTreeMap<usize, BuiltNode>,
+    pub mutations: Vec<BuiltMutation>,
+}
 
 thread_local! {
     static HANDED_OVER: RefCell<BuiltGraph> = RefCell::default();
 }
 
-fn hand_over(state: &AliasingState) {
+fn hand_over(
+    state: &AliasingState,
+    mutations: Vec<(usize, IdentifierId, bool, MutationKind)>,
+) {
     let edge = |edge: &Edge| BuiltEdge {
         into: edge.node.index(),
         kind: format!("{:?}", edge.kind),
         index: edge.index,
     };
-    let node = |node: &Node| (node.id.index(), node.edges.iter().map(edge).collect());
-    HANDED_OVER.set(state.nodes.values().map(node).collect());
+    let entries = |map: &FxIndexMap<IdentifierId, usize>| {
+        map.iter().map(|(from, &index)| BuiltEntry { from: from.index(), index }).collect()
+    };
+    let node = |node: &Node| {
+        let built = BuiltNode {
+            phi: matches!(node.value, NodeValue::Phi),
+            edges: node.edges.iter().map(edge).collect(),
+            created_from: entries(&node.created_from),
+            aliases: entries(&node.aliases),
+            maybe_aliases: entries(&node.maybe_aliases),
+            captures: entries(&node.captures),
+        };
+        (node.id.index(), built)
+    };
+    let mutation = |(index, identifier, transitive, kind): (_, IdentifierId, _, _)| BuiltMutation {
+        index,
+        identifier: identifier.index(),
+        transitive,
+        definite: kind == MutationKind::Definite,
+    };
+    HANDED_OVER.set(BuiltGraph {
+        nodes: state.nodes.values().map(node).collect(),
+        mutations: mutations.into_iter().map(mutation).collect(),
+    });
 }
 
 /// The graph as it is built. The rest of the pass runs too, and ends with an error at an Apply.
