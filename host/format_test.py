@@ -594,7 +594,7 @@ def limits():
 # ---- refusals 2, 6, 7 and 8, and which comes first
 
 def refusals():
-    check([row[0] for row in table("refusal", "what is wrong")], [str(n) for n in range(1, 11)], "the refusals")
+    check([row[0] for row in table("refusal", "what is wrong")], [str(n) for n in range(1, 12)], "the refusals")
 
     def blocks(*all_):
         return sheet([(0, 0, "Other")], place(0), all_)

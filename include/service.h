@@ -2,10 +2,11 @@
  *
  * Link with target/staticlib/libservice.a, which `rt staticlib service` writes (x86-64).
  *
- * A host keeps one struct ServiceState and lends it, a workspace and an answer buffer to every
- * call; class loads and drawings need no state. The library keeps nothing, allocates nothing and
- * returns for every sheet, whatever its words are. Calls over different states and buffers may run
- * at once.
+ * A host keeps one record, struct Caller, for each of its callers. It lends the records, a workspace
+ * and an answer buffer to every call, which names its caller by position, from 0; class loads and
+ * drawings need no record. The library keeps nothing, allocates nothing and returns for every sheet,
+ * whatever its words are, and every position. Calls over different records and buffers may run at
+ * once.
  *
  * docs/FORMAT.md describes the words of a sheet and of an answer. Every macro and every constant
  * here begins with SERVICE_.
@@ -47,9 +48,9 @@ extern "C" {
  * four digits. That is counted, not proved: where a call is refused 9 all the same, lend more. */
 #define SERVICE_MOST_DRAWING 44046
 
-/* Why a call was refused. 1 and 2 are checked first; 3 to 6 and 8 come from one reading from left to
- * right, where the first faulty word decides, and for one word the lower number; then come 7, 10 and
- * 9. */
+/* Why a call was refused. 11 is checked first, then 1 and 2; 3 to 6 and 8 come from one reading from
+ * left to right, where the first faulty word decides, and for one word the lower number; then come 7,
+ * 10 and 9. */
 enum ServiceRefusal {
     SERVICE_ACCEPTED = 0,
     /* The workspace has fewer than 16,384 words. */
@@ -71,7 +72,9 @@ enum ServiceRefusal {
     /* The answer buffer is shorter than the answer: see SERVICE_MOST_ANSWER. */
     SERVICE_REFUSED_SHORT_ANSWER = 9,
     /* Apply is among an instruction's effects. */
-    SERVICE_REFUSED_APPLY = 10
+    SERVICE_REFUSED_APPLY = 10,
+    /* The caller's position is outside the records. */
+    SERVICE_REFUSED_OUTSIDE_RECORDS = 11
 };
 
 /* An identifier's type. */
@@ -168,8 +171,9 @@ enum ServiceTerminal {
     SERVICE_TERMINAL_MAYBE_THROW = 2 /* an order, a count of effects and the effects, 0 */
 };
 
-/* The next serial. Make it with service_new, or restore one that was kept. */
-struct ServiceState {
+/* A caller's record: its next serial. Make it with service_new, or restore one that was kept; every
+ * value is allowed. */
+struct Caller {
     uint32_t next;
 };
 
@@ -177,25 +181,29 @@ struct ServiceState {
 struct Reply {
     /* One of enum ServiceRefusal: 0 if the call was accepted. */
     uint32_t refusal;
-    /* The accepted call's serial: `next` as it was before. After 4,294,967,295 comes 0. It is 0 for
-     * a refusal, and for a class load and a drawing, which have none. */
+    /* The accepted call's serial: its caller's `next` as it was before. After 4,294,967,295 comes 0.
+     * It is 0 for a refusal, and for a class load and a drawing, which have none. */
     uint32_t serial;
     /* How many words the answer, or the class load, has, or how many bytes the drawing; 0 for a
      * refusal. */
     size_t length;
 };
 
-/* One call. The sheet is only read. Afterwards the whole workspace is 0, and so is the answer
- * buffer from `length` on; what they held before does not matter. An accepted call moves the
- * state to the next serial, a refusal leaves it as it was.
+/* One call, for the caller at a position: that of its record among `count` ones, from 0. The sheet is
+ * only read. Afterwards the whole workspace is 0, and so is the answer buffer from `length` on; what
+ * they held before does not matter. An accepted call moves the caller's record to the next serial, a
+ * refusal leaves it as it was; every other record stays as it was. A caller's serials count its own
+ * accepted calls.
  *
- * No pointer is NULL. The buffers have as many words as said, and neither of them overlaps the
- * other, the sheet or the state.
+ * A position that is not below `count` is refused 11, before anything else is looked at; so is every
+ * position if `count` is 0, and `callers` may be NULL then. No other pointer is NULL. The records are
+ * `count` ones, the buffers have as many words as said, and neither buffer overlaps the other, the
+ * sheet or the records.
  *
  * An answer has ten sections, each a count and then so many records: ranges (2 words: start,
  * end), params and context (places of 3 words), diagnostics (2: identity, instance), effects (8),
  * walks (1), and of places phis, instructions, terminals and inner. */
-struct Reply service_infer(struct ServiceState *state,
+struct Reply service_infer(struct Caller *callers, size_t count, size_t position,
                            const uint32_t *sheet, size_t sheet_words,
                            uint32_t *workspace, size_t workspace_words,
                            uint32_t *answer, size_t answer_words);
@@ -208,10 +216,16 @@ struct Reply service_infer(struct ServiceState *state,
  * serial, so that `serial` is 0. Afterwards the words from `length` on, all of them after a refusal,
  * are 0; what they held before does not matter.
  *
- * service_infer accepts every such sheet: its answer has at most 47 + 2 * identifiers + 4 * effects
- * words. `sheet` is not NULL and has as many words as said. */
+ * service_infer accepts every such sheet for every caller inside the records: its answer has at most
+ * 47 + 2 * identifiers + 4 * effects words. `sheet` is not NULL and has as many words as said. */
 struct Reply service_load(uint32_t seed, uint32_t identifiers, uint32_t effects,
                           uint32_t *sheet, size_t sheet_words);
+
+/* The same for the caller at a position, as in service_infer: refused 11 if the position is not below
+ * `count`, before 5 and 9, with all words lent 0 afterwards. The records are only read. */
+struct Reply service_load_for(const struct Caller *callers, size_t count, size_t position,
+                              uint32_t seed, uint32_t identifiers, uint32_t effects,
+                              uint32_t *sheet, size_t sheet_words);
 
 /* A drawing: the graph of a sheet as a DOT file, which Graphviz draws. `text` has the line
  * `digraph g {`, a line like `  n0;` for each node in rising identifier, a line like
@@ -220,9 +234,9 @@ struct Reply service_load(uint32_t seed, uint32_t identifiers, uint32_t effects,
  * `length` says how many bytes that is; there is no byte 0 at the end of a text that fills its buffer.
  *
  * The sheet is refused with 1 to 8 as by service_infer, and 9 if fewer bytes are lent than the text
- * has; Apply (10) is no refusal here. There is no serial, so that `serial` is 0. Afterwards the whole
- * workspace is 0, and so is `text` from `length` on, all of it after a refusal; what they held before
- * does not matter.
+ * has; Apply (10) is no refusal here. It names no caller and takes no serial: 11 is never given, and
+ * `serial` is 0. Afterwards the whole workspace is 0, and so is `text` from `length` on, all of it after
+ * a refusal; what they held before does not matter.
  *
  * No pointer is NULL. The sheet and the workspace have as many words as said, the text as many bytes,
  * and neither of the last two overlaps the other or the sheet. */
@@ -230,8 +244,8 @@ struct Reply service_dot(const uint32_t *sheet, size_t sheet_words,
                          uint32_t *workspace, size_t workspace_words,
                          uint8_t *text, size_t text_bytes);
 
-/* A new state: its first serial is 0. */
-struct ServiceState service_new(void);
+/* A new record: its caller's first serial is 0. */
+struct Caller service_new(void);
 
 /* SERVICE_LEAST_WORKSPACE and SERVICE_MOST_SHEET of the library that is linked. */
 size_t service_least_workspace(void);
@@ -244,8 +258,8 @@ size_t service_most_sheet(void);
 #define SERVICE_LAYOUT(fact) _Static_assert(fact, #fact)
 #endif
 #ifdef SERVICE_LAYOUT
-SERVICE_LAYOUT(sizeof(struct ServiceState) == 4);
-SERVICE_LAYOUT(offsetof(struct ServiceState, next) == 0);
+SERVICE_LAYOUT(sizeof(struct Caller) == 4);
+SERVICE_LAYOUT(offsetof(struct Caller, next) == 0);
 SERVICE_LAYOUT(sizeof(struct Reply) == 16);
 SERVICE_LAYOUT(offsetof(struct Reply, refusal) == 0);
 SERVICE_LAYOUT(offsetof(struct Reply, serial) == 4);

@@ -3,13 +3,13 @@
 use oracle::original_side;
 use oracle::plain::{self, sheet::Sheet};
 use oxc_allocator::Allocator;
-use service_host::ffi::{self, Reply, ServiceState};
+use service_host::ffi::{self, Caller, Reply};
 
 use crate::clock::time;
 
 /// Our library with the buffers that are lent for each call.
 pub struct Ours {
-    state: ServiceState,
+    caller: [Caller; 1],
     workspace: Vec<u32>,
     answer: Vec<u32>,
     lent: usize,
@@ -18,7 +18,7 @@ pub struct Ours {
 impl Ours {
     pub fn new() -> Ours {
         Ours {
-            state: ffi::new_state(),
+            caller: [ffi::new_caller()],
             workspace: vec![0; ffi::least_workspace()],
             answer: Vec::new(),
             lent: 0,
@@ -33,7 +33,7 @@ impl Ours {
 
     pub fn call(&mut self, sheet: &[u32]) -> Reply {
         let answer = &mut self.answer[..self.lent];
-        ffi::infer(&mut self.state, sheet, &mut self.workspace, answer)
+        ffi::infer(&mut self.caller, 0, sheet, &mut self.workspace, answer)
     }
 
     pub fn answer(&self, reply: Reply) -> &[u32] {

@@ -40,9 +40,9 @@ int main(void) {
     static uint32_t workspace[SERVICE_LEAST_WORKSPACE];
     static uint32_t answer[16384];
 
-    struct ServiceState state = service_new();
-    struct Reply reply = service_infer(&state, sheet, COUNT(sheet), workspace, COUNT(workspace),
-                                       answer, COUNT(answer));
+    struct Caller callers[] = {service_new()}; /* one caller, at position 0 */
+    struct Reply reply = service_infer(callers, COUNT(callers), 0, sheet, COUNT(sheet), workspace,
+                                       COUNT(workspace), answer, COUNT(answer));
     if (reply.refusal != SERVICE_ACCEPTED) {
         printf("refused %" PRIu32 "\n", reply.refusal);
         return 1;

@@ -1,13 +1,13 @@
-//! The library's functions as they are. They hold no memory and no state of their own: every
+//! The library's functions as they are. They hold no memory and no records of their own: every
 //! word that they read or write is lent for the call.
 
 use std::mem::{align_of, offset_of, size_of};
 
-/// The next serial. A host keeps it from call to call; 0 when new.
+/// A caller's record: its next serial. A host keeps it from call to call; 0 when new.
 #[repr(C)]
 #[derive(Debug, Clone, Copy, PartialEq, Eq)]
-pub struct ServiceState {
-    /// The serial that the next accepted call takes.
+pub struct Caller {
+    /// The serial that the caller's next accepted call takes.
     pub next: u32,
 }
 
@@ -26,8 +26,8 @@ pub struct Reply {
 
 // The same as in include/service.h.
 const _: () = {
-    assert!(size_of::<ServiceState>() == 4 && align_of::<ServiceState>() == 4);
-    assert!(offset_of!(ServiceState, next) == 0);
+    assert!(size_of::<Caller>() == 4 && align_of::<Caller>() == 4);
+    assert!(offset_of!(Caller, next) == 0);
     assert!(size_of::<Reply>() == 16 && align_of::<Reply>() == 8);
     assert!(offset_of!(Reply, refusal) == 0);
     assert!(offset_of!(Reply, serial) == 4);
@@ -36,7 +36,9 @@ const _: () = {
 
 unsafe extern "C" {
     fn service_infer(
-        state: *mut ServiceState,
+        callers: *mut Caller,
+        count: usize,
+        position: usize,
         sheet: *const u32,
         sheet_words: usize,
         workspace: *mut u32,
@@ -51,6 +53,16 @@ unsafe extern "C" {
         sheet: *mut u32,
         sheet_words: usize,
     ) -> Reply;
+    fn service_load_for(
+        callers: *const Caller,
+        count: usize,
+        position: usize,
+        seed: u32,
+        identifiers: u32,
+        effects: u32,
+        sheet: *mut u32,
+        sheet_words: usize,
+    ) -> Reply;
     fn service_dot(
         sheet: *const u32,
         sheet_words: usize,
@@ -59,15 +71,17 @@ unsafe extern "C" {
         text: *mut u8,
         text_bytes: usize,
     ) -> Reply;
-    safe fn service_new() -> ServiceState;
+    safe fn service_new() -> Caller;
     safe fn service_least_workspace() -> usize;
     safe fn service_most_sheet() -> usize;
 }
 
-/// One call on lent buffers. After it the whole workspace is 0, and so is the answer buffer from
-/// `length` on; the state has moved by one if the call was accepted.
+/// One call on lent buffers, for the caller whose record is at a position. After it the whole workspace
+/// is 0, and so is the answer buffer from `length` on; that record has moved by one if the call was
+/// accepted, and every other one is as it was. A position outside the records is refused 11.
 pub fn infer(
-    state: &mut ServiceState,
+    callers: &mut [Caller],
+    position: usize,
     sheet: &[u32],
     workspace: &mut [u32],
     answer: &mut [u32],
@@ -76,7 +90,9 @@ pub fn infer(
     // written are borrowed mutably, so that no two overlap. The function asks nothing more.
     unsafe {
         service_infer(
-            state,
+            callers.as_mut_ptr(),
+            callers.len(),
+            position,
             sheet.as_ptr(),
             sheet.len(),
             workspace.as_mut_ptr(),
@@ -92,6 +108,32 @@ pub fn load(seed: u32, identifiers: u32, effects: u32, sheet: &mut [u32]) -> Rep
     // SAFETY: the pointer is that of a live slice with the length beside it, borrowed mutably. The
     // function asks nothing more.
     unsafe { service_load(seed, identifiers, effects, sheet.as_mut_ptr(), sheet.len()) }
+}
+
+/// A class load for the caller whose record is at a position: refused 11 where that is outside the
+/// records, before anything else.
+pub fn load_for(
+    callers: &[Caller],
+    position: usize,
+    seed: u32,
+    identifiers: u32,
+    effects: u32,
+    sheet: &mut [u32],
+) -> Reply {
+    // SAFETY: each pointer is that of a live slice with the length beside it; the one that is written
+    // is borrowed mutably, so that the two do not overlap. The function asks nothing more.
+    unsafe {
+        service_load_for(
+            callers.as_ptr(),
+            callers.len(),
+            position,
+            seed,
+            identifiers,
+            effects,
+            sheet.as_mut_ptr(),
+            sheet.len(),
+        )
+    }
 }
 
 /// A drawing into a lent buffer of bytes. After it the whole workspace is 0, and so is the buffer from
@@ -111,8 +153,8 @@ pub fn dot(sheet: &[u32], workspace: &mut [u32], text: &mut [u8]) -> Reply {
     }
 }
 
-/// A new state.
-pub fn new_state() -> ServiceState {
+/// A new record.
+pub fn new_caller() -> Caller {
     service_new()
 }
 

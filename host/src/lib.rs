@@ -1,9 +1,10 @@
 //! How long each value of one React function may still change: the proved library `service`,
 //! for hosts in Rust.
 //!
-//! A [`Service`] takes a sheet, the words that describe one function, and gives an [`Answer`] or
-//! one of ten [`Refusal`]s. It never panics and never runs without end, whatever the words are:
-//! that is proved of the library behind it. Nothing is proved of this wrapper, which is kept thin.
+//! A [`Service`] takes a sheet, the words that describe one function, for one of its callers, and gives
+//! an [`Answer`] or one of eleven [`Refusal`]s. It never panics and never runs without end, whatever
+//! the words are: that is proved of the library behind it. Nothing is proved of this wrapper, which is
+//! kept thin.
 //!
 //! ```
 //! use service_host::{AliasingEffect, BlockId, EvaluationOrder, Identifier, Place, Service};
@@ -27,7 +28,7 @@
 //! let sheet = sheet.finish(Place::of(result))?;
 //!
 //! let mut service = Service::new();
-//! let answer = service.infer(&sheet.words())?;
+//! let answer = service.infer(0, &sheet.words())?;
 //! assert_eq!(answer.serial(), 0);
 //! // The mutation at 2 also changes what the list has captured.
 //! assert_eq!(answer.ranges().nth(0).unwrap().end, EvaluationOrder(3));

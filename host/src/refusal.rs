@@ -2,8 +2,8 @@
 
 use std::fmt;
 
-/// Why a call was refused. 1 and 2 are checked first; 3 to 6 and 8 come from one reading left to
-/// right, where the first faulty word decides, and for one word the lower number; then come 7, 10
+/// Why a call was refused. 11 is checked first, then 1 and 2; 3 to 6 and 8 come from one reading left
+/// to right, where the first faulty word decides, and for one word the lower number; then come 7, 10
 /// and 9.
 ///
 /// The library says no more than the number. Which word is faulty and what was expected there says
@@ -39,11 +39,14 @@ pub enum Refusal {
     ShortAnswer = 9,
     /// Apply is among an instruction's effects. A drawing does not mind it.
     Apply = 10,
+    /// The caller's position is outside the records: no caller of the [`Service`](crate::Service) has
+    /// it. Every record is unchanged.
+    OutsideRecords = 11,
 }
 
 impl Refusal {
     /// All, in the order of their numbers.
-    pub const ALL: [Refusal; 10] = [
+    pub const ALL: [Refusal; 11] = [
         Refusal::ShortWorkspace,
         Refusal::LongSheet,
         Refusal::SheetEnds,
@@ -54,14 +57,15 @@ impl Refusal {
         Refusal::Totals,
         Refusal::ShortAnswer,
         Refusal::Apply,
+        Refusal::OutsideRecords,
     ];
 
-    /// The number, 1 to 10.
+    /// The number, 1 to 11.
     pub fn number(self) -> u32 {
         self as u32
     }
 
-    /// The refusal of a number; none for 0, which stands for no refusal, and above 10.
+    /// The refusal of a number; none for 0, which stands for no refusal, and above 11.
     pub fn from_number(number: u32) -> Option<Refusal> {
         Refusal::ALL.into_iter().find(|r| r.number() == number)
     }
@@ -89,6 +93,7 @@ impl Refusal {
             }
             Refusal::ShortAnswer => "The answer buffer is shorter than the answer.",
             Refusal::Apply => "Apply is among an instruction's effects.",
+            Refusal::OutsideRecords => "The caller's position is outside the records.",
         }
     }
 }

@@ -89,7 +89,7 @@ fn worked_out() {
         let (sheet, _) = text::parse(sheet).unwrap();
         assert_eq!(service.dot(&sheet.words()), Ok(whole(lines)));
     }
-    assert_eq!(service.next_serial(), 0, "no serial is taken");
+    assert!(service.next_serials().eq([0]), "no serial is taken");
 }
 
 /// A drawing into lent buffers that hold rubbish before; what stands behind the text, and the
@@ -128,7 +128,7 @@ fn as_the_oracle() {
         // The wrapper lends enough.
         let drawn = service.dot(&sheet).map(String::into_bytes).map_err(Refusal::number);
         assert_eq!(drawn, judged);
-        let called = service.infer(&sheet).map(drop).map_err(Refusal::number);
+        let called = service.infer(0, &sheet).map(drop).map_err(Refusal::number);
         assert!(called == Err(10) || called == judged.map(drop), "1 to 8 are those of the call");
     }
 }
@@ -139,7 +139,7 @@ fn refusals() {
     let (sheet, _) = text::parse(WORKED_OUT[6].0).unwrap();
     let good = sheet.words();
     let full = whole(WORKED_OUT[6].1).len();
-    assert_eq!(Service::new().infer(&good).unwrap_err(), Refusal::Apply);
+    assert_eq!(Service::new().infer(0, &good).unwrap_err(), Refusal::Apply);
     let past = past_limit(&mut Random::new(1), Limit::Renders).words();
     let longer = [&good[..], &[0]].concat();
     let blocks = "block 0\nterminal Other at 1\nblock 1\nterminal Other at 1\n";

@@ -99,7 +99,7 @@ fn accepted() {
         let sheet = Sheet::read(&words).unwrap();
         assert_eq!(sheet.refusal(), None);
         assert!(matches!(sheet.blocks()[0].terminal, Terminal::Other { .. }));
-        let answer = service.infer(&words).unwrap();
+        let answer = service.infer(0, &words).unwrap();
         assert_eq!(answer.serial(), serial);
         assert!(answer.words().len() <= 47 + 2 * n as usize + 4 * m as usize);
     }

@@ -1,5 +1,5 @@
-//! The service through the library: the bench cases of document 01, every refusal, the serial,
-//! and what a call leaves in lent buffers.
+//! The service through the library: the bench cases of document 01, every refusal, the serial of one
+//! caller, and what a call leaves in lent buffers. Several callers are in callers.rs.
 
 use oracle::cases::{ANSWER_1, case_1_words, graph_sheets};
 use oracle::damage::damaged;
@@ -7,7 +7,7 @@ use oracle::generate::{self, Limit, past_limit};
 use oracle::plain::sheet as plain;
 use oracle::plain::{self as oracle_plain, Outcome};
 use oracle::random::Random;
-use service_host::ffi::{self, Reply, ServiceState};
+use service_host::ffi::{self, Caller, Reply};
 use service_host::{
     AliasingDiagnostic, AliasingEffect, BlockId, Effect, EvaluationOrder, Identifier, IdentifierId,
     InstructionValue, MutableRange, Place, Refusal, Service, SheetBuilder, Terminal, limits,
@@ -32,14 +32,14 @@ fn without_blocks(identifiers: usize, params: &[u32], returns: u32) -> Vec<u32> 
 /// every instruction, and the cases' ends are those before the pass over operands.
 fn walked(sheet: &plain::Sheet) -> (u32, Vec<u32>) {
     let mut service = Service::new();
-    let answer = service.infer(&sheet.words()).unwrap();
+    let answer = service.infer(0, &sheet.words()).unwrap();
     (answer.walks()[0], answer.ranges().skip(1).map(|r| r.end.0).collect())
 }
 
 #[test]
 fn bench_case_1_words() {
     let mut service = Service::new();
-    let answer = service.infer(&case_1_words()).unwrap();
+    let answer = service.infer(0, &case_1_words()).unwrap();
     assert_eq!(answer.to_string(), ANSWER_1);
 
     assert_eq!(answer.serial(), 0);
@@ -94,7 +94,7 @@ block 1
 ";
     let (sheet, _) = service_host::text::parse(text).unwrap();
     let mut service = Service::new();
-    let answer = service.infer(&sheet.words()).unwrap();
+    let answer = service.infer(0, &sheet.words()).unwrap();
     let places = |section: Vec<Place>| -> Vec<(u32, Effect, bool, u32)> {
         section.iter().map(|p| (p.identifier.0, p.effect, p.reactive, p.span)).collect()
     };
@@ -151,7 +151,7 @@ fn absent_lists() {
         sheet.terminal(Terminal::Other { order: EvaluationOrder(7) }).unwrap();
         let words = sheet.finish(place(0)).unwrap().words();
         let mut service = Service::new();
-        let answer = service.infer(&words).unwrap();
+        let answer = service.infer(0, &words).unwrap();
         let ranges: Vec<_> = answer.ranges().map(|r| (r.start.0, r.end.0)).collect();
         let marks: Vec<_> = answer.instructions().map(|p| (p.identifier.0, p.effect)).collect();
         let inner: Vec<_> = answer.inner().map(|p| p.effect).collect();
@@ -174,11 +174,11 @@ fn absent_lists() {
 #[test]
 fn bench_case_2() {
     let mut service = Service::new();
-    let answer = service.infer(&without_blocks(1, &[], 0)).unwrap();
+    let answer = service.infer(0, &without_blocks(1, &[], 0)).unwrap();
     assert_eq!(answer.effects().collect::<Vec<_>>(), [AliasingEffect::create(IdentifierId(0))]);
     assert_eq!(answer.walks(), [1]);
 
-    let answer = service.infer(&without_blocks(3, &[0, 1], 2)).unwrap();
+    let answer = service.infer(0, &without_blocks(3, &[0, 1], 2)).unwrap();
     let capture = AliasingEffect::Capture { from: place(1), into: place(0) };
     let effects: Vec<_> = answer.effects().collect();
     assert_eq!(effects, [AliasingEffect::create(IdentifierId(2)), capture]);
@@ -197,34 +197,30 @@ fn bench_cases_3_to_7() {
 
 #[test]
 fn bench_case_8() {
-    let mut service = Service::resume(u32::MAX);
+    let mut service = Service::resume([u32::MAX]);
     let sheet = without_blocks(1, &[], 0);
-    assert_eq!(service.infer(&sheet).unwrap().serial(), u32::MAX);
-    assert_eq!(service.infer(&sheet).unwrap().serial(), 0);
-    assert_eq!(service.infer(&[]).unwrap_err(), Refusal::SheetEnds);
-    assert_eq!(service.infer(&sheet).unwrap().serial(), 1);
-    assert_eq!(service.next_serial(), 2);
+    assert_eq!(service.infer(0, &sheet).unwrap().serial(), u32::MAX);
+    assert_eq!(service.infer(0, &sheet).unwrap().serial(), 0);
+    assert_eq!(service.infer(0, &[]).unwrap_err(), Refusal::SheetEnds);
+    assert_eq!(service.infer(0, &sheet).unwrap().serial(), 1);
+    assert!(service.next_serials().eq([2]));
 }
 
 /// A call on lent buffers that hold rubbish before. The rest of both must be 0 afterwards.
-fn lent(
-    state: &mut ServiceState,
-    sheet: &[u32],
-    workspace: usize,
-    answer: usize,
-) -> (Reply, Vec<u32>) {
-    let before = *state;
+fn lent(caller: &mut Caller, sheet: &[u32], workspace: usize, answer: usize) -> (Reply, Vec<u32>) {
+    let before = *caller;
     let mut workspace = vec![0xdead_beef; workspace];
     let mut answer = vec![0xbadd_cafe; answer];
-    let reply = ffi::infer(state, sheet, &mut workspace, &mut answer);
+    let one = std::slice::from_mut(caller);
+    let reply = ffi::infer(one, 0, sheet, &mut workspace, &mut answer);
     assert!(workspace.iter().all(|&word| word == 0));
     assert!(answer[reply.length..].iter().all(|&word| word == 0));
     if reply.refusal == 0 {
         assert_eq!(reply.serial, before.next);
-        assert_eq!(state.next, before.next.wrapping_add(1));
+        assert_eq!(caller.next, before.next.wrapping_add(1));
     } else {
         assert_eq!((reply.serial, reply.length), (0, 0));
-        assert_eq!(*state, before);
+        assert_eq!(*caller, before);
     }
     answer.truncate(reply.length);
     (reply, answer)
@@ -232,24 +228,24 @@ fn lent(
 
 #[test]
 fn bench_case_9() {
-    let mut state = ffi::new_state();
+    let mut caller = ffi::new_caller();
     let sheet = without_blocks(1, &[], 0);
-    assert_eq!(lent(&mut state, &sheet, 16_383, 100).0.refusal, 1);
-    assert_eq!(lent(&mut state, &sheet, 16_384, 100).0.refusal, 0);
+    assert_eq!(lent(&mut caller, &sheet, 16_383, 100).0.refusal, 1);
+    assert_eq!(lent(&mut caller, &sheet, 16_384, 100).0.refusal, 0);
     for limit in [Limit::Relations, Limit::PhiRelations] {
         let mut random = Random::new(9);
         let most = generate::at_limit(&mut random, limit);
         assert_eq!(most.totals().relations, 1_024);
-        assert_eq!(lent(&mut state, &most.words(), 16_384, 100_000).0.refusal, 0);
+        assert_eq!(lent(&mut caller, &most.words(), 16_384, 100_000).0.refusal, 0);
         let over = generate::past_limit(&mut random, limit);
         assert_eq!(over.totals().relations, 1_025);
-        assert_eq!(lent(&mut state, &over.words(), 16_384, 100_000).0.refusal, 8);
+        assert_eq!(lent(&mut caller, &over.words(), 16_384, 100_000).0.refusal, 8);
     }
-    let (reply, words) = lent(&mut state, &sheet, 16_384, 21);
+    let (reply, words) = lent(&mut caller, &sheet, 16_384, 21);
     assert_eq!((reply.refusal, reply.length), (0, 21));
     assert_eq!(words, [1, 0, 0, 0, 0, 0, 1, 9, 0, 0, 0, 0, 0, 0, 0, 1, 1, 0, 0, 0, 0]);
-    assert_eq!(lent(&mut state, &sheet, 16_384, 20).0.refusal, 9);
-    assert_eq!(state.next, 4);
+    assert_eq!(lent(&mut caller, &sheet, 16_384, 20).0.refusal, 9);
+    assert_eq!(caller.next, 4);
 }
 
 #[test]
@@ -271,9 +267,9 @@ fn every_refusal() {
     applied.extend([12, 0, 0, 0, 0, 0, 0, 0, 0, 2, 0]);
     let over = |limit| past_limit(&mut Random::new(1), limit).words();
 
-    let mut state = ffi::new_state();
+    let mut caller = ffi::new_caller();
     let mut refusal = |sheet: &[u32], workspace, answer| {
-        let number = lent(&mut state, sheet, workspace, answer).0.refusal;
+        let number = lent(&mut caller, sheet, workspace, answer).0.refusal;
         Refusal::from_number(number)
     };
     assert_eq!(refusal(&sheet, 16_384, 1_000), None);
@@ -300,7 +296,7 @@ fn refusals_in_words() {
         assert_eq!(Refusal::from_number(number), Some(refusal));
     }
     assert_eq!(Refusal::from_number(0), None);
-    let error: Box<dyn std::error::Error> = Service::new().infer(&[2, 0, 2]).unwrap_err().into();
+    let error: Box<dyn std::error::Error> = Service::new().infer(0, &[2, 0, 2]).unwrap_err().into();
     assert_eq!(error.to_string(), "refused 5: A word is outside its range.");
 }
 
@@ -334,22 +330,22 @@ fn longest_answer() -> Vec<u32> {
 fn answers_of_any_length() {
     let sheet = longest_answer();
     let mut service = Service::new();
-    let answer = service.infer(&sheet).unwrap();
+    let answer = service.infer(0, &sheet).unwrap();
     assert_eq!(answer.serial(), 0, "attempts with too short a buffer take no serial");
     assert_eq!((sheet.len(), answer.diagnostics().len()), (11_932, 8_388_608));
     assert!(answer.words().len() <= limits::ANSWER);
     assert!(answer.diagnostics().zip((0..64).cycle()).all(|(d, i)| d.words() == [1_000 + i, i]));
     // The next call is a small one again.
-    let answer = service.infer(&case_1_words()).unwrap();
+    let answer = service.infer(0, &case_1_words()).unwrap();
     assert_eq!((answer.serial(), answer.words().len()), (1, 55));
 
     let mut limited = Service::new().most_answer(8_000_000);
-    assert_eq!(limited.infer(&sheet).unwrap_err(), Refusal::ShortAnswer);
-    assert_eq!(limited.infer(&case_1_words()).unwrap().serial(), 0);
+    assert_eq!(limited.infer(0, &sheet).unwrap_err(), Refusal::ShortAnswer);
+    assert_eq!(limited.infer(0, &case_1_words()).unwrap().serial(), 0);
     let mut tight = Service::new().most_answer(55);
-    assert_eq!(tight.infer(&case_1_words()).unwrap().words().len(), 55);
+    assert_eq!(tight.infer(0, &case_1_words()).unwrap().words().len(), 55);
     let mut short = Service::new().most_answer(54);
-    assert_eq!(short.infer(&case_1_words()).unwrap_err(), Refusal::ShortAnswer);
+    assert_eq!(short.infer(0, &case_1_words()).unwrap_err(), Refusal::ShortAnswer);
 }
 
 /// 64 parameters and 64 context variables, each of which flows into each other one and into what
@@ -370,14 +366,14 @@ fn most_effects() {
     sheet.terminal(service_host::Terminal::Other { order }).unwrap();
     let sheet = sheet.finish(place(128)).unwrap().words();
     let mut service = Service::new();
-    assert_eq!(service.infer(&sheet).unwrap().effects().len(), 1 + 128 * 128);
+    assert_eq!(service.infer(0, &sheet).unwrap().effects().len(), 1 + 128 * 128);
 }
 
 /// Good and damaged sheets, in one service, against the plain implementation and the original.
 #[test]
 fn answers_are_the_oracles() {
     let mut random = Random::new(2024);
-    let mut service = Service::resume(u32::MAX - 500);
+    let mut service = Service::resume([u32::MAX - 500]);
     let mut serial = u32::MAX - 500;
     for i in 0..3_000 {
         let words = if i % 3 == 0 {
@@ -386,7 +382,7 @@ fn answers_are_the_oracles() {
             generate::sheet(&mut random).words()
         };
         let expected = oracle_plain::outcome(&words, 16_384, usize::MAX);
-        match (service.infer(&words), expected) {
+        match (service.infer(0, &words), expected) {
             (Ok(answer), Outcome::Accepted(expected)) => {
                 assert_eq!(answer.words(), expected);
                 assert_eq!(answer.serial(), serial);
@@ -420,7 +416,7 @@ fn answers_are_the_oracles() {
             (got, expected) => panic!("{got:?}, not {expected:?}"),
         }
     }
-    assert_eq!(service.next_serial(), serial);
+    assert!(service.next_serials().eq([serial]));
     assert!(serial < u32::MAX / 2, "the serial has wrapped");
 }
 
@@ -428,7 +424,7 @@ fn answers_are_the_oracles() {
 fn sizes() {
     assert_eq!(ffi::least_workspace(), 16_384);
     assert_eq!(ffi::most_sheet(), limits::WORDS);
-    assert_eq!(ffi::new_state(), ServiceState { next: 0 });
+    assert_eq!(ffi::new_caller(), Caller { next: 0 });
 }
 
 /// A service can be handed to another thread.
@@ -436,8 +432,8 @@ fn sizes() {
 fn one_service_in_each_thread() {
     let threads: Vec<_> = (0..4)
         .map(|first| {
-            let mut service = Service::resume(first);
-            std::thread::spawn(move || service.infer(&case_1_words()).unwrap().serial())
+            let mut service = Service::resume([first]);
+            std::thread::spawn(move || service.infer(0, &case_1_words()).unwrap().serial())
         })
         .collect();
     let serials: Vec<_> = threads.into_iter().map(|t| t.join().unwrap()).collect();

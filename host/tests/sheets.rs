@@ -93,7 +93,7 @@ fn faults_are_the_librarys() {
             Ok(sheet) => sheet.refusal(),
             Err(error) => Some(error.refusal()),
         };
-        let library = service.infer(&words).err();
+        let library = service.infer(0, &words).err();
         assert_eq!(ours, library, "{words:?}");
         seen[library.map_or(0, |r| r.number() as usize)] += 1;
     }
@@ -116,7 +116,7 @@ fn totals_while_reading() {
             Err(error) => Some(error.refusal()),
         };
         assert_eq!(refusal, Refusal::from_number(sheet.refusal), "{}", sheet.name);
-        assert_eq!(service.infer(&sheet.words).err(), refusal, "{}", sheet.name);
+        assert_eq!(service.infer(0, &sheet.words).err(), refusal, "{}", sheet.name);
     }
     assert!(read > 10, "{read}");
 }
@@ -345,7 +345,7 @@ fn parts_that_are_not_there() {
     none_yet.block(BlockId(0)).unwrap();
     let first = PartError::NoIdentifier { identifier: IdentifierId(0), count: 0 };
     assert_eq!(none_yet.instruction(order(0)), Err(first));
-    assert!(Service::new().infer(&b.finish(place(0)).unwrap().words()).is_ok());
+    assert!(Service::new().infer(0, &b.finish(place(0)).unwrap().words()).is_ok());
 }
 
 #[test]
@@ -522,7 +522,7 @@ fn no_sheet_that_is_refused_3_to_7() {
         }
         if let Ok(sheet) = b.finish(place(0)) {
             accepted += 1;
-            let refusal = service.infer(&sheet.words()).err();
+            let refusal = service.infer(0, &sheet.words()).err();
             assert_eq!(refusal, sheet.refusal(), "{sheet:?}");
         }
     }
@@ -807,7 +807,7 @@ fn damaged_texts() {
             }
             Ok((sheet, _)) => {
                 good += 1;
-                let refusal = service.infer(&sheet.words()).err();
+                let refusal = service.infer(0, &sheet.words()).err();
                 assert_eq!(refusal, sheet.refusal());
             }
         }

@@ -3,6 +3,7 @@
 //! over operands.
 
 use crate::boundaries;
+use crate::callers;
 use crate::compare::{compare, roomy};
 use crate::damage::{Call, Room};
 use crate::generate::{self, LIMITS, Limit, PASSABLE};
@@ -97,7 +98,7 @@ fn case_1() -> Result<(), String> {
 }
 
 /// The two sheets of case 2. Cases 8 and 9 use the first one too.
-fn without_blocks() -> [Sheet; 2] {
+pub fn without_blocks() -> [Sheet; 2] {
     [sheet(1, &[], 0, Vec::new()), sheet(3, &[0, 1], 2, Vec::new())]
 }
 
@@ -175,12 +176,12 @@ fn case_7() -> Result<(), String> {
 
 fn case_8() -> Result<(), String> {
     let words = without_blocks()[0].words();
-    let mut next = u32::MAX;
+    let mut caller = [u32::MAX];
     for serial in [Some(u32::MAX), Some(0)] {
-        is("serial", plain::turn(&mut next, &words, WORKSPACE_WORDS, 16_384).1, serial)?;
+        is("serial", plain::turn(&mut caller, 0, &words, WORKSPACE_WORDS, 16_384).1, serial)?;
     }
-    is("refused", plain::turn(&mut next, &words, 0, 16_384).1, None)?;
-    is("state", next, 1)
+    is("refused", plain::turn(&mut caller, 0, &words, 0, 16_384).1, None)?;
+    is("record", caller, [1])
 }
 
 fn refusal(call: &Call) -> Result<u32, String> {
@@ -325,11 +326,12 @@ pub fn sheets() -> Vec<Vec<u32>> {
 
 type Case = fn() -> Result<(), String>;
 
-pub const FURTHER: [(&str, Case); 4] = [
+pub const FURTHER: [(&str, Case); 5] = [
     ("limits", limits),
     ("refusal order", refusal_order),
     ("words in range", words_in_range),
     ("totals", totals_passed),
+    ("callers", callers::cases),
 ];
 
 pub const CASES: [Case; 9] =

@@ -12,13 +12,19 @@ use crate::plain::{self, Outcome, sheet};
 pub trait Side {
     fn name(&self) -> &'static str;
 
-    /// What the call gave, or what is wrong with the buffers or the state that it left.
+    /// What the call of one of its callers gave, or what is wrong with the buffers or the records that
+    /// it left.
     fn outcome(
         &mut self,
         sheet: &[u32],
         workspace_len: usize,
         answer_len: usize,
     ) -> Result<Outcome, String>;
+
+    /// The same for a caller outside the records; none if the side has no records.
+    fn outside(&mut self, _: &[u32], _: usize, _: usize) -> Option<Result<Outcome, String>> {
+        None
+    }
 }
 
 /// A difference between a side and the plain reader, or the original.
@@ -160,6 +166,24 @@ pub fn lengths(call: &Call, result: Option<usize>) -> Vec<(usize, usize)> {
     lengths
 }
 
+/// One side for a caller outside the records, at lengths at which others are refused 1, refused 9 or
+/// accepted: 11 all the same.
+fn compare_outside(side: &mut dyn Side, call: &Call, full: usize) -> Option<Difference> {
+    let (workspace, room) = [
+        (call.workspace, call.room.words(full)),
+        (sheet::WORKSPACE_WORDS - 1, full),
+        (0, 0),
+        (sheet::WORKSPACE_WORDS + 7, full + 61),
+    ][varied(call, Some(full)) % 4];
+    let got = side.outside(&call.sheet, workspace, room)?;
+    if got == Ok(Outcome::Refused(11)) {
+        return None;
+    }
+    let lent = format!("outside the records, workspace {workspace}, answer buffer {room}");
+    let got = got.as_ref().map_or_else(|message| vec![message.clone()], lines);
+    Some(Difference { side: side.name(), expected: vec![lent, "refused 11".into()], got })
+}
+
 /// One side at one call's lengths, held to the plain reader and to the original.
 fn compare_side(
     side: &mut dyn Side,
@@ -212,6 +236,8 @@ pub fn compare(call: &Call, sides: &mut [Box<dyn Side>]) -> (u32, Option<Differe
             let of_side = compare_side(side.as_mut(), &call.sheet, lent, &judged, original);
             difference = difference.or(of_side);
         }
+        let full = judged.as_ref().map_or(0, Vec::len);
+        difference = difference.or(compare_outside(side.as_mut(), call, full));
     }
     let (workspace, room) = lengths[0];
     let refusal = match plain::lend(judged, workspace, room) {

@@ -3,6 +3,7 @@
 //! restate), and sheets to hold them against each other.
 
 pub mod boundaries;
+pub mod callers;
 pub mod cases;
 pub mod certainty;
 pub mod compare;

@@ -1,6 +1,7 @@
 //! Class loads (document 02, order 2): a generator of our own, written from the document's text, and
 //! the comparison of one load with other sides.
 
+use crate::callers::Named;
 use crate::compare::Difference;
 use crate::plain::Outcome;
 use crate::plain::sheet::{
@@ -75,6 +76,11 @@ impl Load {
         }
         let words = self.sheet().words();
         if room < words.len() { Outcome::Refused(9) } else { Outcome::Accepted(words) }
+    }
+
+    /// For a caller (document 02, order 9): "11 .. for order 2's sheets too", before 5 and 9.
+    pub fn outcome_for(self, named: Option<Named>, room: usize) -> Outcome {
+        if named.is_some_and(Named::outside) { Outcome::Refused(11) } else { self.outcome(room) }
     }
 
     /// How many words the sheet has.
@@ -174,8 +180,9 @@ pub fn made_outside(random: &mut Random) -> Load {
 pub trait Loader {
     fn name(&self) -> &'static str;
 
-    /// What the call gave, or what is wrong with the output that it left.
-    fn load(&mut self, load: Load, room: usize) -> Result<Outcome, String>;
+    /// What the call gave, for nobody or for a caller, or what is wrong with the output or the records
+    /// that it left.
+    fn load(&mut self, load: Load, named: Option<Named>, room: usize) -> Result<Outcome, String>;
 }
 
 /// An outcome in a line: its length and the first word in which it differs from another.
@@ -193,13 +200,19 @@ fn told(outcome: &Result<Outcome, String>, other: &Result<Outcome, String>) -> S
 }
 
 /// One side at one length, word by word.
-pub fn compare_load(loader: &mut dyn Loader, load: Load, room: usize) -> Option<Difference> {
-    let expected = Ok(load.outcome(room));
-    let got = loader.load(load, room);
+pub fn compare_load(
+    loader: &mut dyn Loader,
+    load: Load,
+    named: Option<Named>,
+    room: usize,
+) -> Option<Difference> {
+    let expected = Ok(load.outcome_for(named, room));
+    let got = loader.load(load, named, room);
     if got == expected {
         return None;
     }
-    let asked = format!("{load:?} with {room} words");
+    let who = named.map_or(String::new(), |named| format!(" for {named:?}"));
+    let asked = format!("{load:?}{who} with {room} words");
     Some(Difference {
         side: loader.name(),
         expected: vec![asked, told(&expected, &got)],
@@ -237,6 +250,24 @@ mod tests {
         }
     }
 
+    /// 11, then 5, then 9, then the load.
+    #[test]
+    fn for_callers() {
+        let good = Load { seed: 0, n: 2, m: 1 };
+        let bad = Load { n: 1, ..good };
+        for named in [None, Some(Named { callers: 1, position: 0 })] {
+            assert_eq!(bad.outcome_for(named, 0), Outcome::Refused(5));
+            assert_eq!(good.outcome_for(named, 42), Outcome::Refused(9));
+            assert_eq!(good.outcome_for(named, 43), good.outcome(43));
+        }
+        for (callers, position) in [(1, 1), (1, usize::MAX), (0, 0)] {
+            let named = Some(Named { callers, position });
+            for (load, room) in [(bad, 0), (good, 42), (good, 43)] {
+                assert_eq!(load.outcome_for(named, room), Outcome::Refused(11));
+            }
+        }
+    }
+
     #[test]
     fn arguments_outside() {
         for load in outside() {
@@ -254,10 +285,15 @@ mod tests {
         fn name(&self) -> &'static str {
             "late"
         }
-        fn load(&mut self, load: Load, room: usize) -> Result<Outcome, String> {
+        fn load(
+            &mut self,
+            load: Load,
+            named: Option<Named>,
+            room: usize,
+        ) -> Result<Outcome, String> {
             // The seed that the first step leads to: 4,276,115,653 undoes 1,664,525.
             let seed = load.seed.wrapping_sub(1_013_904_223).wrapping_mul(4_276_115_653);
-            Ok(Load { seed, ..load }.outcome(room))
+            Ok(Load { seed, ..load }.outcome_for(named, room))
         }
     }
 
@@ -265,8 +301,8 @@ mod tests {
     fn a_fault_is_found() {
         assert_eq!(1_664_525_u32.wrapping_mul(4_276_115_653), 1);
         let load = Load { seed: 3, n: 9, m: 9 };
-        assert!(compare_load(&mut Late, load, 0).is_none());
-        let difference = compare_load(&mut Late, load, load.words()).expect("words differ");
+        assert!(compare_load(&mut Late, load, None, 0).is_none());
+        let difference = compare_load(&mut Late, load, None, load.words()).expect("words differ");
         assert_eq!(difference.side, "late");
     }
 }

@@ -1,11 +1,14 @@
 //! Our own library, linked as a static library with a C interface: one more `Side`. Built only
 //! with the feature `service`.
 //!
-//! Before a call the workspace, the answer buffer and some words around them hold rubbish. After it
-//! the words around are as they were, the workspace and the words after the answer are 0, the sheet
-//! is unchanged, and the state has moved on by one if the call was accepted. It makes class loads too
-//! (`Loader`), into the same buffer with rubbish, and drawings (`Drawer`), into bytes of rubbish.
+//! Before a call the workspace, the answer buffer and some words around them and around the callers'
+//! records hold rubbish. After it the words around are as they were, the workspace and the words after
+//! the answer are 0, the sheet is unchanged, and every record is the one that is counted here: the
+//! caller's has moved on by one if the call was accepted. It serves lists of calls (`Server`), makes
+//! class loads too (`Loader`), into the same buffer with rubbish, and drawings (`Drawer`), into bytes
+//! of rubbish.
 
+use crate::callers::{Named, Server};
 use crate::compare::Side;
 use crate::drawing::Drawer;
 use crate::load::{Load, Loader};
@@ -16,7 +19,7 @@ use crate::random::Random;
 
 #[repr(C)]
 #[derive(Debug, Clone, Copy, PartialEq, Eq)]
-struct ServiceState {
+struct Caller {
     next: u32,
 }
 
@@ -29,11 +32,13 @@ struct Reply {
 }
 
 unsafe extern "C" {
-    fn service_new() -> ServiceState;
+    fn service_new() -> Caller;
     fn service_least_workspace() -> usize;
     fn service_most_sheet() -> usize;
     fn service_infer(
-        state: *mut ServiceState,
+        callers: *mut Caller,
+        count: usize,
+        position: usize,
         sheet: *const u32,
         sheet_len: usize,
         workspace: *mut u32,
@@ -42,6 +47,16 @@ unsafe extern "C" {
         answer_len: usize,
     ) -> Reply;
     fn service_load(seed: u32, n: u32, m: u32, sheet: *mut u32, sheet_len: usize) -> Reply;
+    fn service_load_for(
+        callers: *const Caller,
+        count: usize,
+        position: usize,
+        seed: u32,
+        n: u32,
+        m: u32,
+        sheet: *mut u32,
+        sheet_len: usize,
+    ) -> Reply;
     fn service_dot(
         sheet: *const u32,
         sheet_len: usize,
@@ -131,8 +146,16 @@ fn outcome_of(result: Result<Vec<u32>, u32>) -> Outcome {
     }
 }
 
+/// The first serials of the callers: the first wraps soon, and the others do not.
+const FIRST: [u32; 5] = [u32::MAX - 9, 0, 7, u32::MAX / 2, 4_000_000_000];
+
 pub struct Ours {
-    state: ServiceState,
+    /// The callers' next serials as the library leaves them, and as they are counted here.
+    callers: Vec<u32>,
+    counted: Vec<u32>,
+    /// Which callers are named.
+    random: Random,
+    records: Buffer<u32>,
     sheet: Vec<u32>,
     workspace: Buffer<u32>,
     answer: Buffer<u32>,
@@ -144,14 +167,15 @@ impl Default for Ours {
     fn default() -> Ours {
         let mut random = Random::new(0);
         // SAFETY: they take nothing.
-        let (mut state, workspace, sheet) =
+        let (caller, workspace, sheet) =
             unsafe { (service_new(), service_least_workspace(), service_most_sheet()) };
-        assert_eq!(state, ServiceState { next: 0 }, "a new state");
+        assert_eq!(caller, Caller { next: 0 }, "a new record");
         assert_eq!((workspace, sheet), (WORKSPACE_WORDS, SHEET_WORDS), "the lengths");
-        // A few calls before the wrap.
-        state.next = u32::MAX - 9;
         Ours {
-            state,
+            callers: FIRST.to_vec(),
+            counted: FIRST.to_vec(),
+            random: Random::new(9),
+            records: Buffer::new(|_| random.word() as u32),
             sheet: Vec::new(),
             workspace: Buffer::new(|_| random.word() as u32),
             answer: Buffer::new(|_| random.word() as u32),
@@ -185,6 +209,18 @@ impl Ours {
         }
         self.workspace.check("workspace", 0)
     }
+
+    /// Lends records with these next serials, rubbish around them.
+    fn lend_records(&mut self, callers: &[u32], from: usize) {
+        self.records.fill(callers.len(), from / 3);
+        self.records.lend().copy_from_slice(callers);
+    }
+
+    /// The records' next serials after a call, which has left what stands around them.
+    fn records_after(&self) -> Result<&[u32], String> {
+        self.records.check("records", self.records.length)?;
+        Ok(self.records.lent())
+    }
 }
 
 /// For a call that takes no serial.
@@ -203,14 +239,79 @@ impl Side for Ours {
         workspace_len: usize,
         answer_len: usize,
     ) -> Result<Outcome, String> {
+        let position = self.random.below(FIRST.len());
+        let mut callers = std::mem::take(&mut self.callers);
+        let told = self.turn(&mut callers, position, sheet, workspace_len, answer_len);
+        self.callers = callers;
+        let (outcome, serial) = told?;
+        let expected = match outcome {
+            Outcome::Accepted(_) => {
+                let next = &mut self.counted[position];
+                let serial = *next;
+                *next = next.wrapping_add(1);
+                Some(serial)
+            }
+            Outcome::Refused(_) => None,
+        };
+        if serial != expected || self.callers != self.counted {
+            let (records, counted) = (&self.callers, &self.counted);
+            return Err(format!(
+                "caller {position}: serial {serial:?} and {records:?}, not {expected:?} and {counted:?}"
+            ));
+        }
+        Ok(outcome)
+    }
+
+    fn outside(
+        &mut self,
+        sheet: &[u32],
+        workspace_len: usize,
+        answer_len: usize,
+    ) -> Option<Result<Outcome, String>> {
+        // Not all records, or none, are lent to some; those behind have to stay too.
+        let lent = self.random.below(FIRST.len() + 1);
+        let (before, behind) = self.callers.split_at(lent);
+        let (mut callers, behind) = (before.to_vec(), behind.to_vec());
+        let past = [lent, lent + 1, FIRST.len(), 1 << 32, usize::MAX / 4 + 2, usize::MAX];
+        let position = self.random.choose(&past);
+        let told = self.turn(&mut callers, position, sheet, workspace_len, answer_len);
+        self.callers = [callers, behind].concat();
+        Some(told.and_then(|(outcome, serial)| {
+            if serial.is_some() || self.callers != self.counted {
+                return Err(format!(
+                    "position {position} of {lent}: {serial:?}, {:?}",
+                    self.callers
+                ));
+            }
+            Ok(outcome)
+        }))
+    }
+}
+
+impl Server for Ours {
+    fn name(&self) -> &'static str {
+        "ours, several callers"
+    }
+
+    fn turn(
+        &mut self,
+        callers: &mut [u32],
+        position: usize,
+        sheet: &[u32],
+        workspace_len: usize,
+        answer_len: usize,
+    ) -> Result<(Outcome, Option<u32>), String> {
         let from = self.begin(sheet, workspace_len);
         self.answer.fill(answer_len, from / 2);
-        let before = self.state;
+        self.lend_records(callers, from);
         let (workspace, answer) = (self.workspace.lend(), self.answer.lend());
-        // SAFETY: the pointers are those of slices with these lengths, all different, and of a state.
+        let records = self.records.lend();
+        // SAFETY: the pointers are those of slices with these lengths, all different; a record is a word.
         let reply = unsafe {
             service_infer(
-                &mut self.state,
+                records.as_mut_ptr().cast(),
+                records.len(),
+                position,
                 self.sheet.as_ptr(),
                 self.sheet.len(),
                 workspace.as_mut_ptr(),
@@ -220,14 +321,13 @@ impl Side for Ours {
             )
         };
         self.end(sheet)?;
-        let (number, next) = match reply.refusal {
-            0 => (before.next, before.next.wrapping_add(1)),
-            _ => (0, before.next),
-        };
-        if (reply.serial, self.state.next) != (number, next) {
-            return Err(format!("{before:?}, then {reply:?} and {:?}", self.state));
+        callers.copy_from_slice(self.records_after()?);
+        let outcome = outcome_of(self.answer.result("answer buffer", reply)?);
+        if reply.refusal == 0 {
+            return Ok((outcome, Some(reply.serial)));
         }
-        Ok(outcome_of(self.answer.result("answer buffer", reply)?))
+        no_serial(reply)?;
+        Ok((outcome, None))
     }
 }
 
@@ -236,14 +336,25 @@ impl Loader for Ours {
         "ours, a class load"
     }
 
-    fn load(&mut self, load: Load, room: usize) -> Result<Outcome, String> {
+    fn load(&mut self, load: Load, named: Option<Named>, room: usize) -> Result<Outcome, String> {
         let from = self.next();
         self.answer.fill(room, from);
-        let sheet = self.answer.lend();
-        // SAFETY: the pointer is that of a slice with this length.
-        let reply =
-            unsafe { service_load(load.seed, load.n, load.m, sheet.as_mut_ptr(), sheet.len()) };
+        let callers: Vec<u32> = (0..named.map_or(0, |named| named.callers as u32)).collect();
+        self.lend_records(&callers, from);
+        let (Load { seed, n, m }, sheet) = (load, self.answer.lend());
+        // SAFETY: the pointers are those of slices with these lengths; a record is a word.
+        let reply = match named {
+            None => unsafe { service_load(seed, n, m, sheet.as_mut_ptr(), sheet.len()) },
+            Some(Named { callers, position }) => unsafe {
+                let records = self.records.lend().as_ptr().cast();
+                let (sheet, words) = (sheet.as_mut_ptr(), sheet.len());
+                service_load_for(records, callers, position, seed, n, m, sheet, words)
+            },
+        };
         no_serial(reply)?;
+        if self.records_after()? != callers {
+            return Err("a class load has written a record".into());
+        }
         Ok(outcome_of(self.answer.result("output", reply)?))
     }
 }

@@ -27,8 +27,13 @@ const LONGEST: usize = 2_500;
 /// it is compiled without optimization. `compare` has them with all that a sheet may have.
 const LONG_WALKS: usize = 32;
 
-/// The calls that the program makes with an accepted sheet (two of them accepted) and with a
-/// refused one.
+/// The first serials of the program's callers.
+const FIRST: [u32; 4] = [0, 4_294_967_295, 7, 4_294_967_000];
+
+/// The calls that the program makes with each sheet for callers outside the records.
+const OUTSIDE: usize = 3;
+
+/// The calls that it then makes with an accepted sheet (two of them accepted) and with a refused one.
 const CALLS: [usize; 2] = [5, 4];
 
 pub struct Recorded {
@@ -82,11 +87,33 @@ pub fn records(count: usize) -> Vec<Recorded> {
     sheets.iter().map(|sheet| record(sheet)).collect()
 }
 
-/// The line that the program prints if nothing differs. Its first serial is the largest.
-pub fn line(records: &[Recorded]) -> String {
-    let refused = records.iter().filter(|r| r.refusal > 0).count();
-    let accepted = records.len() - refused;
-    let calls = accepted * CALLS[0] + refused * CALLS[1];
-    let next = (u32::MAX).wrapping_add(2 * accepted as u32);
-    format!("{} sheets, {calls} calls, 0 different, next serial {next}\n", records.len())
+/// The line that the program prints if nothing differs, of records in the order in which they stand in
+/// its file. The n-th sheet, counted from 1, is given for the caller at position n modulo 4.
+pub fn line<'a>(records: impl IntoIterator<Item = &'a Recorded>) -> String {
+    let (mut sheets, mut calls, mut next) = (0, 0, FIRST);
+    for record in records {
+        sheets += 1;
+        calls += OUTSIDE + CALLS[(record.refusal > 0) as usize];
+        if record.refusal == 0 {
+            let serial = &mut next[sheets % FIRST.len()];
+            *serial = serial.wrapping_add(2);
+        }
+    }
+    let next = next.map(|serial| serial.to_string()).join(" ");
+    format!("{sheets} sheets, {calls} calls, 0 different, next serials {next}\n")
+}
+
+#[cfg(test)]
+mod tests {
+    use super::*;
+
+    /// By hand: sheets 1, 2, 4 and 5 are accepted; caller 1 has two of them and wraps.
+    #[test]
+    fn a_line() {
+        let record = |refusal| Recorded { words: Vec::new(), refusal };
+        let records = [0, 0, 5, 0, 0].map(record);
+        let expected =
+            "5 sheets, 39 calls, 0 different, next serials 2 3 9 4294967000\n".to_string();
+        assert_eq!(line(&records), expected);
+    }
 }

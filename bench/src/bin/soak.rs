@@ -1,10 +1,11 @@
 //! soak [CALLS [SEED]]
 //!
-//! Calls over one state in one process: random, damaged and hostile sheets. Buffers stand right
-//! before forbidden pages (the workspace between two), and sheets in memory that cannot be
-//! written, so that a word touched outside stops the process.
+//! Calls of 16 callers over their records in one process: random, damaged and hostile sheets. Buffers
+//! and records stand right before forbidden pages (the workspace between two), and sheets in memory
+//! that cannot be written, so that a word touched outside stops the process.
 //!
-//! Every call is held to what is cheap to check (`check`). Calls from the pool are held to their
+//! Every call is held to what is cheap to check (`check`), and after it every record to the serial that
+//! is counted here; some are for callers outside the records. Calls from the pool are held to their
 //! whole answer, by a hash of what the plain implementation and the original said when the pool
 //! was made. A sample of the others is compared with both as well. Between them class loads are made,
 //! each held word by word to the oracle's, and drawings, each held byte by byte to the original's graph
@@ -16,6 +17,7 @@ use std::process::ExitCode;
 
 use bench::clock::processor;
 use bench::guarded::Guarded;
+use oracle::callers::Named;
 use oracle::compare::{Side, compare};
 use oracle::damage::{Call, Change, EDGES, Room, change, damaged};
 use oracle::drawing::compare_drawing;
@@ -25,10 +27,14 @@ use oracle::plain::dot::{Drawn, judge, lend};
 use oracle::plain::sheet::ABSENT;
 use oracle::plain::{self, Outcome};
 use oracle::random::Random;
-use service_host::ffi::{self, Reply, ServiceState};
+use service_host::ffi::{self, Caller, Reply};
 use service_host::{Service, limits};
 
 const SLICES: u64 = 20;
+/// So many callers have a record; the serials of the first half wrap, one after another, and those of
+/// the others do not.
+const CALLERS: usize = 16;
+const WRAPPING: usize = CALLERS / 2;
 const POOL: usize = 4_096;
 const LEAST_WORKSPACE: usize = 16_384;
 /// Words of the answer buffer: the longest answer of a pool fits.
@@ -38,6 +44,8 @@ const ROOM: usize = 1 << 16;
 const LOOKED_AT: u64 = 16;
 const COMPARED: u64 = 256;
 const LOADED: u64 = 256;
+/// One of so many calls is for a caller outside the records.
+const OUTSIDE: usize = 64;
 const DRAWN: u64 = 256;
 
 /// A call whose outcome is known.
@@ -111,9 +119,14 @@ impl Pool {
     }
 }
 
-/// What a host lends, and the state.
+/// What a host lends, and which caller it names.
 struct Host {
-    state: ServiceState,
+    records: Guarded,
+    /// For each caller its first serial, how many of its calls were accepted, and the next serial.
+    first: [u32; CALLERS],
+    accepted: [u64; CALLERS],
+    next: [u32; CALLERS],
+    named: Random,
     sheet: Guarded,
     workspace: Guarded,
     answer: Guarded,
@@ -123,7 +136,7 @@ struct Host {
 /// The counts of a slice.
 #[derive(Default)]
 struct Tally {
-    refusals: [u64; 11],
+    refusals: [u64; 12],
     compared: u64,
     looked_at: u64,
     loads: u64,
@@ -137,21 +150,18 @@ fn is(what: &str, holds: bool) -> Result<(), String> {
 
 /// What every call promises, as far as it is cheap to check.
 fn check(
-    before: u32,
-    state: ServiceState,
     reply: Reply,
+    outside: bool,
     sheet: &[u32],
     workspace: usize,
     answer: &[u32],
 ) -> Result<(), String> {
-    is("the refusal's number", reply.refusal <= 10)?;
-    is("refusal 1", (reply.refusal == 1) == (workspace < LEAST_WORKSPACE))?;
+    is("the refusal's number", reply.refusal <= 11)?;
+    is("refusal 11", (reply.refusal == 11) == outside)?;
+    is("refusal 1", outside || (reply.refusal == 1) == (workspace < LEAST_WORKSPACE))?;
     if reply.refusal != 0 {
-        is("length and serial of a refusal", reply.length == 0 && reply.serial == 0)?;
-        return is("the state after a refusal", state.next == before);
+        return is("length and serial of a refusal", reply.length == 0 && reply.serial == 0);
     }
-    is("the serial", reply.serial == before)?;
-    is("the state after acceptance", state.next == before.wrapping_add(1))?;
     is("the length", reply.length <= answer.len())?;
     // The sections, each after its count.
     let mut sections = [&answer[..0]; 10];
@@ -179,15 +189,47 @@ fn check(
     is("an effect's kind", sections[4].chunks_exact(8).all(|e| e[0] <= 17))
 }
 
+/// So many records, right before the forbidden page.
+fn lent_records(records: &mut Guarded, count: usize) -> &mut [Caller] {
+    let words = records.last_mut(count);
+    // SAFETY: a record is a word; the words are borrowed mutably, and so are the records.
+    unsafe { std::slice::from_raw_parts_mut(words.as_mut_ptr().cast(), count) }
+}
+
 impl Host {
-    fn new(next: u32) -> Host {
+    fn new(first: [u32; CALLERS]) -> Host {
+        let mut records = Guarded::new(CALLERS);
+        records.last_mut(CALLERS).copy_from_slice(&first);
         Host {
-            state: ServiceState { next },
+            records,
+            first,
+            accepted: [0; CALLERS],
+            next: first,
+            named: Random::new(16),
             sheet: Guarded::new(20_000),
             workspace: Guarded::new(LEAST_WORKSPACE),
             answer: Guarded::new(ROOM),
             text: Guarded::new((limits::DRAWING + 200) / 4),
         }
+    }
+
+    /// How many records are lent, the last of them, and the position that is named.
+    fn name(&mut self, outside: bool) -> (usize, usize) {
+        if !outside {
+            return (CALLERS, self.named.below(CALLERS));
+        }
+        let lent = self.named.choose(&[CALLERS, CALLERS, 3, 1, 0]);
+        (lent, self.named.choose(&[lent, lent + 1, CALLERS, 1 << 32, usize::MAX]))
+    }
+
+    /// After a call every record is the one that is counted here.
+    fn count(&mut self, reply: Reply, position: usize) -> Result<(), String> {
+        if reply.refusal == 0 {
+            is("the serial", reply.serial == self.next[position])?;
+            self.next[position] = self.next[position].wrapping_add(1);
+            self.accepted[position] += 1;
+        }
+        is("the records", *self.records.last_mut(CALLERS) == self.next)
     }
 
     /// One call on a sheet that stands elsewhere, or on the host's own.
@@ -198,9 +240,10 @@ impl Host {
         workspace: usize,
         room: usize,
         look: bool,
+        outside: bool,
         tally: &mut Tally,
     ) -> Result<(Reply, &[u32]), String> {
-        let before = self.state.next;
+        let (lent, position) = self.name(outside);
         let sheet = match sheet {
             Some(sheet) => sheet,
             None => self.sheet.last_mut(own),
@@ -211,14 +254,16 @@ impl Host {
             workspace.fill(0xdead_beef);
             answer.fill(0xbadd_cafe);
         }
-        let reply = ffi::infer(&mut self.state, sheet, workspace, answer);
-        check(before, self.state, reply, sheet, workspace.len(), answer)?;
+        let callers = lent_records(&mut self.records, lent);
+        let reply = ffi::infer(callers, position, sheet, workspace, answer);
+        check(reply, outside, sheet, workspace.len(), answer)?;
         if look {
             tally.looked_at += 1;
             is("zeros in the workspace", workspace.iter().all(|&w| w == 0))?;
             is("zeros behind the answer", answer[reply.length..].iter().all(|&w| w == 0))?;
         }
         tally.refusals[reply.refusal as usize] += 1;
+        self.count(reply, position)?;
         Ok((reply, &self.answer.words()[self.answer.room() - room..][..reply.length]))
     }
 }
@@ -261,14 +306,24 @@ fn drawing(
     is("the sheet after a drawing", *sheet == call.sheet)
 }
 
-/// A class load, or arguments outside, into the host's own memory for sheets, with rubbish before.
-fn class_load(memory: &mut Guarded, random: &mut Random) -> Result<(), String> {
+/// A class load, or arguments outside, into the host's own memory for sheets, with rubbish before: for
+/// nobody, or for a caller inside the records or outside.
+fn class_load(host: &mut Host, random: &mut Random) -> Result<(), String> {
     let load = if random.percent(80) { load::made(random) } else { load::made_outside(random) };
     let room = random.choose(&load.rooms());
-    let sheet = memory.last_mut(room);
+    let named = random.percent(50).then(|| host.name(random.percent(50)));
+    let sheet = host.sheet.last_mut(room);
     sheet.fill(0xdead_beef);
-    let reply = ffi::load(load.seed, load.n, load.m, sheet);
-    let (refusal, mut words) = match load.outcome(room) {
+    let reply = match named {
+        None => ffi::load(load.seed, load.n, load.m, sheet),
+        Some((lent, position)) => {
+            let callers = lent_records(&mut host.records, lent);
+            ffi::load_for(callers, position, load.seed, load.n, load.m, sheet)
+        }
+    };
+    is("the records after a load", *host.records.last_mut(CALLERS) == host.next)?;
+    let named = named.map(|(callers, position)| Named { callers, position });
+    let (refusal, mut words) = match load.outcome_for(named, room) {
         Outcome::Refused(number) => (number, Vec::new()),
         Outcome::Accepted(words) => (0, words),
     };
@@ -379,7 +434,8 @@ fn probe(host: &mut Host, probes: &Pool, tally: &mut Tally) -> Result<f64, Strin
     for _ in 0..5 {
         let start = processor();
         for known in &probes.calls {
-            host.call(Some(probes.sheet(known)), 0, known.workspace, known.room, false, tally)?;
+            let (sheet, workspace, room) = (probes.sheet(known), known.workspace, known.room);
+            host.call(Some(sheet), 0, workspace, room, false, false, tally)?;
         }
         best = best.min((processor() - start) / probes.calls.len() as f64);
     }
@@ -397,7 +453,7 @@ fn slice(
     for i in 0..calls {
         if i % LOADED == 0 {
             tally.loads += 1;
-            class_load(&mut host.sheet, random)?;
+            class_load(host, random)?;
         }
         let known = &pool.calls[random.below(POOL)];
         let sheet = pool.sheet(known);
@@ -409,7 +465,7 @@ fn slice(
         let look = i % LOOKED_AT == 0;
         if random.percent(40) {
             let (workspace, room) = (known.workspace, known.room);
-            let (reply, answer) = host.call(Some(sheet), 0, workspace, room, look, tally)?;
+            let (reply, answer) = host.call(Some(sheet), 0, workspace, room, look, false, tally)?;
             is("the pool's refusal", reply.refusal == known.refusal)?;
             is("the pool's answer", reply.length == known.length && hash(answer) == known.hash)?;
             continue;
@@ -421,14 +477,18 @@ fn slice(
             0 => random.below(200),
             _ => 1_024 + random.below(64),
         };
+        if random.below(OUTSIDE) == 0 {
+            host.call(None, own, workspace, room, look, true, tally)?;
+            continue;
+        }
         let chosen = i % COMPARED == 1;
         let sheet = if chosen { host.sheet.last_mut(own).to_vec() } else { Vec::new() };
-        let (reply, answer) = host.call(None, own, workspace, room, look, tally)?;
+        let (reply, answer) = host.call(None, own, workspace, room, look, false, tally)?;
         if chosen {
             tally.compared += 1;
             compared(&sheet, workspace, room, Said { reply, answer })?;
             // The wrapper says the same, but for buffers, which it has itself.
-            match service.infer(&sheet) {
+            match service.infer(0, &sheet) {
                 Ok(wrapped) if reply.refusal == 0 => {
                     is("the wrapper's answer", wrapped.words() == answer)?;
                 }
@@ -445,15 +505,19 @@ fn slice(
 
 fn soak(calls: u64, seed: u64) -> Result<(), String> {
     let mut random = Random::new(seed);
-    // The serial wraps within the first slice.
-    let mut host = Host::new(u32::MAX - (calls / 200) as u32);
+    // Some three of ten calls are accepted: the first caller wraps within the first slice.
+    let step = (calls / 1_024) as u32;
+    let first = |caller: usize| match caller {
+        0..WRAPPING => u32::MAX - step * caller as u32 - step / 2,
+        _ => caller as u32,
+    };
+    let mut host = Host::new(std::array::from_fn(first));
     let mut service = Service::new();
     let probes = Pool::new(&mut Random::new(99));
-    let first = host.state.next;
-    let (mut wrapped, mut accepted, mut compared, mut looked_at) = (false, 0, 0, 0);
+    let (mut accepted, mut compared, mut looked_at) = (0, 0, 0);
     let (mut loads, mut drawings) = (0, [0; 2]);
     println!(
-        "slice | calls | accepted | refused 1 to 10 | compared | memory kB | most kB | processor s | µs a call | probe µs"
+        "slice | calls | accepted | refused 1 to 11 | compared | memory kB | most kB | processor s | µs a call | probe µs"
     );
     for number in 1..=SLICES {
         let mut tally = Tally::default();
@@ -467,7 +531,6 @@ fn soak(calls: u64, seed: u64) -> Result<(), String> {
         looked_at += tally.looked_at;
         loads += tally.loads;
         drawings = [drawings[0] + tally.drawings[0], drawings[1] + tally.drawings[1]];
-        wrapped |= host.state.next < first;
         let made: u64 = tally.refusals.iter().sum();
         trim();
         println!(
@@ -481,13 +544,18 @@ fn soak(calls: u64, seed: u64) -> Result<(), String> {
             probed / 1e3,
         );
     }
-    let next = u64::from(first) + accepted;
-    is("the serial at the end", u64::from(host.state.next) == next % (1 << 32))?;
-    is("the serial has wrapped", wrapped)?;
+    let mut wraps = [0; CALLERS];
+    for (caller, wraps) in wraps.iter_mut().enumerate() {
+        let next = u64::from(host.first[caller]) + host.accepted[caller];
+        *wraps = next >> 32;
+        is("a caller's serial at the end", u64::from(host.next[caller]) == next % (1 << 32))?;
+    }
+    is("all accepted calls", accepted == host.accepted.iter().sum::<u64>())?;
+    is("half of the serials wrapped", wraps == std::array::from_fn(|c| (c < WRAPPING) as u64))?;
     println!(
-        "{calls} calls over one state, {accepted} accepted with the probes', {looked_at} looked at \
+        "{calls} calls of {CALLERS} callers, {accepted} accepted with the probes', {looked_at} looked at \
          in full, {compared} compared with the original; {loads} class loads; {} drawings, {} more \
-         refused; the serial wrapped; nothing differs",
+         refused; the serials of {WRAPPING} callers wrapped, those of the others did not; nothing differs",
         drawings[0], drawings[1]
     );
     Ok(())

@@ -48,6 +48,8 @@ pub mod TotalsAdded
 pub mod CountedSheet
 pub mod Overlap
 pub mod Numbers
+pub mod Callers
+pub mod Isolation
 pub mod BackLaws
 pub mod EncoderParts
 pub mod Encoder

@@ -27,6 +27,7 @@ use Rattle.model.proofs.Tallies.{tally-each, role-most, keep-none}
 use Rattle.model.proofs.Limited.{few-not-over}
 use Rattle.model.proofs.CountedSheet.{counted-within}
 use Rattle.model.proofs.AllRefusals.{then-accepted}
+use Rattle.model.proofs.Callers.{first-11, inside-outcome}
 use Rattle.model.proofs.Encoder.{reads-back, accepts-words}
 use Rattle.model.proofs.Lengths.{section-each, sheet-words, block-words, answer-words, answer-effects, answer-walks}
 use Rattle.model.proofs.SecondProperty.{answer-ranges}
@@ -242,6 +243,8 @@ module _ (seed n m : ℕ) (h : Loadable n m) where
     read = accepts-words (classLoad seed n m) load-fits load-short load-not-over;
     accepts = call-accepted;
     suffices = λ workspace room w r. call-accepted workspace room w (omega (arith, load-answer, r, h .identifiers, h .effects));
+    forCaller = λ cs i workspace room k w r. inside-outcome cs i (sheetWords (classLoad seed n m)) workspace room k ∙ call-accepted workspace room w r;
+    forNone = λ cs i workspace room k. ap (λ t. t .outcome) (first-11 cs i (sheetWords (classLoad seed n m)) workspace room k);
   }
 
 -- the claim of order 2

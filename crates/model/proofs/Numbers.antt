@@ -7,7 +7,7 @@ use mathlib.Core.Logic.{_⊎_, inl, inr}
 use mathlib.Core.List.{List}
 use lib.ListN.{length}
 use lib.Dec.{ltb}
-use Rattle.model.specs.Limits.{leastWorkspace, mostSheet}
+use Rattle.model.specs.Limits.{leastWorkspace, mostSheet, lastOfSheet, lastOfDrawing}
 use Rattle.model.specs.Lists.{pick}
 use Rattle.model.specs.Sheet.{Sheet}
 use Rattle.model.specs.Reading.{Position, Result, got, refused}
@@ -17,7 +17,7 @@ use Rattle.model.specs.Building.{build}
 use Rattle.model.specs.Answer.{answer, answerWords}
 use Rattle.model.specs.Call.{applies, Outcome, refusal, accepted, ended, read, fits, answered, admit, outcome, numberOf}
 use Rattle.model.specs.Dot.{dot, drawn, draw}
-use Rattle.model.specs.Numbers.{FromReading, Numbered, DrawingNumbered}
+use Rattle.model.specs.Numbers.{FromReading, Numbered}
 use Rattle.model.proofs.CountedSheet.{counted-refused}
 use Rattle.model.proofs.Refusing.{sheet-refuses}
 
@@ -54,11 +54,11 @@ read-numbered ws = go (ltb mostSheet (length ws))
     go true = (omega arith, omega arith)
     go false = ended-numbered (countedSheet ws 0) (length ws) (sheet-numbered ws (countedSheet ws 0) refl)
 
-answered-numbered : (room : ℕ) (r : Result Sheet) → NumberedRead r → Numbered (answered room r)
+answered-numbered : (room : ℕ) (r : Result Sheet) → NumberedRead r → Numbered lastOfSheet (answered room r)
 unfolding answered fits
 answered-numbered room (got s c) h = go (applies s) (ltb room (length (answerWords (answer s))))
   where
-    go : (a b : Bool) → Numbered (pick a (refusal 10) (pick b (refusal 9) (accepted (answerWords (answer s)))))
+    go : (a b : Bool) → Numbered lastOfSheet (pick a (refusal 10) (pick b (refusal 9) (accepted (answerWords (answer s)))))
     go true b = (omega arith, omega arith)
     go false true = (omega arith, omega arith)
     go false false = tt
@@ -73,25 +73,25 @@ admit-numbered ws workspace = go (ltb workspace leastWorkspace)
     go false = read-numbered ws
 
 -- for all words and lengths
-pub outcome-numbered : (ws : List ℕ) (workspace room : ℕ) → Numbered (outcome ws workspace room)
+pub outcome-numbered : (ws : List ℕ) (workspace room : ℕ) → Numbered lastOfSheet (outcome ws workspace room)
 unfolding outcome
 outcome-numbered ws workspace room = answered-numbered room (admit ws workspace) (admit-numbered ws workspace)
 
-drawn-numbered : (room : ℕ) (r : Result Sheet) → NumberedRead r → DrawingNumbered (drawn room r)
+drawn-numbered : (room : ℕ) (r : Result Sheet) → NumberedRead r → Numbered lastOfDrawing (drawn room r)
 unfolding drawn fits
 drawn-numbered room (got s c) h = go (ltb room (length (dot (build s .graph))))
   where
-    go : (b : Bool) → DrawingNumbered (pick b (refusal 9) (accepted (dot (build s .graph))))
+    go : (b : Bool) → Numbered lastOfDrawing (pick b (refusal 9) (accepted (dot (build s .graph))))
     go true = (omega arith, omega arith)
     go false = tt
 drawn-numbered room (refused k) h = (h .0, omega (arith, h .1))
 
 -- a drawing is refused from 1 to 9 alone
-pub draw-numbered : (ws : List ℕ) (workspace room : ℕ) → DrawingNumbered (draw ws workspace room)
+pub draw-numbered : (ws : List ℕ) (workspace room : ℕ) → Numbered lastOfDrawing (draw ws workspace room)
 unfolding draw
 draw-numbered ws workspace room = drawn-numbered room (admit ws workspace) (admit-numbered ws workspace)
 
 -- a call of which 0 is told was accepted
-pub zero-accepted : (o : Outcome) → Numbered o → numberOf o ≡ 0 → (a : List ℕ) × (o ≡ accepted a)
-zero-accepted (refusal k) h e = absurd (omega (arith, h .0, e))
-zero-accepted (accepted a) h e = (a, refl)
+pub zero-accepted : (last : ℕ) (o : Outcome) → Numbered last o → numberOf o ≡ 0 → (a : List ℕ) × (o ≡ accepted a)
+zero-accepted last (refusal k) h e = absurd (omega (arith, h .0, e))
+zero-accepted last (accepted a) h e = (a, refl)

@@ -18,6 +18,8 @@ use Rattle.model.specs.Renders.{renderPushes, renderVisit, renderStep, r
 use Rattle.model.specs.Runs.{walksOf, after, rendersOf, rendered, reached, largestEnd}
 use Rattle.model.specs.Sections.{flag, flags, identifier, diagnostic, place, innerFunction, unused, extra, effect, effects, operand as operand-Sections, phi, instructionValue, instruction as instruction-Sections, terminalOf, terminal as terminal-Sections, block as block-Sections, sheet}
 use Rattle.model.specs.Service.{taken, serves, call}
+use Rattle.model.specs.Callers.{outside, callFor}
+use Rattle.model.specs.CallerCases.{callerCases, calledSo}
 use Rattle.model.specs.Simulated.{tracked, simulation, flowEffects, simulate}
 use Rattle.model.specs.Size.{enough}
 use Rattle.model.specs.State.{accepts}
@@ -41,10 +43,11 @@ pub record AllRight : Type 0 where
   pub readings-right : T (answeredSo readings)
   pub operand-cases-right : T (answeredSo operandCases)
   pub drawings-right : T (drawingsRight drawings)
+  pub callers-right : T (calledSo callerCases)
 
 pub all-right : AllRight
-unfolding rangesBefore rangesAfter summary diagnosed answer middleWords operandWords answerWords instructionEffect instruction operand phiNode wake terminalEffect terminal block firstNodes build ended read applies fits answered admit outcome answerAfter workspaceAfter kindOf rowOf create enter withEdge withEntry change store relate assign createFrom withEffect captureOrRead flowMarks marksOf operandEffects markOf withMark setUnset startIf nameLvalue storeValue phisMarked phiStarts phis nameLvalues instructionMarks operandRanges instructionRanges instruction-Operands terminalPlaces terminal-Operands block-Operands sheetStarts endsBefore beforePass afterPass word count fixed atMost below newNumber times numbered counted optional timesFrom numberedFrom countedFrom renderPushes renderVisit renderStep renderRun renderWalk walksOf after rendersOf rendered reached largestEnd flag flags identifier diagnostic place innerFunction unused extra effect effects operand-Sections phi instructionValue instruction-Sections terminalOf terminal-Sections block-Sections sheet taken serves call tracked simulation flowEffects simulate enough accepts copied recorded sheetEnds built realWalks afterReal afterRenders collectParamEffects captureMark marked createReturns instructionEffects blockRelations totals over tellBlock effect-Asking effects-Asking operand-Asking phi-Asking instruction-Asking terminalOf-Asking terminal-Asking block-Asking sheet-Asking countKind countedSheet effectOf reactiveOf traitsWord pushes visit step run walkOf mutate right table ours refusedSo calls limits effectTable totalsRight answeredSo readings operandCases digitsIn digits nodeLine edgeLine byNode nodeLines edgeLines dot graphs graphsRight drawn draw drawings drawingsRight
-all-right = record { table-right = tt; ours-right = tt; calls-refused = tt; limits-right = tt; effect-table-right = tt; readings-right = tt; operand-cases-right = tt; drawings-right = tt }
+unfolding rangesBefore rangesAfter summary diagnosed answer middleWords operandWords answerWords instructionEffect instruction operand phiNode wake terminalEffect terminal block firstNodes build ended read applies fits answered admit outcome answerAfter workspaceAfter kindOf rowOf create enter withEdge withEntry change store relate assign createFrom withEffect captureOrRead flowMarks marksOf operandEffects markOf withMark setUnset startIf nameLvalue storeValue phisMarked phiStarts phis nameLvalues instructionMarks operandRanges instructionRanges instruction-Operands terminalPlaces terminal-Operands block-Operands sheetStarts endsBefore beforePass afterPass word count fixed atMost below newNumber times numbered counted optional timesFrom numberedFrom countedFrom renderPushes renderVisit renderStep renderRun renderWalk walksOf after rendersOf rendered reached largestEnd flag flags identifier diagnostic place innerFunction unused extra effect effects operand-Sections phi instructionValue instruction-Sections terminalOf terminal-Sections block-Sections sheet taken serves call tracked simulation flowEffects simulate enough accepts copied recorded sheetEnds built realWalks afterReal afterRenders collectParamEffects captureMark marked createReturns instructionEffects blockRelations totals over tellBlock effect-Asking effects-Asking operand-Asking phi-Asking instruction-Asking terminalOf-Asking terminal-Asking block-Asking sheet-Asking countKind countedSheet effectOf reactiveOf traitsWord pushes visit step run walkOf mutate right table ours refusedSo calls limits effectTable totalsRight answeredSo readings operandCases digitsIn digits nodeLine edgeLine byNode nodeLines edgeLines dot graphs graphsRight drawn draw drawings drawingsRight outside callFor callerCases calledSo
+all-right = record { table-right = tt; ours-right = tt; calls-refused = tt; limits-right = tt; effect-table-right = tt; readings-right = tt; operand-cases-right = tt; drawings-right = tt; callers-right = tt }
 
 pub effect-rows : T (sameRows effectRows)
 unfolding kindOf rowOf

@@ -33,6 +33,7 @@ pub mod Answer
 pub mod Call
 pub mod Overlap
 pub mod Service
+pub mod Callers
 -- document 02, order 2: a class load from a seed
 pub mod Load
 -- document 02, order 6: the graph as a DOT file
@@ -48,6 +49,7 @@ pub mod Boundaries
 pub mod OperandCases
 pub mod LoadCases
 pub mod DotCases
+pub mod CallerCases
 -- what is claimed of all this; proofs/ has the theorems
 pub mod Ranges
 pub mod Distinct
@@ -58,6 +60,7 @@ pub mod Bound
 pub mod Assertion
 pub mod Quiet
 pub mod Numbers
+pub mod Isolation
 pub mod Chain
 pub mod Demand3
 pub mod EndsSet

@@ -1,12 +1,15 @@
 -- Document 02, order 2: "Prove that each such sheet is accepted when the buffers suffice." What is claimed of a class load within its bounds.
-use Prim.Native.Nat.{ℕ, _+_, _*_, _≤_}
+use Prim.Native.Nat.{ℕ, _+_, _*_, _≤_, _<_}
 use mathlib.Core.Path.{_≡_}
+use mathlib.Core.List.{List}
 use lib.ListN.{length}
 use Rattle.model.specs.Limits.{leastWorkspace, lentAnswer, identifierWidth, placeWidth, effectWidth}
 use Rattle.model.specs.Encoder.{sheetWords}
 use Rattle.model.specs.Answer.{answer, answerWords}
-use Rattle.model.specs.Call.{IsSheet, accepted, outcome}
+use Rattle.model.specs.Call.{IsSheet, refusal, accepted, outcome}
 use Rattle.model.specs.Load.{classLoad}
+use Rattle.model.specs.Service.{Caller}
+use Rattle.model.specs.Callers.{callFor}
 
 -- how many words an instruction has: its order, its lvalue, two counts, its value, its effect count and its effect
 abbrev pub loadInstructionWidth : ℕ
@@ -33,3 +36,7 @@ pub record LoadAccepted (seed n m : ℕ) : Type 0 where
   -- so is every call with 16,384 words of each
   pub suffices : (workspace room : ℕ) → leastWorkspace ≤ workspace → lentAnswer ≤ room
       → outcome (sheetWords (classLoad seed n m)) workspace room ≡ accepted (answerWords (answer (classLoad seed n m)))
+  -- document 02, order 9: so is every such call for a caller inside the records; one outside them gets 11 "for order 2's sheets too"
+  pub forCaller : (cs : List Caller) (i workspace room : ℕ) → i < length cs → leastWorkspace ≤ workspace → length (answerWords (answer (classLoad seed n m))) ≤ room
+      → callFor cs i (sheetWords (classLoad seed n m)) workspace room .outcome ≡ accepted (answerWords (answer (classLoad seed n m)))
+  pub forNone : (cs : List Caller) (i workspace room : ℕ) → length cs ≤ i → callFor cs i (sheetWords (classLoad seed n m)) workspace room .outcome ≡ refusal 11

@@ -84,4 +84,4 @@ refusedSo [] = true
 refusedSo (c ∷ l) = served (call (record { next = 7 }) (c .sheet) (c .workspace) (c .room)) && refusedSo l
   where
     served : Served → Bool
-    served a = given (c .number) (a .outcome) (a .serial) (a .service .next)
+    served a = given (c .number) (a .outcome) (a .serial) (a .caller .next)

@@ -2,10 +2,9 @@
 ghost use Prim.Native.Nat.{_≤_};
 ghost use lib.ListN.{length};
 use files::load_words;
-use inference::infer_mutation_aliasing_ranges;
 use libc::STDIN_FILENO;
 use libc::STDOUT_FILENO;
-use writing::Outcome;
+use service::turn_for;
 
 fn print_word(x: u32) {
     io::write_all(STDOUT_FILENO, b" ");
@@ -80,6 +79,7 @@ fn print_answer(answer: &[u32]) {
     print_section(b"inner", answer, a9, 3);
 }
 
+// It lends one record, which is new, and names caller 0.
 fn main() {
     let mut bytes = [0u8; 65540];
     let n = io::read_full(STDIN_FILENO, &mut bytes);
@@ -87,14 +87,13 @@ fn main() {
     let count = load_words(&bytes[..n], &mut sheet);
     let mut workspace = [0u32; 16384];
     let mut answer = [0u32; 16384];
-    match infer_mutation_aliasing_ranges(&sheet[..count], &mut workspace, &mut answer) {
-        Outcome::Accepted(_) => {
-            print_answer(&answer);
-        }
-        Outcome::Refused(k) => {
-            io::write_all(STDOUT_FILENO, b"refused ");
-            io::print_decimal(STDOUT_FILENO, k as u64);
-            io::write_all(STDOUT_FILENO, b"\n");
-        }
+    let turn = turn_for(1, 0, 0, &sheet[..count], &mut workspace, &mut answer);
+    let reply = turn.reply;
+    if reply.refusal == 0 {
+        print_answer(&answer);
+    } else {
+        io::write_all(STDOUT_FILENO, b"refused ");
+        io::print_decimal(STDOUT_FILENO, reply.refusal as u64);
+        io::write_all(STDOUT_FILENO, b"\n");
     }
 }

@@ -1,19 +1,23 @@
-// Calls the service on sheets of the oracle at several lengths of the lent buffers, which hold rubbish before each call,
-// compares every word of the answer, of the words behind it and of the workspace, and prints counts.
+// Calls the service on sheets of the oracle, each for one of four callers and for callers outside the records, at several lengths
+// of the lent buffers, which hold rubbish before each call, compares every word of the answer, of the words behind it and of the
+// workspace, and prints counts.
 // The file has parts of 32,768 words; in a part stand records, each after the number of its words, then zeros.
 // A record: the sheet's length and words; the refusal if 18,000 answer words are lent, 0 for none; the answer's length and words.
 ghost use Prim.Native.Nat.{_≤_};
 use files::load_words;
 use libc::STDOUT_FILENO;
 use service::Turn;
-use service::turn_from;
+use service::turn_for;
 
-// How many sheets and calls there were, how many calls gave something else, and the serial that is next.
+// So many callers have a record.
+const CALLERS: usize = 4;
+
+// How many sheets and calls there were, how many calls gave something else, and the serial that is next for each caller.
 struct Run {
     sheets: u32,
     calls: u32,
     different: u32,
-    serial: u32,
+    serials: [u32; 4],
 }
 
 // The successor, or the largest number.
@@ -29,16 +33,36 @@ fn following(serial: u32) -> u32 {
 impl Run {
     // One more sheet.
     fn sheet(self) -> Run {
+        let serials = self.serials;
         Run {
             sheets: one_more(self.sheets),
             calls: self.calls,
             different: self.different,
-            serial: self.serial,
+            serials,
         }
     }
 
-    // One more call, after which a serial is next.
-    fn call(self, same: bool, serial: u32) -> Run {
+    // The caller of this sheet.
+    fn caller(self) -> usize {
+        (self.sheets % 4) as usize
+    }
+
+    // The serial that is next for a caller, 0 for one without a record.
+    fn serial(self, position: usize) -> u32 {
+        let serials = self.serials;
+        if position < CALLERS {
+            serials[position]
+        } else {
+            0
+        }
+    }
+
+    // One more call, after which a serial is next for a caller.
+    fn call(self, same: bool, position: usize, serial: u32) -> Run {
+        let mut serials = self.serials;
+        if position < CALLERS {
+            serials[position] = serial;
+        }
         Run {
             sheets: self.sheets,
             calls: one_more(self.calls),
@@ -47,17 +71,18 @@ impl Run {
             } else {
                 one_more(self.different)
             },
-            serial,
+            serials,
         }
     }
 
     // Something is not as expected.
     fn differs(self) -> Run {
+        let serials = self.serials;
         Run {
             sheets: self.sheets,
             calls: self.calls,
             different: one_more(self.different),
-            serial: self.serial,
+            serials,
         }
     }
 }
@@ -116,26 +141,40 @@ fn answered(turn: Turn, serial: u32, refusal: u32, length: usize) -> bool {
     }
 }
 
-// One call with the buffers as lent. A refusal's expected words are none.
+// One call, before which both buffers hold rubbish.
+fn turn_on_rubbish(
+    callers: usize,
+    position: usize,
+    serial: u32,
+    sheet: &[u32],
+    workspace: &mut [u32],
+    answer: &mut [u32],
+) -> Turn {
+    put_rubbish(workspace, serial);
+    put_rubbish(answer, std::num::wrapping_add_u32(serial, 77));
+    turn_for(callers, position, serial, sheet, workspace, answer)
+}
+
+// One call for one of so many callers with the buffers as lent. A refusal's expected words are none.
 fn call(
     run: Run,
+    callers: usize,
+    position: usize,
     sheet: &[u32],
     refusal: u32,
     expected: &[u32],
     workspace: &mut [u32],
     answer: &mut [u32],
 ) -> Run {
-    let serial = run.serial;
-    put_rubbish(workspace, run.calls);
-    put_rubbish(answer, serial);
-    let turn = turn_from(serial, sheet, workspace, answer);
+    let serial = run.serial(position);
+    let turn = turn_on_rubbish(callers, position, serial, sheet, workspace, answer);
     let next = turn.next;
     let length = expected.len();
     let same = answered(turn, serial, refusal, length)
         & begin_with(answer, expected)
         & zero_from(answer, length)
         & zero_from(workspace, 0);
-    run.call(same, next)
+    run.call(same, position, next)
 }
 
 // One call with so many words of workspace and of answer.
@@ -155,14 +194,26 @@ fn lend(
     if answer.len() < room {
         return run.differs();
     }
+    let position = run.caller();
     call(
         run,
+        CALLERS,
+        position,
         sheet,
         refusal,
         expected,
         &mut workspace[..words],
         &mut answer[..room],
     )
+}
+
+// A call for callers outside the records, whatever the sheet and the workspace are: one past the last, the last position that there is, and the first where no record is lent.
+fn outside(run: Run, sheet: &[u32], workspace: &mut [u32], answer: &mut [u32]) -> Run {
+    let none = &sheet[..0];
+    let last: usize = 18446744073709551615;
+    let r1 = call(run, CALLERS, CALLERS, sheet, 11, none, workspace, answer);
+    let r2 = call(r1, CALLERS, last, sheet, 11, none, workspace, answer);
+    call(r2, 0, 0, sheet, 11, none, workspace, answer)
 }
 
 // An accepted sheet with an answer buffer that is one word short, far longer, and empty.
@@ -242,10 +293,11 @@ fn replay(run: Run, words: &[u32], workspace: &mut [u32], answer: &mut [u32]) ->
     if count_at(words, n + 2) != expected.len() {
         return run.differs();
     }
+    let r = outside(run.sheet(), sheet, workspace, answer);
     if refusal == 0 {
-        accepted(run.sheet(), sheet, expected, workspace, answer)
+        accepted(r, sheet, expected, workspace, answer)
     } else {
-        refused(run.sheet(), sheet, refusal, workspace, answer)
+        refused(r, sheet, refusal, workspace, answer)
     }
 }
 
@@ -294,13 +346,13 @@ fn print_count(n: u32, what: &[u8]) {
     io::write_all(STDOUT_FILENO, what);
 }
 
-// The largest serial is next, so that the first sheet crosses the wrap.
+// The largest serial is next for the second caller, so that its first sheet crosses the wrap while the others stay.
 fn start() -> Run {
     Run {
         sheets: 0,
         calls: 0,
         different: 0,
-        serial: 4294967295,
+        serials: [0, 4294967295, 7, 4294967000],
     }
 }
 
@@ -317,6 +369,9 @@ fn main() {
     libc::close(file);
     print_count(run.sheets, b" sheets, ");
     print_count(run.calls, b" calls, ");
-    print_count(run.different, b" different, next serial ");
-    print_count(run.serial, b"\n");
+    print_count(run.different, b" different, next serials ");
+    print_count(run.serial(0), b" ");
+    print_count(run.serial(1), b" ");
+    print_count(run.serial(2), b" ");
+    print_count(run.serial(3), b"\n");
 }

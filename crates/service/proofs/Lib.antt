@@ -1,2 +1,3 @@
 pub mod Serving
+pub mod ServingFor
 pub mod Replies

@@ -16,7 +16,7 @@ use Rattle.writing.specs.declared.Outcome.{Outcome}
 use Rattle.writing.specs.declared.Outcome.the-variants.{Refused, Accepted}
 use Rattle.writing.specs.Outcome.{Returned, number, length, returnedBy, Filled}
 use Rattle.inference.specs.Outcome.{Came, Inferred}
-use Rattle.service.specs.Served.{stateWith, Tells, Served}
+use Rattle.service.specs.Served.{callerWith, Tells, Served}
 use Rattle.service.specs.declared.Reply.{Reply}
 use Rattle.service.specs.Loaded.{TellsFilled, replyOf}
 use Rattle.service.specs.Drawn.{Drawn}
@@ -30,7 +30,7 @@ told (number k) = k
 told (length n) = n
 
 -- the successor by wrapping add is the definition's
-successor : (n : ℕ) → n < 2 ^ 32 → (n + 1) % 2 ^ 32 ≡ taken (stateWith n) .next
+successor : (n : ℕ) → n < 2 ^ 32 → (n + 1) % 2 ^ 32 ≡ taken (callerWith n) .next
 unfolding taken
 successor n h = go (eqb n lastSerial) refl
   where
@@ -42,13 +42,13 @@ successor n h = go (eqb n lastSerial) refl
         below q = omega (arith, q)
 
 module _ {ws ans ws′ ans′ : List ℕ} (n : ℕ) where
-  refused-as : (o : TheOutcome) {k : ℕ} → Came o ws ans (Refused k) ws′ ans′ → Tells (serves (stateWith n) o) ws ans (record { refusal = k; serial = 0; length = 0 }) n ws′ ans′
+  refused-as : (o : TheOutcome) {k : ℕ} → Came o ws ans (Refused k) ws′ ans′ → Tells (serves (callerWith n) o) ws ans (record { refusal = k; serial = 0; length = 0 }) n ws′ ans′
   unfolding serves returnedBy
   refused-as (refusal j) c = record { refusal = ap told (c .returned); serial = refl; long = refl; state = refl; answer = c .answer; workspace = c .workspace }
   refused-as (accepted a) c = absurd (false≢true (sym (ap isNumber (c .returned))))
 
   accepted-as : (o : TheOutcome) {m next : ℕ} → n < 2 ^ 32 → Came o ws ans (Accepted m) ws′ ans′ → next ≡ (n + 1) % 2 ^ 32
-      → Tells (serves (stateWith n) o) ws ans (record { refusal = 0; serial = n; length = m }) next ws′ ans′
+      → Tells (serves (callerWith n) o) ws ans (record { refusal = 0; serial = n; length = m }) next ws′ ans′
   unfolding serves returnedBy
   accepted-as (refusal j) h c e = absurd (false≢true (ap isNumber (c .returned)))
   accepted-as (accepted a) h c e = record { refusal = refl; serial = refl; long = ap told (c .returned); state = e ∙ successor n h; answer = c .answer; workspace = c .workspace }

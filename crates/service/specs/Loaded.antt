@@ -5,6 +5,7 @@ use mathlib.Core.List.{List}
 use lib.ListN.{length}
 use Rattle.model.specs.Call.{Outcome, lengthOf, numberOf, answerAfter}
 use Rattle.model.specs.Load.{load}
+use Rattle.model.specs.Callers.{loadFor}
 use Rattle.writing.specs.declared.Outcome.{Outcome as Result}
 use Rattle.writing.specs.declared.Outcome.the-variants.{Refused, Accepted}
 use Rattle.service.specs.declared.Reply.{Reply}
@@ -24,3 +25,7 @@ replyOf (Accepted n) = record { refusal = 0; serial = 0; length = n }
 -- a class load
 abbrev pub Loaded : ℕ → ℕ → ℕ → List ℕ → Reply → List ℕ → Type 0
 Loaded seed n m sheet r sheet′ = TellsFilled (load seed n m (length sheet)) sheet r sheet′
+
+-- a class load for the caller at position i, of so many
+abbrev pub LoadedFor : ℕ → ℕ → ℕ → ℕ → ℕ → List ℕ → Reply → List ℕ → Type 0
+LoadedFor callers i seed n m sheet r sheet′ = TellsFilled (loadFor callers i seed n m (length sheet)) sheet r sheet′

@@ -1,4 +1,5 @@
-//! compare --seed S --sheets N --damaged M --loads L --drawings D --certainty C [--graphviz G]
+//! compare --seed S --sheets N --damaged M --loads L --drawings D --certainty C --callers K
+//!         [--graphviz G]
 //!         [--threads T] [--program PATH --runs R] [--files F..]
 //!
 //! Makes N accepted sheets and M damaged calls from a seed and compares the
@@ -8,13 +9,15 @@
 //! L from the seed. Then drawings: of the fixed sheets, and of D sheets and D damaged calls
 //! from the seed; G texts of sheets from the seed are given to Graphviz. Then how sure the
 //! mutation of each parameter is: of the fixed sheets that order 8 speaks of, and of C such
-//! sheets from the seed. Then runs of the program at PATH: on its fixed files, and R on files
-//! from the seed. With files, compares those instead.
+//! sheets from the seed. Then K lists of calls by several callers, for which our library has to
+//! be there. Then runs of the program at PATH: on its fixed files, and R on files from the seed.
+//! With files, compares those instead.
 
 use std::path::{Path, PathBuf};
 use std::process::ExitCode;
 use std::time::{Duration, Instant};
 
+use oracle::callers::{self, INSIDE, List, OUTSIDE, Server, compare_list};
 use oracle::certainty::{self, SORTS, compare_certainty};
 use oracle::compare::{Difference, Side, compare, lines, original_lines, roomy, shrink};
 use oracle::damage::{Call, Room, damaged};
@@ -37,6 +40,7 @@ struct Arguments {
     loads: u64,
     drawings: u64,
     certainty: u64,
+    callers: u64,
     graphviz: u64,
     threads: u64,
     program: Option<PathBuf>,
@@ -52,6 +56,7 @@ fn arguments() -> Result<Arguments, String> {
         loads: 1_000,
         drawings: 10_000,
         certainty: 10_000,
+        callers: 1_000,
         graphviz: 0,
         threads: 1,
         program: None,
@@ -77,6 +82,7 @@ fn arguments() -> Result<Arguments, String> {
             "--loads" => arguments.loads = number,
             "--drawings" => arguments.drawings = number,
             "--certainty" => arguments.certainty = number,
+            "--callers" => arguments.callers = number,
             "--graphviz" => arguments.graphviz = number,
             "--threads" => arguments.threads = number.max(1),
             "--runs" => arguments.runs = number,
@@ -115,11 +121,23 @@ fn add<const N: usize>(sums: &mut [u64; N], numbers: [u64; N]) {
     sums.iter_mut().zip(numbers).for_each(|(sum, number)| *sum += number);
 }
 
+/// The same for lists of calls by several callers.
+fn servers() -> Vec<Box<dyn Server>> {
+    vec![
+        #[cfg(feature = "service")]
+        Box::new(oracle::ours::Ours::default()),
+    ]
+}
+
 #[derive(Default)]
 struct Counts {
     fixed: u64,
     sheets: u64,
     damaged: u64,
+    /// Calls for callers outside the records, one for each sheet and each side.
+    outside: u64,
+    /// Lists of calls by several callers, and their calls.
+    lists: (u64, u64),
     loads: u64,
     /// Calls for a class load, refused ones too.
     load_calls: u64,
@@ -159,6 +177,7 @@ impl Counts {
     }
 
     fn compare(&mut self, call: Call, sides: &mut [Box<dyn Side>]) -> u32 {
+        self.outside += sides.len() as u64;
         let (refusal, difference) = compare(&call, sides);
         if let Some(difference) = difference {
             self.differs(call, difference);
@@ -186,18 +205,39 @@ impl Counts {
         self.compare(Call { sheet: words, workspace: WORKSPACE_WORDS, room }, sides);
     }
 
-    /// The load, or its refusal, at every length of output that makes a difference.
+    /// The load, or its refusal, at every length of output that makes a difference: for nobody, for a
+    /// caller inside the records and for one outside.
     fn ask_for(&mut self, load: Load, loaders: &mut [Box<dyn Loader>]) {
+        let first = (load.seed ^ load.n ^ load.m) as usize;
+        let calls = (first..).zip(load.rooms()).flat_map(|(i, room)| {
+            let [inside, outside] = [&INSIDE[..], &OUTSIDE[..]].map(|all| all[i % all.len()]);
+            [None, Some(inside), Some(outside)].map(|named| (named, room))
+        });
+        let calls: Vec<_> = calls.collect();
         for loader in loaders {
-            for room in load.rooms() {
+            for &(named, room) in &calls {
                 self.load_calls += 1;
-                if let Some(difference) = compare_load(loader.as_mut(), load, room) {
-                    if self.differences < 3 {
-                        println!("{difference:?}");
-                    }
-                    self.differences += 1;
-                }
+                let found = compare_load(loader.as_mut(), load, named, room);
+                found.into_iter().for_each(|difference| self.tell(&difference));
             }
+        }
+    }
+
+    /// A difference that has no sheet of its own.
+    fn tell(&mut self, difference: &Difference) {
+        if self.differences < 3 {
+            println!("{difference:?}");
+        }
+        self.differences += 1;
+    }
+
+    /// A list of calls by several callers.
+    fn compare_list(&mut self, list: &List, servers: &mut [Box<dyn Server>]) {
+        for server in servers {
+            let (calls, found) = compare_list(server.as_mut(), list);
+            self.lists.0 += 1;
+            self.lists.1 += calls;
+            found.into_iter().for_each(|difference| self.tell(&difference));
         }
     }
 
@@ -234,6 +274,9 @@ impl Counts {
         self.fixed += other.fixed;
         self.sheets += other.sheets;
         self.damaged += other.damaged;
+        self.outside += other.outside;
+        self.lists.0 += other.lists.0;
+        self.lists.1 += other.lists.1;
         self.loads += other.loads;
         self.load_calls += other.load_calls;
         self.drawn += other.drawn;
@@ -265,6 +308,12 @@ impl Counts {
         }
         if self.damaged > 0 {
             parts.push(format!("{} damaged ({})", self.damaged, by_refusal(self.refusals)));
+        }
+        if self.outside > 0 {
+            parts.push(format!("{} calls outside the records", self.outside));
+        }
+        if let (lists @ 1.., calls) = self.lists {
+            parts.push(format!("{lists} lists by several callers ({calls} calls)"));
         }
         if self.loads > 0 {
             parts.push(format!("{} class loads ({} calls)", self.loads, self.load_calls));
@@ -456,6 +505,20 @@ fn compare_certainties(arguments: &Arguments, own: u64) -> Counts {
     counts
 }
 
+/// Lists of calls by several callers, from the seed, as above.
+fn compare_lists(arguments: &Arguments, own: u64) -> Counts {
+    let mut servers = servers();
+    let mut counts = Counts::default();
+    let mut random = Random::new(arguments.seed);
+    for i in 0..arguments.callers {
+        let mut random = Random::new(random.word());
+        if i % arguments.threads == own {
+            counts.compare_list(&callers::made(&mut random), &mut servers);
+        }
+    }
+    counts
+}
+
 /// Texts of sheets from the seed, given to Graphviz. It takes long for a graph of a thousand edges, so
 /// that only shorter texts are taken.
 fn compare_pictures(arguments: &Arguments) -> Result<Counts, String> {
@@ -544,6 +607,9 @@ fn compare_all(arguments: &Arguments) -> Result<Counts, String> {
         }
         if arguments.drawings > 0 {
             counts.add(in_threads(arguments, compare_drawings));
+        }
+        if arguments.callers > 0 {
+            counts.add(in_threads(arguments, compare_lists));
         }
         counts.add(compare_pictures(arguments)?);
         if arguments.certainty > 0 {

@@ -33,7 +33,7 @@ use oracle::plain::sheet::WORKSPACE_WORDS;
 use oracle::plain::{self, Outcome};
 use oracle::program::{bytes, file_words};
 use oracle::random::Random;
-use oracle::replay;
+use oracle::replay::{self, Recorded};
 
 type Words = Vec<u32>;
 
@@ -162,28 +162,38 @@ fn write_drawings(folder: &Path, count: usize) -> std::io::Result<()> {
 const PART: usize = 32_768;
 const MOST_PARTS: usize = 32;
 
-/// The records in parts, each filled up with zeros: a record goes into the first that has room.
-fn parts<'a>(records: impl Iterator<Item = &'a Words>) -> Vec<Words> {
-    let mut parts: Vec<Words> = Vec::new();
+/// The records in parts: a record goes into the first that has room.
+fn parts(records: &[Recorded]) -> Vec<Vec<&Recorded>> {
+    let mut parts: Vec<(usize, Vec<&Recorded>)> = Vec::new();
     for record in records {
-        match parts.iter_mut().find(|part| part.len() + record.len() <= PART) {
-            Some(part) => part.extend(record),
-            None => parts.push(record.clone()),
+        let length = record.words.len();
+        match parts.iter_mut().find(|(words, _)| words + length <= PART) {
+            Some((words, part)) => {
+                *words += length;
+                part.push(record);
+            }
+            None => parts.push((length, vec![record])),
         }
     }
-    parts.iter_mut().for_each(|part| part.resize(PART, 0));
-    parts
+    parts.into_iter().map(|(_, part)| part).collect()
+}
+
+/// The words of a part, filled up with zeros.
+fn part_words(part: &[&Recorded]) -> Words {
+    let mut words: Words = part.iter().flat_map(|record| &record.words).copied().collect();
+    words.resize(PART, 0);
+    words
 }
 
 fn write_replay(folder: &Path, count: usize) -> std::io::Result<()> {
     let records = replay::records(count);
-    let line = replay::line(&records);
-    let parts = parts(records.iter().map(|r| &r.words));
+    let parts = parts(&records);
     if parts.len() > MOST_PARTS {
         let error = format!("{} parts, and the program reads {MOST_PARTS}", parts.len());
         return Err(std::io::Error::other(error));
     }
-    let words = parts.concat();
+    let line = replay::line(parts.iter().flatten().copied());
+    let words = parts.iter().map(|part| part_words(part)).collect::<Vec<_>>().concat();
     std::fs::create_dir_all(folder.join("data"))?;
     std::fs::write(folder.join("data/answers.bin"), bytes(&words))?;
     std::fs::write(folder.join("stdout"), &line)?;

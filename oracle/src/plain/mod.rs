@@ -210,18 +210,23 @@ pub fn lend(judged: Result<Vec<u32>, u32>, workspace_len: usize, answer_len: usi
     }
 }
 
-/// The whole call, without the service state.
+/// The whole call of a caller that has a record, without its serial.
 pub fn outcome(sheet: &[u32], workspace_len: usize, answer_len: usize) -> Outcome {
     lend(judge(sheet), workspace_len, answer_len)
 }
 
-/// The service's call: an accepted one takes the next serial.
+/// The service's call for the caller at a position, on the callers' next serials (document 02, order
+/// 9): 11 outside them, before all else. An accepted call takes its caller's next serial.
 pub fn turn(
-    next: &mut u32,
+    callers: &mut [u32],
+    position: usize,
     sheet: &[u32],
     workspace_len: usize,
     answer_len: usize,
 ) -> (Outcome, Option<u32>) {
+    let Some(next) = callers.get_mut(position) else {
+        return (Outcome::Refused(11), None);
+    };
     let outcome = outcome(sheet, workspace_len, answer_len);
     match outcome {
         Outcome::Refused(_) => (outcome, None),

@@ -17,17 +17,20 @@ differs-requires-2 c κs = search needs
 returns-2 : tie.Need-returns-2
 returns-2 c = search needs
 
+caller-requires : tie.Need-caller-requires
+caller-requires c κs = search needs
+
 slice-relend-prefix-call : tie.Need-slice-relend-prefix-call
 slice-relend-prefix-call c = search needs
 
 slice-aggregate-call : tie.Need-slice-aggregate-call
-slice-aggregate-call c = sym (length-take-le _ _ (omega (arith, c .before .before .if1 .left)))
+slice-aggregate-call c = sym (length-take-le _ _ (omega (arith, c .before .before .before .if1 .left)))
 
 slice-relend-prefix-call-2 : tie.Need-slice-relend-prefix-call-2
 slice-relend-prefix-call-2 c = search needs
 
 slice-aggregate-call-2 : tie.Need-slice-aggregate-call-2
-slice-aggregate-call-2 c = sym (length-take-le _ _ (omega (arith, c .before .before .if2 .left)))
+slice-aggregate-call-2 c = sym (length-take-le _ _ (omega (arith, c .before .before .before .if2 .left)))
 
 call-requires : tie.Need-call-requires
 call-requires c κs = search needs
@@ -49,6 +52,7 @@ lend-spec =
     returns
     differs-requires-2
     returns-2
+    caller-requires
     slice-relend-prefix-call
     slice-aggregate-call
     slice-relend-prefix-call-2

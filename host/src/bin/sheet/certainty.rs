@@ -159,7 +159,7 @@ mod tests {
     /// and how many steps they have.
     fn check(plain_sheet: &plain::sheet::Sheet, service: &mut Service) -> (usize, usize) {
         let sheet = Sheet::read(&plain_sheet.words()).unwrap();
-        let answer = service.infer(&sheet.words()).unwrap();
+        let answer = service.infer(0, &sheet.words()).unwrap();
         let said = explain(&sheet, &answer).unwrap().certainty;
         let built = plain::building::build(plain_sheet);
         assert_eq!(!said.phi && !said.local, certainty::in_class(plain_sheet));

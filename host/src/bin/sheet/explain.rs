@@ -220,7 +220,7 @@ pub mod tests {
     fn explained(text: &str) -> String {
         let (sheet, names) = text::parse(text).unwrap();
         let mut service = Service::new();
-        let answer = service.infer(&sheet.words()).unwrap();
+        let answer = service.infer(0, &sheet.words()).unwrap();
         write(&explain(&sheet, &answer).unwrap(), &names)
     }
 
@@ -429,7 +429,7 @@ s  0..0 -> 0..6
         for _ in 0..3_000 {
             let plain_sheet = generate::sheet(&mut random);
             let sheet = Sheet::read(&plain_sheet.words()).unwrap();
-            let answer = service.infer(&sheet.words()).unwrap();
+            let answer = service.infer(0, &sheet.words()).unwrap();
             let explained = explain(&sheet, &answer).unwrap();
             let all = &explained.ranges;
             let built = plain::building::build(&plain_sheet);
@@ -520,7 +520,7 @@ s  0..0 -> 0..6
         )
         .unwrap();
         let mut service = Service::new();
-        let answer = service.infer(&other.words()).unwrap();
+        let answer = service.infer(0, &other.words()).unwrap();
         assert!(explain(&sheet, &answer).is_err());
     }
 }

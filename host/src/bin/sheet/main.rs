@@ -157,7 +157,7 @@ fn bytes(words: &[u32]) -> Vec<u8> {
 }
 
 fn answered(file: &Path) -> Result<Vec<u8>, String> {
-    asked(file, |words| Service::new().infer(words).map(|answer| answer.to_string()))
+    asked(file, |words| Service::new().infer(0, words).map(|answer| answer.to_string()))
 }
 
 fn drawn(file: &Path) -> Result<Vec<u8>, String> {
@@ -183,7 +183,7 @@ fn asked(
 fn explained(file: &Path) -> Result<Vec<u8>, String> {
     let (sheet, names) = either(file)?;
     let mut service = Service::new();
-    let answer = service.infer(&sheet.words()).map_err(|refusal| why(&sheet, refusal))?;
+    let answer = service.infer(0, &sheet.words()).map_err(|refusal| why(&sheet, refusal))?;
     let explained = explain::explain(&sheet, &answer)?;
     let all = &explained.ranges;
     let moved = all.iter().filter(|m| m.before.end != m.after.end).count();
