@@ -57,6 +57,7 @@ PLACES = {row[1]: number(row[2]) for row in table("kind", "name")}
 MOST_EXTRA = {row[1]: number(row[3]) for row in table("kind", "name")}
 MOST = {row[0]: row[1] for row in table("word", "at most")}
 TOTAL = {row[0]: number(row[1]) for row in table("total", "at most")}
+HELD = {row[0]: number(row[1]) for row in table("held together", "at most")}
 # Both the sheet and the answer have a table that begins so; the sheet's is the first.
 COUNT = {}
 for row in (cells(line) for line in PAGE[PAGE.index("| section | count | a part |") + 2:]):
@@ -593,6 +594,53 @@ def limits():
 
 # ---- refusals 2, 6, 7 and 8, and which comes first
 
+def held():
+    """What the graph holds: each limit met and passed by one, and what gives back."""
+    edges, entries = HELD["forward edges"], HELD["entries"]
+    check((edges, entries), (1_024, 1_024), "what is held together")
+
+    def with_nodes(*effects, after=()):
+        effects = [create(place(i), "Mutable", "KnownReturnSignature") for i in range(67)] + list(effects)
+        lists = [instruction(1, *effects[at:at + LIST]) for at in range(0, len(effects), LIST)]
+        return sheet([(0, 0, "Other")] * 68, place(66), [block(0, [], lists, other(2)), *after])
+
+    def create_again(identifier):
+        return create(place(identifier), "Mutable", "KnownReturnSignature")
+
+    def is_held(expected, what, *effects, after=()):
+        words = with_nodes(*effects, after=after)
+        check(answer(words) == 8, not expected, what)
+        return words
+
+    alias, capture = effect("Alias", place(0), place(1)), effect("Capture", place(64), place(65))
+    full = [alias] * edges
+    grid = [effect("Alias", place(i), place(j)) for i in range(32) for j in range(32, 64)]
+    is_held(True, "the same relation 1,024 times", *full)
+    over = is_held(False, "the same relation 1,025 times", *full, alias)
+    is_held(False, "into is created again: the edges to it stay", *full, create_again(1), capture)
+    is_held(True, "from is created again: its edges are given back", *full, create_again(0), capture)
+    is_held(False, "passed, and given back later", *full, alias, create_again(0), create_again(1))
+    is_held(True, "relations of a value without a node", *full, *[effect("Alias", place(67), place(1))] * 100)
+    is_held(True, "as many entries as there may be", *grid)
+    is_held(False, "entries of a node that is created again stay", *grid, create_again(0), capture)
+    is_held(False, "edges to a node that is created again stay", *grid, create_again(32), capture)
+    is_held(True, "both are given back", *grid, create_again(0), create_again(32), capture)
+    is_held(True, "kind 10 gives back first", *full, effect("CreateFrom", place(2), place(0)))
+    is_held(True, "kind 10 without a node at from", *full, effect("CreateFrom", place(67), place(3)))
+    is_held(False, "kind 10 with a node at from", *full, effect("CreateFrom", place(64), place(3)))
+    waits = phi(place(0), *[(i, place(0)) for i in range(2, 1_026)])
+    is_held(True, "operands that wait", *full, after=[block(1, [waits], [], other(2))])
+    comes = phi(place(65), (0, place(64)))
+    is_held(False, "an operand that has come", *full, after=[block(1, [comes], [], other(2))])
+    is_held(False, "a Return", *full, after=[block(1, [], [], returned(2, place(0)))])
+    is_held(False, "an Alias of a terminal", *full, after=[block(1, [], [], maybe_throw(2, alias))])
+    # Among the other refusals: behind 7, before 10.
+    check(answer(over + [0]), 7, "7 before 8 for what is held")
+    check(answer(over[:-1]), 3, "3 before 8 for what is held")
+    check(answer(with_nodes(*full, alias, effect("Apply"))), 8, "8 for what is held before 10")
+    check(answer(with_nodes(*full, effect("Apply"))), 10, "10 with as many held as may be")
+
+
 def refusals():
     check([row[0] for row in table("refusal", "what is wrong")], [str(n) for n in range(1, 12)], "the refusals")
 
@@ -609,63 +657,43 @@ def refusals():
     check(answer(blocks(empty, empty)), 6, "a block number used twice")
     check(answer(blocks(phi_twice)), 6, "a predecessor named twice")
     check(answer(blocks(empty) + [0]), 7, "a word behind the last block")
-    render, mutate, alias = (
-        effect("Render", place(0)), effect("Mutate", place(0)), effect("Alias", place(0), place(0)))
-    for total, one in (("renders", render), ("mutations", mutate), ("relation effects", alias)):
+    render, mutate = effect("Render", place(0)), effect("Mutate", place(0))
+    for total, one in (("renders", render), ("mutations", mutate)):
         check(isinstance(answer(in_one(*[one] * TOTAL[total])), list), True, f"as many {total} as there may be")
         check(answer(in_one(*[one] * (TOTAL[total] + 1))), 8, f"too many {total}")
-    # Which kinds are counted, in instructions and in terminals.
+    # Which kinds are counted, in instructions; none is in terminals.
     counted_kinds = {row[0]: row[2] for row in table("total", "at most")}
-    relations, in_terminals, mutations, renders = (
+    mutations, renders = (
         re.search(pattern, counted_kinds[total])[1] for total, pattern in (
-            ("relation effects", r"kinds ([\d, and]+) in instructions"),
-            ("relation effects", r"kind (\d+) in terminals"),
             ("mutations", r"kinds ([\d to]+) in instructions"),
             ("renders", r"kind (\d+) in instructions")))
     first, last = map(int, mutations.split(" to "))
-    most = {int(kind): TOTAL["relation effects"] for kind in re.findall(r"\d+", relations)}
-    most |= {kind: TOTAL["mutations"] for kind in range(first, last + 1)} | {int(renders): TOTAL["renders"]}
+    most = {kind: TOTAL["mutations"] for kind in range(first, last + 1)} | {int(renders): TOTAL["renders"]}
     for name, kind in KIND.items():
-        one = effect(name, *[place(0), place(0)][:PLACES[name]])
+        # From and into a value without a node, so that no relation is held.
+        one = effect(name, *[place(1), place(1)][:PLACES[name]])
+        if name in ("Assign", "CreateFrom"):
+            one = effect(name, place(1), place(0))
         functions = [inner()] if name == "CreateFunction" else []
         times = most.get(kind, max(TOTAL.values())) + 1
         lists = [instruction(1, *[one] * count) for count in (times // 2, times - times // 2)]
-        words = sheet([(0, 0, "Other")], place(0), [block(0, [], lists, other(2))], functions)
+        words = sheet([(0, 0, "Other")] * 2, place(0), [block(0, [], lists, other(2))], functions)
         check(answer(words) == 8, kind in most, f"{times} effects {name}")
         ends = [block(i, [], [], maybe_throw(1, *[one] * 513)) for i in range(2)]
-        words = sheet([(0, 0, "Other")], place(0), ends, functions)
-        check(answer(words) == 8, kind == int(in_terminals), f"1,026 effects {name} in terminals")
-    # Relation effects in all four places, one too many.
-    operands = [(i, place(0)) for i in range(1_000)]
-    mixed = [[phi(place(0), *operands)], [instruction(1, *[alias] * 21)], returned(2, place(0), alias, alias, mutate)]
-    check(isinstance(answer(blocks(block(0, *mixed))), list), True, "1,024 relation effects")
-    over = blocks(block(0, *mixed), block(1, [], [], maybe_throw(3, alias)))
-    check(answer(over), 8, "1,025 relation effects")
-    check(answer(blocks(block(0, *mixed)) + [0]), 7, "a word behind 1,024 relation effects")
-    check(answer(over + [0]), 8, "8 before 7")
-    # Which word passes: the kind of an effect, the number of an operand, the identifier of a Return's value.
-    operands = [(i, place(0)) for i in range(1_023)]
-    ended = blocks(block(0, [phi(place(0), *operands)], [], returned(2, place(0), alias)))
-    returning = blocks(block(0, [phi(place(0), *operands, (1_023, place(0)))], [], returned(2, place(0))))
-    joining = blocks(block(0, [phi(place(0), *operands), phi(place(0), (7, place(0)), (8, place(0)))], [], other(2)))
+        words = sheet([(0, 0, "Other")] * 2, place(0), ends, functions)
+        check(answer(words) == 8, False, f"1,026 effects {name} in terminals")
+    held()
+    over = in_one(*[render] * (TOTAL["renders"] + 1))
+    at = len(over) - 11
 
     def changed(words, at, word):
         return words[:at] + [word] + words[at + 1:]
 
-    for words, end, what, wrong in (
-            (over, 9, "an Alias of a MaybeThrow", [(18, 5)]),
-            (ended, 9, "an Alias of a Return", [(18, 5)]),
-            (returning, 5, "the value of a Return", [(1, 5)]),
-            (joining, 8, "a phi operand", [(65_536, 5), (7, 6)])):
-        at = len(words) - end
-        check(answer(words), 8, f"{what} that passes")
-        check(answer(words[:at]), 3, f"a sheet cut before {what} that passes")
-        check(answer(words[:at + 1]), 8, f"a sheet cut behind the first word of {what} that passes")
-        for word, refusal in wrong:
-            check(answer(changed(words, at, word)), refusal, f"{what} that passes and is {word}")
-        check(answer(changed(words, at + 2, 16)), 8, f"{what} that passes, with a fault behind")
-    order = len(returning) - 6
-    check(answer(changed(returning, order, 1_000_000)), 5, "the order of a Return whose value passes")
+    check(answer(over[:at]), 3, "a sheet cut before the kind that passes")
+    check(answer(over[:at + 1]), 8, "a sheet cut behind the kind that passes")
+    check(answer(changed(over, at, 18)), 5, "a kind that passes and is 18")
+    check(answer(changed(over, at + 2, 16)), 8, "a kind that passes, with a fault behind")
+    check(answer(over + [0]), 8, "8 for a total before 7")
     full = in_one(*[effect("Freeze", place(0))] * 2_042)
     check((len(full), isinstance(answer(full), list)), (16_373, True), "a long sheet")
     check(answer(full + [0] * 11), 7, "16,384 words")

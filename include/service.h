@@ -44,13 +44,13 @@ extern "C" {
 #define SERVICE_MOST_LOAD 9749
 
 /* How many bytes a drawing (service_dot) has at most: its first and last line, a line of at most 8 for
- * each of 512 identifiers, and one of at most 39 for each of 1,024 relations, whose index has at most
+ * each of 512 identifiers, and one of at most 39 for each of 1,024 edges, whose index has at most
  * four digits. That is counted, not proved: where a call is refused 9 all the same, lend more. */
 #define SERVICE_MOST_DRAWING 44046
 
-/* Why a call was refused. 11 is checked first, then 1 and 2; 3 to 6 and 8 come from one reading from
- * left to right, where the first faulty word decides, and for one word the lower number; then come 7,
- * 10 and 9. */
+/* Why a call was refused. 11 is checked first, then 1 and 2; 3 to 6, and 8 for mutations and renders,
+ * come from one reading from left to right, where the first faulty word decides, and for one word the
+ * lower number; then come 7, 8 for the edges and entries that are held, 10 and 9. */
 enum ServiceRefusal {
     SERVICE_ACCEPTED = 0,
     /* The workspace has fewer than 16,384 words. */
@@ -67,7 +67,7 @@ enum ServiceRefusal {
     SERVICE_REFUSED_USED_TWICE = 6,
     /* Words follow the last block. */
     SERVICE_REFUSED_WORDS_FOLLOW = 7,
-    /* The sheet has over 1,024 relation effects, 512 mutations or 256 renders. */
+    /* The sheet has over 512 mutations or 256 renders, or holds over 1,024 edges or entries. */
     SERVICE_REFUSED_TOTALS = 8,
     /* The answer buffer is shorter than the answer: see SERVICE_MOST_ANSWER. */
     SERVICE_REFUSED_SHORT_ANSWER = 9,

@@ -153,6 +153,22 @@ pub fn recreated(times: usize) -> Sheet {
     sheet(identifiers, vec![block(0, Vec::new(), &effects)])
 }
 
+/// 1,000 creations between 1,000 relations that stay held. All but the first 32 create from a value
+/// that has no node, so that each gives back the entry of the one before it.
+pub fn collected() -> Sheet {
+    let mut effects: Vec<Effect> = (0..32).map(|i| one(9, i)).collect();
+    for i in 0..1_000 {
+        effects.push(two([5, 6, 7][i % 3], i % 32, i * 7 % 32));
+        if i < 968 {
+            effects.push(two(10, 63, 32 + i % 31));
+        }
+    }
+    effects.extend((0..8).map(|i| one(3, i)));
+    let mut sheet = sheet(65, vec![block(0, Vec::new(), &effects)]);
+    sheet.params = Vec::new();
+    sheet
+}
+
 /// The same pair of values related again and again: every entry is there already.
 pub fn repeated(relations: usize) -> Sheet {
     let mut effects: Vec<Effect> = (0..64).map(|i| one(9, i)).collect();
@@ -226,13 +242,14 @@ pub fn worst() -> Vec<(String, Sheet)> {
         .into_iter()
         .map(|(name, sheet)| (format!("{name}, 512 mutations"), sheet))
         .collect();
-    let more: [(&str, Sheet); 14] = [
+    let more: [(&str, Sheet); 15] = [
         ("the smallest sheet", smallest()),
         ("one phi with 1,024 operands", phi(1_024)),
         ("one phi with 1,024 operands, predecessors falling", falling_phi(1_024)),
         ("1,024 operands that wait, 248 blocks", waiting(1_024)),
         ("512 values created again, 512 relations held", recreated(512)),
         ("128 values created again, 896 relations held", recreated(128)),
+        ("1,000 creations between 1,000 relations held", collected()),
         ("1,024 relations between 24 pairs", repeated(1_024)),
         ("256 blocks", blocks(256)),
         ("129 simulated walks over 1,024 relations", simulated(1_024)),

@@ -48,6 +48,7 @@ mod answer;
 mod builder;
 mod class_load;
 pub mod ffi;
+mod held;
 pub mod limits;
 mod parts;
 mod reading;
@@ -60,6 +61,7 @@ pub mod text;
 pub use answer::Answer;
 pub use builder::{PartError, SheetBuilder};
 pub use class_load::ClassLoad;
+pub use held::Held;
 pub use parts::{
     AliasingDiagnostic, AliasingEffect, BlockId, DiagnosticId, DiagnosticInstanceId, Effect,
     EffectKind, EvaluationOrder, FunctionId, Identifier, IdentifierId, InstructionValue,

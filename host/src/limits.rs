@@ -31,10 +31,9 @@ pub const BLOCK_NUMBER: u32 = 65_535;
 /// Of each half of a diagnostic.
 pub const DIAGNOSTIC: u32 = 65_535;
 
-/// Of relation effects, phi operands and Return values in the whole sheet; see
-/// [`Totals`](crate::Totals).
-pub const RELATIONS: usize = 1_024;
-/// Of mutations in the whole sheet.
+/// Of forward edges held together, and likewise of entries; see [`Held`](crate::Held).
+pub const HELD: usize = 1_024;
+/// Of mutations in the whole sheet; see [`Totals`](crate::Totals).
 pub const MUTATIONS: usize = 512;
 /// Of renders in the whole sheet.
 pub const RENDERS: usize = 256;
@@ -48,9 +47,9 @@ pub const LOAD: usize =
     21 + 3 * *LOAD_IDENTIFIERS.end() as usize + 16 * *LOAD_EFFECTS.end() as usize;
 
 /// Of bytes of a drawing, see [`Service::dot`](crate::Service::dot): its first and last line, a line of
-/// at most 8 bytes for each identifier, and one of at most 39 for each relation, whose index has at
-/// most four digits. That is counted, not proved.
-pub const DRAWING: usize = 12 + 8 * IDENTIFIERS + 39 * RELATIONS + 2;
+/// at most 8 bytes for each identifier, and one of at most 39 for each edge, whose index has at most
+/// four digits. That is counted, not proved.
+pub const DRAWING: usize = 12 + 8 * IDENTIFIERS + 39 * HELD + 2;
 
 /// Of words of an answer: no sheet has a longer one. Ten counts and the records of each section,
 /// every section as long as it can be alone, but the places of the last four as many together as

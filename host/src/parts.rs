@@ -332,7 +332,7 @@ impl EffectKind {
         matches!(self, EffectKind::MutateFrozen | EffectKind::MutateGlobal | EffectKind::Impure)
     }
 
-    /// Whether it relates two values in an instruction, and so counts towards 1,024.
+    /// Whether it relates two values in an instruction; see [`Held`](crate::Held) for what is stored.
     pub const fn is_relation(self) -> bool {
         use EffectKind::*;
         matches!(self, Capture | Alias | MaybeAlias | Assign | CreateFrom)

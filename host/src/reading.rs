@@ -132,7 +132,7 @@ impl Reader<'_> {
         (0..count).map(|i| read(self).map_err(|e| e.within(part, i, count))).collect()
     }
 
-    /// The word read last adds to the totals.
+    /// The kind read last adds to the totals.
     fn counted(&mut self, add: impl FnOnce(&mut Totals)) -> Read<()> {
         add(&mut self.totals);
         match self.totals.over().next() {
@@ -165,18 +165,6 @@ impl Reader<'_> {
 
     fn place(&mut self) -> Read<Place> {
         let identifier = self.below("a place's identifier", self.identifiers)?;
-        self.place_of(identifier)
-    }
-
-    /// The value of a Return, which counts at its identifier.
-    fn returned(&mut self) -> Read<Place> {
-        let identifier = self.below("a place's identifier", self.identifiers)?;
-        self.counted(Totals::add_relation)?;
-        self.place_of(identifier)
-    }
-
-    /// The rest of a place.
-    fn place_of(&mut self, identifier: u32) -> Read<Place> {
         let traits = self.at_most("a place's traits (effect, plus 8 if reactive)", 15)?;
         let span = self.word("a place's span")?;
         Ok(Place::from_words([identifier, traits, span]).expect("traits are at most 15"))
@@ -264,7 +252,6 @@ impl Reader<'_> {
         let mut predecessors = Vec::new();
         let operands = self.times("operand", count, |r| {
             let predecessor = r.fresh_number("a predecessor's number", &mut predecessors)?;
-            r.counted(Totals::add_relation)?;
             Ok(Operand { predecessor, place: r.place()? })
         })?;
         Ok(Phi { place, operands })
@@ -304,10 +291,10 @@ impl Reader<'_> {
                 let operands = self.places("a terminal's operands", "operand")?;
                 return Ok((Terminal::Other { order }, Vec::new(), operands));
             }
-            1 => Terminal::Return { order, value: self.returned()? },
+            1 => Terminal::Return { order, value: self.place()? },
             _ => Terminal::MaybeThrow { order },
         };
-        let effects = self.effects("a terminal's effects", Totals::add_terminal_effect)?;
+        let effects = self.effects("a terminal's effects", |_, _| ())?;
         let what = if kind == 1 { "a Return's operands" } else { "a MaybeThrow's operands" };
         self.fixed_count(what, 0)?;
         Ok((terminal, effects, Vec::new()))

@@ -2,14 +2,15 @@
 
 use std::fmt;
 
-/// Why a call was refused. 11 is checked first, then 1 and 2; 3 to 6 and 8 come from one reading left
-/// to right, where the first faulty word decides, and for one word the lower number; then come 7, 10
-/// and 9.
+/// Why a call was refused. 11 is checked first, then 1 and 2; 3 to 6, and 8 for mutations and renders,
+/// come from one reading left to right, where the first faulty word decides, and for one word the lower
+/// number; then come 7, 8 for the edges and entries that are held, 10 and 9.
 ///
 /// The library says no more than the number. Which word is faulty and what was expected there says
-/// [`Sheet::read`](crate::Sheet::read) of the same words; how many relation effects, mutations and
-/// renders a sheet has says [`Sheet::totals`](crate::Sheet::totals), and which instructions have
-/// Apply [`Sheet::applies`](crate::Sheet::applies).
+/// [`Sheet::read`](crate::Sheet::read) of the same words; how many mutations and renders a sheet has
+/// says [`Sheet::totals`](crate::Sheet::totals), how many edges and entries are held together
+/// [`Sheet::held`](crate::Sheet::held), and which instructions have Apply
+/// [`Sheet::applies`](crate::Sheet::applies).
 #[derive(Debug, Clone, Copy, PartialEq, Eq, Hash)]
 #[repr(u32)]
 #[non_exhaustive]
@@ -29,9 +30,10 @@ pub enum Refusal {
     UsedTwice = 6,
     /// Words follow the last block.
     WordsFollow = 7,
-    /// The sheet has over 1,024 relation effects, 512 mutations or 256 renders. They are counted
-    /// while the sheet is read, so that a sheet that passes a total and is cut behind that is
-    /// refused 8.
+    /// The sheet has over 512 mutations or 256 renders, or over 1,024 forward edges or entries would be
+    /// held together. Mutations and renders are counted while the sheet is read, so that a sheet that
+    /// passes a total and is cut behind that is refused 8. What is held is seen while the graph is
+    /// built, after 7 and before 10, also if it would be given back later.
     Totals = 8,
     /// The answer buffer is shorter than the answer, or fewer words are lent than a class load has, or
     /// fewer bytes than a drawing. Comes from [`Service`](crate::Service) only where it was given a
@@ -89,7 +91,7 @@ impl Refusal {
             }
             Refusal::WordsFollow => "Words follow the last block.",
             Refusal::Totals => {
-                "The sheet has over 1,024 relation effects, 512 mutations or 256 renders."
+                "The sheet has over 512 mutations or 256 renders, or holds over 1,024 edges or entries."
             }
             Refusal::ShortAnswer => "The answer buffer is shorter than the answer.",
             Refusal::Apply => "Apply is among an instruction's effects.",

@@ -1,5 +1,6 @@
 //! A sheet as typed parts, and its words.
 
+use crate::held::{self, Held};
 use crate::parts::{
     AliasingDiagnostic, AliasingEffect, BlockId, EffectKind, EvaluationOrder, Identifier,
     IdentifierId, InstructionValue, Place,
@@ -126,12 +127,9 @@ impl Terminal {
     }
 }
 
-/// The totals that refusal 8 is about.
+/// The totals that refusal 8 is about while a sheet is read; see [`Held`] for the others.
 #[derive(Debug, Clone, Copy, PartialEq, Eq, Default)]
 pub struct Totals {
-    /// Effects of instructions that relate two values, Alias in terminals, phi operands and Return
-    /// values.
-    pub relations: usize,
     /// Mutations in instructions.
     pub mutations: usize,
     /// Renders in instructions.
@@ -139,29 +137,16 @@ pub struct Totals {
 }
 
 impl Totals {
-    /// A phi operand or the value of a Return.
-    pub(crate) fn add_relation(&mut self) {
-        self.relations += 1;
-    }
-
     /// An effect of an instruction.
     pub(crate) fn add_effect(&mut self, kind: EffectKind) {
-        self.relations += kind.is_relation() as usize;
         self.mutations += kind.is_mutation() as usize;
         self.renders += (kind == EffectKind::Render) as usize;
-    }
-
-    /// An effect of a terminal.
-    pub(crate) fn add_terminal_effect(&mut self, kind: EffectKind) {
-        self.relations += (kind == EffectKind::Alias) as usize;
     }
 
     /// Those that are over their limit: what is counted, how many there are, and how many there
     /// may be.
     pub fn over(self) -> impl Iterator<Item = (&'static str, usize, usize)> {
-        let relations = "relation effects, phi operands and Return values";
         let totals = [
-            (relations, self.relations, limits::RELATIONS),
             ("mutations", self.mutations, limits::MUTATIONS),
             ("renders", self.renders, limits::RENDERS),
         ];
@@ -175,7 +160,7 @@ impl Sheet {
     ///
     /// A sheet whose one fault is a total above its limit is read all the same, and
     /// [`Sheet::refusal`] tells it. With another fault behind, a cut for instance, the first fault
-    /// is the word that passes the total, refusal 8.
+    /// is the word that passes the total, refusal 8. Relations are no such total: see [`Held`].
     pub fn read(words: &[u32]) -> Result<Sheet, ReadError> {
         reading::read(words)
     }
@@ -225,20 +210,20 @@ impl Sheet {
         (0..self.identifiers.len()).map(|i| IdentifierId(i as u32))
     }
 
-    /// What refusal 8 counts.
+    /// What refusal 8 counts while a sheet is read.
     pub fn totals(&self) -> Totals {
         let mut totals = Totals::default();
         for block in &self.blocks {
-            totals.relations += block.phis.iter().map(|phi| phi.operands.len()).sum::<usize>();
             for effect in block.instructions.iter().flat_map(Instruction::listed_effects) {
                 totals.add_effect(effect.kind());
             }
-            totals.relations += matches!(block.terminal, Terminal::Return { .. }) as usize;
-            for effect in &block.terminal_effects {
-                totals.add_terminal_effect(effect.kind());
-            }
         }
         totals
+    }
+
+    /// How many forward edges and entries the library would hold together, if there were no limit.
+    pub fn held(&self) -> Held {
+        held::held(self)
     }
 
     /// The instructions with Apply among their effects: block and order.
@@ -256,7 +241,7 @@ impl Sheet {
         if self.words().len() > limits::WORDS {
             return Some(Refusal::LongSheet);
         }
-        let over = self.totals().over().next().map(|_| Refusal::Totals);
+        let over = self.totals().over().chain(self.held().over()).next().map(|_| Refusal::Totals);
         over.or_else(|| self.applies().next().map(|_| Refusal::Apply))
     }
 

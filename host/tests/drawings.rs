@@ -180,7 +180,7 @@ fn long() {
     sheet.block(BlockId(0)).unwrap();
     let mut effects = vec![AliasingEffect::Mutate { value: a, reason: None }; limits::MUTATIONS];
     effects.extend(vec![AliasingEffect::Render { place: a }; limits::RENDERS]);
-    effects.extend(vec![AliasingEffect::Capture { from: a, into: b }; limits::RELATIONS]);
+    effects.extend(vec![AliasingEffect::Capture { from: a, into: b }; limits::HELD]);
     for (order, some) in (1..).zip(effects.chunks(limits::COUNT)) {
         sheet.instruction(EvaluationOrder(order)).unwrap();
         some.iter().for_each(|&effect| sheet.effect(effect).unwrap());
@@ -188,7 +188,7 @@ fn long() {
     sheet.terminal(Terminal::Other { order: EvaluationOrder(9) }).unwrap();
     let words = sheet.finish(b).unwrap().words();
     let drawn = Service::new().dot(&words).unwrap();
-    assert_eq!(drawn.lines().count(), 2 + 2 + limits::RELATIONS);
+    assert_eq!(drawn.lines().count(), 2 + 2 + limits::HELD);
     assert!(drawn.ends_with("  n510 -> n511 [label=\"capture 1791\"];\n}\n"));
     assert_eq!(drawn.len(), 12 + 2 * 8 + 1_024 * 39 - 232 + 2);
     assert!(drawn.len() < limits::DRAWING);

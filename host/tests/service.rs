@@ -4,6 +4,7 @@
 use oracle::cases::{ANSWER_1, case_1_words, graph_sheets};
 use oracle::damage::damaged;
 use oracle::generate::{self, Limit, past_limit};
+use oracle::plain::building::build;
 use oracle::plain::sheet as plain;
 use oracle::plain::{self as oracle_plain, Outcome};
 use oracle::random::Random;
@@ -232,20 +233,19 @@ fn bench_case_9() {
     let sheet = without_blocks(1, &[], 0);
     assert_eq!(lent(&mut caller, &sheet, 16_383, 100).0.refusal, 1);
     assert_eq!(lent(&mut caller, &sheet, 16_384, 100).0.refusal, 0);
-    for limit in [Limit::Relations, Limit::PhiRelations] {
+    for limit in [Limit::Relations, Limit::PhiRelations, Limit::Entries] {
         let mut random = Random::new(9);
         let most = generate::at_limit(&mut random, limit);
-        assert_eq!(most.totals().relations, 1_024);
+        assert_eq!(build(&most).map(|built| built.held.larger()), Ok(1_024));
         assert_eq!(lent(&mut caller, &most.words(), 16_384, 100_000).0.refusal, 0);
         let over = generate::past_limit(&mut random, limit);
-        assert_eq!(over.totals().relations, 1_025);
         assert_eq!(lent(&mut caller, &over.words(), 16_384, 100_000).0.refusal, 8);
     }
     let (reply, words) = lent(&mut caller, &sheet, 16_384, 21);
     assert_eq!((reply.refusal, reply.length), (0, 21));
     assert_eq!(words, [1, 0, 0, 0, 0, 0, 1, 9, 0, 0, 0, 0, 0, 0, 0, 1, 1, 0, 0, 0, 0]);
     assert_eq!(lent(&mut caller, &sheet, 16_384, 20).0.refusal, 9);
-    assert_eq!(caller.next, 4);
+    assert_eq!(caller.next, 5);
 }
 
 #[test]
@@ -281,7 +281,7 @@ fn every_refusal() {
     assert_eq!(refusal(&with(1, 2), 16_384, 1_000), Some(Refusal::OutOfRange));
     assert_eq!(refusal(&two_blocks, 16_384, 1_000), Some(Refusal::UsedTwice));
     assert_eq!(refusal(&[&sheet[..], &[0]].concat(), 16_384, 1_000), Some(Refusal::WordsFollow));
-    for limit in [Limit::Relations, Limit::Mutations, Limit::Renders] {
+    for limit in [Limit::Relations, Limit::Entries, Limit::Mutations, Limit::Renders] {
         assert_eq!(refusal(&over(limit), 16_384, 1_000), Some(Refusal::Totals));
     }
     assert_eq!(refusal(&sheet, 16_384, 0), Some(Refusal::ShortAnswer));

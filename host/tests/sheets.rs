@@ -2,13 +2,14 @@
 
 use oracle::damage::damaged;
 use oracle::generate;
+use oracle::plain::building;
 use oracle::random::Random;
-use oracle::totals;
+use oracle::{held, recreated, totals};
 use service_host::text::{self, Names};
 use service_host::{
-    AliasingDiagnostic, AliasingEffect, BlockId, Effect, EvaluationOrder, FunctionId, Identifier,
-    IdentifierId, InstructionValue, MutableRange, PartError, Place, Refusal, Service, Sheet,
-    SheetBuilder, Terminal, limits,
+    AliasingDiagnostic, AliasingEffect, BlockId, Effect, EvaluationOrder, FunctionId, Held,
+    Identifier, IdentifierId, InstructionValue, MutableRange, PartError, Place, Refusal, Service,
+    Sheet, SheetBuilder, Terminal, limits,
 };
 
 /// The generator's sheets, as words.
@@ -119,6 +120,42 @@ fn totals_while_reading() {
         assert_eq!(service.infer(0, &sheet.words).err(), refusal, "{}", sheet.name);
     }
     assert!(read > 10, "{read}");
+}
+
+/// What is held decides after the last word and before Apply; the refusal of the whole sheet names it.
+/// The most that is held is the number that the oracle's table has.
+#[test]
+fn held_while_building() {
+    let mut service = Service::new();
+    let mut over = 0;
+    for sheet in held::all() {
+        let refusal = match Sheet::read(&sheet.words) {
+            Ok(parts) => {
+                over += parts.held().over().count();
+                parts.refusal()
+            }
+            Err(error) => Some(error.refusal()),
+        };
+        assert_eq!(refusal, Refusal::from_number(sheet.refusal), "{}", sheet.name);
+        assert_eq!(service.infer(0, &sheet.words).err(), refusal, "{}", sheet.name);
+        let drawn = refusal.filter(|&refusal| refusal != Refusal::Apply);
+        assert_eq!(service.dot(&sheet.words).err(), drawn, "{}, drawn", sheet.name);
+    }
+    assert!(over > 10, "{over}");
+}
+
+/// Sheets that create the same identifiers again and again: as many as may be held, or more.
+#[test]
+fn held_by_made_sheets() {
+    let mut random = Random::new(10);
+    let mut refused = 0;
+    for _ in 0..200 {
+        let sheet = recreated::about_limit(&mut random);
+        let ours = Sheet::read(&sheet.words()).unwrap().refusal();
+        assert_eq!(ours.is_some(), building::build(&sheet).is_err());
+        refused += ours.is_some() as usize;
+    }
+    assert!((20..180).contains(&refused), "{refused}");
 }
 
 #[test]
@@ -749,19 +786,20 @@ fn misspelt_words() {
 fn totals_over_their_limits() {
     let mut b = builder(2);
     b.block(BlockId(0)).unwrap();
-    b.phi(place(0)).unwrap();
-    for number in 0..1_024 {
-        b.operand(BlockId(number), place(1)).unwrap();
-    }
     b.instruction(order(1)).unwrap();
     for _ in 0..257 {
         b.effect(AliasingEffect::Render { place: place(0) }).unwrap();
     }
-    b.terminal(Terminal::Return { order: order(2), value: place(1) }).unwrap();
-    let totals = b.finish(place(0)).unwrap().totals();
-    let relations = "relation effects, phi operands and Return values";
-    let over: Vec<_> = totals.over().collect();
-    assert_eq!(over, [(relations, 1_025, 1_024), ("renders", 257, 256)]);
+    b.instruction(order(1)).unwrap();
+    for _ in 0..1_024 {
+        b.effect(AliasingEffect::Alias { from: place(0), into: place(0) }).unwrap();
+    }
+    b.terminal(Terminal::Return { order: order(2), value: place(0) }).unwrap();
+    let sheet = b.finish(place(0)).unwrap();
+    let over: Vec<_> = sheet.totals().over().chain(sheet.held().over()).collect();
+    let edges = "forward edges held together";
+    assert_eq!(over, [("renders", 257, 256), (edges, 1_025, 1_024)]);
+    assert_eq!(sheet.held(), Held { edges: 1_025, entries: 1 });
 }
 
 /// Words of texts cut, moved and changed: an error or a sheet, and the sheet is never refused

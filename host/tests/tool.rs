@@ -361,7 +361,7 @@ fn refusals_of_the_whole() {
         (text("Render a", 257) + one, "257 renders, at most 256"),
         (
             text("Alias a into a", 1_024) + "terminal Return a at 2\n",
-            "1025 relation effects, phi operands and Return values, at most 1024",
+            "1025 forward edges held together, at most 1024",
         ),
     ];
     for (text, message) in &totals {

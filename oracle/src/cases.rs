@@ -7,11 +7,12 @@ use crate::callers;
 use crate::compare::{compare, roomy};
 use crate::damage::{Call, Room};
 use crate::generate::{self, LIMITS, Limit, PASSABLE};
+use crate::held;
 use crate::plain::building::build;
 use crate::plain::sheet::{
     APPLY, Block, Effect, Instruction, Phi, Place, Sheet, Terminal, WORKSPACE_WORDS,
 };
-use crate::plain::walks::trace;
+use crate::plain::walks::{Trace, trace};
 use crate::plain::{self, Answer, Outcome};
 use crate::random::Random;
 use crate::totals;
@@ -75,15 +76,20 @@ fn is<T: PartialEq + std::fmt::Debug>(what: &str, got: T, expected: T) -> Result
     if got == expected { Ok(()) } else { Err(format!("{what}: {got:?}, not {expected:?}")) }
 }
 
+/// What the real walks of an accepted sheet leave.
+fn traced(sheet: &Sheet) -> Trace {
+    trace(sheet, build(sheet).expect("the sheet is accepted"))
+}
+
 /// The identifiers accepted by a walk, in order.
 fn accepted(sheet: &Sheet, walk: usize) -> Vec<u32> {
-    let traced = trace(sheet, build(sheet));
+    let traced = traced(sheet);
     traced.walks[walk].accepted.iter().map(|s| s.identifier).collect()
 }
 
 /// The ranges before the pass over operands.
 fn ranges_before(sheet: &Sheet) -> Vec<(u32, u32)> {
-    let ends = trace(sheet, build(sheet)).ends;
+    let ends = traced(sheet).ends;
     sheet.identifiers.iter().zip(ends).map(|(i, end)| (i.start, end)).collect()
 }
 
@@ -154,7 +160,7 @@ fn case_5() -> Result<(), String> {
     let answer = agreed(&sheet)?;
     is("entries", answer.walks[0], 1)?;
     is("end of the phi", ranges_before(&sheet)[2].1, 0)?;
-    let built = build(&sheet);
+    let built = build(&sheet).map_err(|refusal| format!("refused {refusal}"))?;
     let edges = &built.nodes[0].as_ref().ok_or("x has no node")?.edges;
     is("stored order", edges.iter().map(|e| e.index).collect(), vec![2, 0])
 }
@@ -191,8 +197,8 @@ fn refusal(call: &Call) -> Result<u32, String> {
     }
 }
 
-/// Sheets with 1,024 relations, each before one with 1,025.
-fn relation_sheets() -> [Sheet; 4] {
+/// Sheets that hold 1,024 relations, each before one that would hold 1,025.
+fn relation_sheets() -> [Sheet; 6] {
     let mut random = Random::new(9);
     let mut made = |make: fn(&mut Random, Limit) -> Sheet, limit| make(&mut random, limit);
     [
@@ -200,6 +206,8 @@ fn relation_sheets() -> [Sheet; 4] {
         made(generate::past_limit, Limit::Relations),
         made(generate::at_limit, Limit::PhiRelations),
         made(generate::past_limit, Limit::PhiRelations),
+        made(generate::at_limit, Limit::Entries),
+        made(generate::past_limit, Limit::Entries),
     ]
 }
 
@@ -209,10 +217,10 @@ fn case_9() -> Result<(), String> {
     is("workspace 16,383", refusal(&workspace(16_383))?, 1)?;
     is("workspace 16,384", refusal(&workspace(16_384))?, 0)?;
     for pair in relation_sheets().chunks(2) {
-        is("relations", pair[0].totals().relations, 1_024)?;
-        is("1,024 relations", refusal(&roomy(&pair[0].words()))?, 0)?;
-        is("relations", pair[1].totals().relations, 1_025)?;
-        is("1,025 relations", refusal(&roomy(&pair[1].words()))?, 8)?;
+        let held = build(&pair[0]).map(|built| built.held.larger());
+        is("held", held, Ok(1_024))?;
+        is("1,024 held", refusal(&roomy(&pair[0].words()))?, 0)?;
+        is("1,025 held", refusal(&roomy(&pair[1].words()))?, 8)?;
     }
     is("room as the answer", refusal(&Call { room: Room::Exact, ..good.clone() })?, 0)?;
     is("one answer word short", refusal(&Call { room: Room::Short(1), ..good.clone() })?, 9)?;
@@ -240,7 +248,11 @@ fn limits() -> Result<(), String> {
         let past = generate::past_limit(&mut random, limit).words();
         let expected = match limit {
             Limit::Words => 2,
-            Limit::Relations | Limit::PhiRelations | Limit::Mutations | Limit::Renders => 8,
+            Limit::Relations
+            | Limit::PhiRelations
+            | Limit::Entries
+            | Limit::Mutations
+            | Limit::Renders => 8,
             _ => 4,
         };
         is(&format!("{limit:?} passed"), refusal(&roomy(&past))?, expected)?;
@@ -314,7 +326,30 @@ fn totals_passed() -> Result<(), String> {
     sheets.iter().try_for_each(|s| is(&s.name, refusal(&roomy(&s.words))?, s.refusal))
 }
 
-/// The words of every sheet above but those of the totals; the first one is case 1's.
+/// What is held: met and passed, and how it stands among the refusals.
+fn relations_held() -> Result<(), String> {
+    for sheet in held::all() {
+        is(&sheet.name, refusal(&roomy(&sheet.words))?, sheet.refusal)?;
+        // The drawing gives this 8 too, and never 10.
+        let drawn = plain::dot::judge(&sheet.words).err().unwrap_or(0);
+        let expected = if sheet.refusal == 10 { 0 } else { sheet.refusal };
+        is(&format!("{}, drawn", sheet.name), drawn, expected)?;
+        let room = |room| Call { room, ..roomy(&sheet.words) };
+        let short = if sheet.refusal == 0 { 9 } else { sheet.refusal };
+        is(&format!("{}, no room", sheet.name), refusal(&room(Room::None))?, short)?;
+    }
+    for (name, sheet, walks) in held::walks() {
+        is(name, agreed(&sheet)?.walks, walks)?;
+    }
+    for (name, sheet, edges, entries) in held::numbers() {
+        let held = build(&sheet).map(|built| (built.held.edges, built.held.entries));
+        is(name, held, Ok((edges, entries)))?;
+    }
+    Ok(())
+}
+
+/// The words of every sheet above but those of the totals and of what is held; the first one is case
+/// 1's.
 pub fn sheets() -> Vec<Vec<u32>> {
     let made = without_blocks().into_iter().chain(graph_sheets()).chain(relation_sheets());
     let mut sheets = vec![case_1_words()];
@@ -326,11 +361,12 @@ pub fn sheets() -> Vec<Vec<u32>> {
 
 type Case = fn() -> Result<(), String>;
 
-pub const FURTHER: [(&str, Case); 5] = [
+pub const FURTHER: [(&str, Case); 6] = [
     ("limits", limits),
     ("refusal order", refusal_order),
     ("words in range", words_in_range),
     ("totals", totals_passed),
+    ("held", relations_held),
     ("callers", callers::cases),
 ];
 

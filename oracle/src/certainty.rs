@@ -182,7 +182,7 @@ fn told(reports: &[Report]) -> Vec<String> {
 /// chains of the original's graph; then the whole answer of every side, as of any other sheet.
 pub fn compare_certainty(call: &Call, sides: &mut [Box<dyn Side>]) -> Seen {
     let mut seen = Seen::default();
-    let Ok((sheet, 0)) = plain::sheet::read_whole(&call.sheet) else { return seen };
+    let Ok(sheet) = plain::read(&call.sheet) else { return seen };
     seen.of_class = in_class(&sheet);
     if !seen.of_class {
         return seen;

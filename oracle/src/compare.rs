@@ -5,7 +5,9 @@ use std::panic::{AssertUnwindSafe, catch_unwind};
 
 use crate::damage::{Call, Room};
 use crate::original_side::{self, Answered};
-use crate::plain::{self, Outcome, sheet};
+use crate::plain::building::{Built, Held};
+use crate::plain::walks::{render, trace};
+use crate::plain::{self, Outcome, Whole, sheet};
 
 /// A further side of the comparison, such as our own library. It answers every
 /// call, refusals 1 and 9 included, with all ten sections.
@@ -111,6 +113,7 @@ pub fn or_panic<T>(asked: impl FnOnce() -> T) -> Result<T, String> {
 fn compare_answers(
     words: &[u32],
     sheet: &sheet::Sheet,
+    held: Held,
     plain: &plain::Answer,
     original: &Result<plain::Answer, String>,
 ) -> Option<Difference> {
@@ -120,8 +123,8 @@ fn compare_answers(
         Ok(original) => return difference("original", plain.lines(), without_walks(original)),
         Err(message) => return difference("original", plain.lines(), vec![message.clone()]),
     }
-    // Every walk ends after at most 4R + 1 entries.
-    let bound = 4 * sheet.totals().relations as u32 + 1;
+    // Every walk ends after at most 4R + 1 entries, R the larger of the numbers held after building.
+    let bound = 4 * held.larger() as u32 + 1;
     if plain.walks.iter().any(|&w| w > bound) {
         return difference("bound of a walk", vec![format!("at most {bound}")], plain.lines());
     }
@@ -130,6 +133,23 @@ fn compare_answers(
         return difference("words of the sheet as read", vec![given], vec![read]);
     }
     None
+}
+
+/// How many entries the longest walk of a render takes.
+fn most_rendered(sheet: &sheet::Sheet, built: &Built) -> u32 {
+    if built.renders.is_empty() {
+        return 0;
+    }
+    let built = trace(sheet, built.clone()).built;
+    built.renders.iter().map(|of| render(&built, of).taken).max().unwrap_or(0)
+}
+
+/// The walk of a render follows entries alone, each once: R + 1 at most.
+fn render_bound(held: Held, most: u32) -> Option<Difference> {
+    let bound = held.entries as u32 + 1;
+    let told = |count| vec![format!("{count} entries")];
+    let side = "bound of a render's walk";
+    (most > bound).then(|| Difference { side, expected: told(bound), got: told(most) })
 }
 
 /// The original ends with an error on a sheet with an Apply.
@@ -210,22 +230,23 @@ fn compare_side(
 pub fn compare(call: &Call, sides: &mut [Box<dyn Side>]) -> (u32, Option<Difference>) {
     let mut difference = None;
     let mut original_words = None;
-    let judged = match plain::sheet::read_whole(&call.sheet) {
-        Ok((sheet, 0)) => {
-            let plain = plain::answer(&sheet);
+    let judged = match plain::read_whole(&call.sheet) {
+        Ok(Whole { sheet, built, verdict: 0 }) => {
+            let held = built.held;
+            let rendered = most_rendered(&sheet, &built);
+            let plain = plain::answer_of(&sheet, built);
             let original = original_answer(&sheet).and_then(|answered| {
                 let answered = answered.ok_or("an Apply is met")?;
                 Ok(answered.filled(&plain))
             });
-            difference = compare_answers(&call.sheet, &sheet, &plain, &original);
+            difference = compare_answers(&call.sheet, &sheet, held, &plain, &original);
+            difference = difference.or_else(|| render_bound(held, rendered));
             original_words = original.ok().map(|answer| answer.words());
             Ok(plain.words())
         }
-        Ok((sheet, refusal)) => {
-            if refusal == 10 {
-                difference = compare_apply(&sheet);
-            }
-            Err(refusal)
+        Ok(Whole { sheet, verdict, .. }) => {
+            difference = compare_apply(&sheet);
+            Err(verdict)
         }
         Err(refusal) => Err(refusal),
     };
@@ -373,7 +394,7 @@ pub fn shrink(call: &Call, mut differs: impl FnMut(&Call) -> bool) -> Call {
     let mut tries = 20_000;
     loop {
         let mut variants: Vec<Vec<u32>> = Vec::new();
-        if let Ok((sheet, _)) = sheet::read_whole(&best.sheet) {
+        if let Ok(sheet) = sheet::read_words(&best.sheet) {
             variants.extend(smaller(&sheet).iter().map(sheet::Sheet::words));
         }
         if best.sheet.len() < 2_000 {

@@ -1,12 +1,13 @@
 //! Damaged sheets: good ones cut, extended or changed, and buffers too short.
 
 use crate::generate::{self, Limit, PASSABLE};
-use crate::plain;
+use crate::plain::sheet::read_words;
 use crate::plain::sheet::{
     ABSENT, APPLY, Diagnostic, EFFECTS, Effect, MAX_BLOCK_NUMBER, MAX_DIAGNOSTIC, MAX_ORDER,
     MAX_RANGE, MAX_TRAITS, MAX_TYPE, SHEET_WORDS, Sheet, Terminal, Value, WORKSPACE_WORDS,
 };
 use crate::random::Random;
+use crate::recreated;
 
 /// How many words the answer buffer has.
 #[derive(Debug, Clone, Copy, PartialEq, Eq)]
@@ -287,11 +288,11 @@ fn change_effect_count(sheet: &Sheet, random: &mut Random) -> Vec<u32> {
 
 /// The word that passes a total, of a sheet that is refused for that: behind it the sheet may end.
 fn passing_word(words: &[u32]) -> Option<usize> {
-    if plain::read(words) != Err(8) {
+    if read_words(words) != Err(8) {
         return None;
     }
     let all: Vec<usize> = (0..words.len()).collect();
-    Some(all.partition_point(|&at| plain::read(&words[..=at]) == Err(3)))
+    Some(all.partition_point(|&at| read_words(&words[..=at]) == Err(3)))
 }
 
 /// Put a fault near the word that passes a total, or, if none does, anywhere.
@@ -311,9 +312,37 @@ fn damage_total(words: &mut Vec<u32>, random: &mut Random) {
     }
 }
 
+/// A sheet that holds as many relations as may be, or more; mostly with another fault, or with an
+/// Apply.
+fn about_held(call: &mut Call, random: &mut Random) {
+    let mut sheet = recreated::about_limit(random);
+    if random.percent(30) {
+        apply(&mut sheet, random);
+    }
+    call.sheet = sheet.words();
+    let whole = call.sheet.len();
+    match random.below(10) {
+        0 => call.sheet.push(random.choose(&EDGES)),
+        1 => call.sheet.truncate(whole - random.between(1, 9)),
+        2 => call.sheet.truncate(random.between(1, whole)),
+        3 => change_word(&mut call.sheet, random),
+        4 => call.sheet[whole - 1 - random.below(20)] = random.choose(&EDGES),
+        5 => call.room = random.choose(&[Room::None, Room::Short(1)]),
+        6 => call.workspace = WORKSPACE_WORDS - 1,
+        _ => {}
+    }
+}
+
 /// Mostly small sheets: damage does not need large ones.
 fn good_sheet(random: &mut Random) -> Sheet {
     if random.percent(80) { generate::tiny(random) } else { generate::sheet(random) }
+}
+
+/// A call about what may be held together, and nothing else.
+pub fn recreated(random: &mut Random) -> Call {
+    let mut call = Call { sheet: Vec::new(), workspace: WORKSPACE_WORDS, room: Room::Exact };
+    about_held(&mut call, random);
+    call
 }
 
 pub fn damaged(random: &mut Random) -> Call {
@@ -380,16 +409,18 @@ pub fn damaged(random: &mut Random) -> Call {
             }
         }
         // A total met or passed, and mostly another fault.
-        78..82 => {
+        78..80 => {
             call.sheet = generate::about_total(random).words();
             damage_total(&mut call.sheet, random);
         }
+        // As many relations held as may be, or more, and mostly another fault.
+        80..82 => about_held(&mut call, random),
         // A limit passed by one.
         82..86 => {
             let limit = if random.percent(50) {
                 random.choose(&PASSABLE)
             } else {
-                random.choose(&[Limit::Relations, Limit::Mutations, Limit::Renders])
+                random.choose(&[Limit::Relations, Limit::Entries, Limit::Mutations, Limit::Renders])
             };
             call.sheet = generate::past_limit(random, limit).words();
             if random.percent(20) {
@@ -413,8 +444,12 @@ pub fn damaged(random: &mut Random) -> Call {
                 2 => call.sheet.push(0),
                 3 => change_word(&mut call.sheet, random),
                 4 => {
-                    let limit =
-                        random.choose(&[Limit::Relations, Limit::Mutations, Limit::Renders]);
+                    let limit = random.choose(&[
+                        Limit::Relations,
+                        Limit::Entries,
+                        Limit::Mutations,
+                        Limit::Renders,
+                    ]);
                     let mut past = generate::past_limit(random, limit);
                     apply(&mut past, random);
                     call.sheet = past.words();

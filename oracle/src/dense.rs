@@ -1,8 +1,8 @@
 //! Sheets whose walks are long: chains, and graphs with as many relations as a sheet may have.
 
 use crate::plain::sheet::{
-    Block, Effect, Instruction, MAX_COUNT, MAX_IDENTIFIERS, MAX_MUTATIONS, MAX_RELATIONS, Phi,
-    Place, Sheet, Terminal,
+    Block, Effect, Instruction, MAX_COUNT, MAX_HELD, MAX_IDENTIFIERS, MAX_MUTATIONS, Phi, Place,
+    Sheet, Terminal,
 };
 use crate::random::Random;
 
@@ -81,7 +81,7 @@ pub fn random(
 pub fn twice(random: &mut Random, identifiers: usize, mutated: usize) -> Sheet {
     let mut effects: Vec<Effect> = (1..identifiers).map(|into| two(8, 0, into)).collect();
     let mut kind = 6;
-    while effects.len() < MAX_RELATIONS {
+    while effects.len() < MAX_HELD {
         let (from, into) = (random.below(identifiers), random.below(identifiers));
         effects.push(two(kind, from, into));
         kind = 13 - kind;
@@ -98,7 +98,7 @@ pub fn all() -> Vec<(&'static str, Sheet)> {
 /// The same with so many mutations.
 pub fn mutated(count: usize) -> Vec<(&'static str, Sheet)> {
     let mut r = Random::new(17);
-    let most = MAX_RELATIONS;
+    let most = MAX_HELD;
     vec![
         ("chain of 512 by aliases", chain(&mut r, 511, count)),
         ("chain of 512, and back by captures", chain(&mut r, 1022, count)),

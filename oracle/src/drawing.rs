@@ -4,10 +4,12 @@
 use crate::compare::{self, Difference, or_panic, roomy, varied};
 use crate::damage::{Call, apply};
 use crate::original_side;
+use crate::plain::building::Held;
 use crate::plain::dot::{Drawn, judge, lend};
-use crate::plain::sheet::{WORKSPACE_WORDS, read_whole};
+use crate::plain::sheet::WORKSPACE_WORDS;
+use crate::plain::{Whole, read_whole};
 use crate::random::Random;
-use crate::{cases, dense, generate, text, totals};
+use crate::{cases, dense, generate, held, text, totals};
 
 /// A further side that draws, such as our own library.
 pub trait Drawer {
@@ -21,11 +23,12 @@ pub trait Drawer {
 // Which sheets
 // =============================================================================
 
-/// The bench cases, the ranges of words, the totals, the sheets of smallest/ and drawings/, and those
+/// The bench cases, the ranges of words, the totals, what is held, the sheets of smallest/ and drawings/, and those
 /// whose walks are long.
 pub fn fixed() -> Vec<Call> {
     let mut sheets = cases::sheets();
     sheets.extend(totals::all().into_iter().map(|sheet| sheet.words));
+    sheets.extend(held::all().into_iter().map(|sheet| sheet.words));
     let texts = text::smallest().into_iter().chain(text::drawings());
     sheets.extend(texts.map(|text| text.words));
     sheets.extend(dense::all().iter().map(|(_, sheet)| sheet.words()));
@@ -103,6 +106,18 @@ pub struct Seen {
     pub difference: Option<Difference>,
 }
 
+/// How many edges and entries the original's graph has, beside what the plain implementation holds
+/// after building.
+fn compare_held(whole: &Whole) -> Option<Difference> {
+    let told = |held: &Held| vec![format!("{} edges, {} entries", held.edges, held.entries)];
+    let got = match or_panic(|| original_side::held(&whole.sheet)) {
+        Ok(held) if held == whole.built.held => return None,
+        Ok(held) => told(&held),
+        Err(message) => vec![message],
+    };
+    Some(Difference { side: "original, what is held", expected: told(&whole.built.held), got })
+}
+
 /// One sheet: the plain implementation's text beside the original's, then every side at every length.
 pub fn compare_drawing(call: &Call, drawers: &mut [Box<dyn Drawer>]) -> Seen {
     let judged = judge(&call.sheet);
@@ -112,11 +127,12 @@ pub fn compare_drawing(call: &Call, drawers: &mut [Box<dyn Drawer>]) -> Seen {
     if let Drawn::Refused(number) = lend(&judged, workspace, room) {
         seen.refusal = number;
     }
-    if let (Ok(text), Ok((sheet, verdict))) = (&judged, read_whole(&call.sheet)) {
-        seen.applies = verdict == 10;
-        let original = or_panic(|| original_side::drawing(&sheet)).map(Drawn::Text);
+    if let (Ok(text), Ok(whole)) = (&judged, read_whole(&call.sheet)) {
+        seen.applies = whole.verdict == 10;
+        let original = or_panic(|| original_side::drawing(&whole.sheet)).map(Drawn::Text);
         let expected = Ok(Drawn::Text(text.clone()));
-        seen.difference = difference("original, a drawing", expected, original, String::new());
+        seen.difference = difference("original, a drawing", expected, original, String::new())
+            .or_else(|| compare_held(&whole));
     }
     for drawer in drawers {
         for &(workspace, room) in &lengths {
@@ -166,7 +182,7 @@ mod tests {
             "faulty"
         }
         fn draw(&mut self, sheet: &[u32], workspace: usize, room: usize) -> Result<Drawn, String> {
-            let text = read_whole(sheet).map(|(sheet, _)| self.0(build(&sheet)));
+            let text = read_whole(sheet).map(|whole| self.0(whole.built));
             Ok(lend(&judge(sheet).and(text), workspace, room))
         }
     }

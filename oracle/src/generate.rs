@@ -2,11 +2,11 @@
 
 use crate::plain::sheet::{
     APPLY, Block, Diagnostic, EFFECTS, Effect, Identifier, InnerFunction, Instruction,
-    MAX_BLOCK_NUMBER, MAX_DIAGNOSTIC, MAX_MUTATIONS, MAX_ORDER, MAX_PLACES, MAX_RANGE,
-    MAX_RELATIONS, MAX_RENDERS, Phi, Place, SHEET_WORDS, Sheet, Terminal, Value, is_mutation,
-    is_relation, is_render,
+    MAX_BLOCK_NUMBER, MAX_DIAGNOSTIC, MAX_HELD, MAX_MUTATIONS, MAX_ORDER, MAX_PLACES, MAX_RANGE,
+    MAX_RENDERS, Phi, Place, SHEET_WORDS, Sheet, Terminal, Value, is_mutation, is_render,
 };
 use crate::random::Random;
+use crate::recreated::{self, fitted};
 
 /// How large the parts may become.
 struct Size {
@@ -74,13 +74,12 @@ const LARGE: Size = Size {
 /// What is left before a limit.
 struct Left {
     words: usize,
-    relations: usize,
     mutations: usize,
     renders: usize,
 }
 
 pub struct Generator<'r> {
-    random: &'r mut Random,
+    pub random: &'r mut Random,
     identifiers: usize,
     functions: usize,
     /// Identifiers drawn more often than others are those below this number.
@@ -97,7 +96,7 @@ pub struct Generator<'r> {
 }
 
 impl Generator<'_> {
-    fn identifier(&mut self) -> u32 {
+    pub fn identifier(&mut self) -> u32 {
         let limit = if self.random.percent(70) { self.hot } else { self.identifiers };
         self.random.below(limit) as u32
     }
@@ -119,7 +118,7 @@ impl Generator<'_> {
         }
     }
 
-    fn order(&mut self) -> u32 {
+    pub fn order(&mut self) -> u32 {
         if self.near && self.random.percent(90) {
             return self.random.below(7) as u32;
         }
@@ -173,13 +172,27 @@ impl Generator<'_> {
         Effect { kind, first, second, extra }
     }
 
+    /// Creations of these identifiers.
+    pub fn create_all(&mut self, from: usize, to: usize) -> Vec<Effect> {
+        let mut created: Vec<Effect> = (from..to).map(|_| self.effect_of(9)).collect();
+        for (identifier, effect) in (from as u32..).zip(&mut created) {
+            effect.first.identifier = identifier;
+        }
+        created
+    }
+
+    /// A sheet without blocks.
+    pub fn without_blocks(&mut self) -> Sheet {
+        self.sheet(&Size { blocks: 0, ..TINY })
+    }
+
     /// An effect that still fits, if one word count does.
     fn effect(&mut self, terminal: bool) -> Option<Effect> {
         if self.left.words < 8 {
             return None;
         }
         let mut kind = if terminal {
-            // Every kind may stand in a terminal; Alias is the one that counts.
+            // Every kind may stand in a terminal; Alias is the one that is stored.
             if self.random.percent(50) { 6 } else { self.random.below(18) as u32 }
         } else {
             self.kind()
@@ -189,13 +202,6 @@ impl Generator<'_> {
         }
         if kind == 13 && self.functions == 0 {
             kind = 9;
-        }
-        let counted = if terminal { kind == 6 } else { true };
-        if counted && is_relation(kind) {
-            if self.left.relations == 0 {
-                return None;
-            }
-            self.left.relations -= 1;
         }
         if !terminal && is_mutation(kind) {
             if self.left.mutations == 0 {
@@ -313,8 +319,7 @@ impl Generator<'_> {
                 _ => numbers[self.random.below(at + 1)],
             };
             let fresh = operands.iter().all(|o| o.0 != predecessor);
-            if fresh && self.left.relations > 0 && self.left.words >= 4 {
-                self.left.relations -= 1;
+            if fresh && self.left.words >= 4 {
                 self.left.words -= 4;
                 operands.push((predecessor, self.place()));
             }
@@ -324,11 +329,10 @@ impl Generator<'_> {
 
     fn block(&mut self, numbers: &[u32], at: usize, size: &Size) -> Option<Block> {
         // Number, two counts and the longest terminal.
-        if self.left.words < 10 || self.left.relations == 0 {
+        if self.left.words < 10 {
             return None;
         }
         self.left.words -= 10;
-        self.left.relations -= 1;
         let mut phis = Vec::new();
         for _ in 0..self.random.below(size.phis + 1) {
             if self.left.words >= 4 {
@@ -517,7 +521,7 @@ fn weights(random: &mut Random) -> [usize; 18] {
     weights
 }
 
-fn generator(random: &mut Random, identifiers: usize, functions: usize) -> Generator<'_> {
+pub fn generator(random: &mut Random, identifiers: usize, functions: usize) -> Generator<'_> {
     let hot = random.between(1, identifiers.min(8));
     let weights = weights(random);
     let near = random.percent(50);
@@ -532,12 +536,7 @@ fn generator(random: &mut Random, identifiers: usize, functions: usize) -> Gener
         near,
         free,
         absent,
-        left: Left {
-            words: SHEET_WORDS,
-            relations: MAX_RELATIONS,
-            mutations: MAX_MUTATIONS,
-            renders: MAX_RENDERS,
-        },
+        left: Left { words: SHEET_WORDS, mutations: MAX_MUTATIONS, renders: MAX_RENDERS },
     }
 }
 
@@ -551,7 +550,7 @@ fn sized(random: &mut Random, size: &Size) -> Sheet {
     if renders {
         generator.weights = render_weights(generator.random);
     }
-    let mut sheet = generator.sheet(size);
+    let mut sheet = fitted(generator.sheet(size));
     if renders {
         sheet.validations = true;
         sheet.function_expression = false;
@@ -569,7 +568,8 @@ pub fn sheet(random: &mut Random) -> Sheet {
     match random.below(1000) {
         0..640 => sized(random, &TINY),
         640..930 => sized(random, &SMALL),
-        930..985 => sized(random, &MIDDLE),
+        930..975 => sized(random, &MIDDLE),
+        975..985 => recreated::sheet(random),
         985..992 => sized(random, &LARGE),
         _ => {
             let limit = random.choose(&LIMITS);
@@ -600,8 +600,10 @@ pub enum Limit {
     Instructions,
     Effects,
     TerminalEffects,
+    /// Edges held, of effects and a Return, and of phi operands; entries held, more than edges.
     Relations,
     PhiRelations,
+    Entries,
     Mutations,
     Renders,
     InnerContext,
@@ -613,7 +615,7 @@ pub enum Limit {
     Diagnostics,
 }
 
-pub const LIMITS: [Limit; 21] = [
+pub const LIMITS: [Limit; 22] = [
     Limit::Identifiers,
     Limit::Functions,
     Limit::FunctionDiagnostics,
@@ -627,6 +629,7 @@ pub const LIMITS: [Limit; 21] = [
     Limit::TerminalEffects,
     Limit::Relations,
     Limit::PhiRelations,
+    Limit::Entries,
     Limit::Mutations,
     Limit::Renders,
     Limit::InnerContext,
@@ -638,8 +641,8 @@ pub const LIMITS: [Limit; 21] = [
 ];
 
 /// Those of the limits that a sheet can pass by one.
-pub const PASSABLE: [Limit; 20] = {
-    let mut limits = [Limit::Words; 20];
+pub const PASSABLE: [Limit; 21] = {
+    let mut limits = [Limit::Words; 21];
     let mut i = 0;
     while i < limits.len() {
         limits[i] = LIMITS[i];
@@ -648,7 +651,7 @@ pub const PASSABLE: [Limit; 20] = {
     limits
 };
 
-fn empty_block(number: u32) -> Block {
+pub fn empty_block(number: u32) -> Block {
     Block {
         number,
         phis: Vec::new(),
@@ -662,6 +665,8 @@ fn about_limit(random: &mut Random, limit: Limit, more: usize) -> Sheet {
     let identifiers = match limit {
         Limit::Identifiers => 512,
         Limit::Diagnostics => 256,
+        Limit::PhiRelations => random.between(70, 100),
+        Limit::Entries => random.between(40, 80),
         _ => random.between(2, 40),
     };
     let mut g = generator(random, identifiers, 3);
@@ -799,15 +804,9 @@ fn about_limit(random: &mut Random, limit: Limit, more: usize) -> Sheet {
         }
         Limit::Relations => {
             let mut block = empty_block(0);
-            let mut effects: Vec<Effect> = (0..identifiers as u32)
-                .map(|identifier| {
-                    let mut create = g.effect_of(9);
-                    create.first.identifier = identifier;
-                    create
-                })
-                .collect();
+            let mut effects = g.create_all(0, identifiers);
             for _ in 0..1_000 {
-                let kind = g.random.choose(&[5, 6, 6, 7, 8, 10]);
+                let kind = g.random.choose(&[5, 6, 6, 7, 8]);
                 effects.push(g.effect_of(kind));
                 if effects.len() < 1_000 && g.random.percent(3) {
                     let kind = g.random.between(1, 4) as u32;
@@ -824,12 +823,20 @@ fn about_limit(random: &mut Random, limit: Limit, more: usize) -> Sheet {
             sheet.blocks = vec![block];
         }
         Limit::PhiRelations => {
-            let mut block = empty_block(0);
-            for i in 0..1_024 / 16 {
-                let operands = (0..16).map(|o| ((i + o) % 20, g.place())).collect();
-                block.phis.push(Phi { place: g.place(), operands });
+            // All predecessors have come. The phis are the identifiers below 64, their operands others.
+            let mut blocks: Vec<Block> = (0..20).map(empty_block).collect();
+            blocks[0].instructions.push(Instruction::plain(1, g.create_all(0, identifiers)));
+            let mut block = empty_block(20);
+            for i in 0..MAX_HELD as u32 / 16 {
+                let mut operand = || {
+                    let identifier = g.random.between(64, identifiers - 1) as u32;
+                    Place { identifier, ..g.place() }
+                };
+                let operands = (0..16).map(|o| ((i + o) % 20, operand())).collect();
+                let place = Place { identifier: i, ..g.place() };
+                block.phis.push(Phi { place, operands });
             }
-            let mut last = empty_block(1);
+            let mut last = empty_block(21);
             for _ in 0..more {
                 let value = g.place();
                 last.terminal = Terminal::Return { order: 5, value, effects: Vec::new() };
@@ -841,7 +848,47 @@ fn about_limit(random: &mut Random, limit: Limit, more: usize) -> Sheet {
                 })
                 .collect();
             last.instructions.push(Instruction::plain(4, mutations));
-            sheet.blocks = vec![block, last];
+            blocks.extend([block, last]);
+            sheet.blocks = blocks;
+        }
+        Limit::Entries => {
+            // CreateFrom without a node at "from" holds an entry alone; then every relation is
+            // another one.
+            sheet.params.clear();
+            sheet.context.clear();
+            let missing = identifiers as u32 - 1;
+            sheet.returns.identifier = 0;
+            let mut block = empty_block(0);
+            let mut created: Vec<Effect> = (0..missing).map(|_| g.effect_of(10)).collect();
+            for (into, effect) in (0..).zip(&mut created) {
+                effect.first.identifier = missing;
+                effect.second.identifier = into;
+            }
+            block.instructions.push(Instruction::plain(1, created));
+            let mut pairs: Vec<(u32, u32, u32)> = Vec::new();
+            while pairs.len() < MAX_HELD - missing as usize + more {
+                let node = |g: &mut Generator| g.random.below(missing as usize) as u32;
+                let kind = g.random.choose(&[5, 6, 7]);
+                let pair = (kind, node(&mut g), node(&mut g));
+                if !pairs.contains(&pair) {
+                    pairs.push(pair);
+                }
+            }
+            let mut effects: Vec<Effect> = Vec::new();
+            for (kind, from, into) in pairs {
+                let mut effect = g.effect_of(kind);
+                effect.first.identifier = from;
+                effect.second.identifier = into;
+                effects.push(effect);
+            }
+            let mutations = (0..20).map(|_| g.random.between(1, 4) as u32);
+            let mutations: Vec<u32> = mutations.collect();
+            effects.extend(mutations.into_iter().map(|kind| g.effect_of(kind)));
+            for part in effects.chunks(500) {
+                let order = g.order();
+                block.instructions.push(Instruction::plain(order, part.to_vec()));
+            }
+            sheet.blocks = vec![block];
         }
         Limit::Mutations => {
             let mut block = empty_block(0);
@@ -902,8 +949,6 @@ fn about_limit(random: &mut Random, limit: Limit, more: usize) -> Sheet {
 /// What a total counts, and how it is filled.
 #[derive(Clone, Copy, PartialEq, Eq)]
 enum Fill {
-    Operands,
-    Relations,
     Mutations,
     Renders,
 }
@@ -912,7 +957,6 @@ impl Fill {
     /// Effects that count to the total.
     fn kinds(self) -> &'static [u32] {
         match self {
-            Fill::Operands | Fill::Relations => &[5, 6, 7, 8, 10],
             Fill::Mutations => &[1, 2, 3, 4],
             Fill::Renders => &[17],
         }
@@ -924,10 +968,9 @@ impl Fill {
 pub fn about_total(random: &mut Random) -> Sheet {
     let identifiers = random.between(2, 16);
     let mut g = generator(random, identifiers, 2);
-    let mut sheet = g.sheet(&Size { blocks: 0, ..TINY });
-    let fill = g.random.choose(&[Fill::Operands, Fill::Relations, Fill::Mutations, Fill::Renders]);
+    let mut sheet = g.without_blocks();
+    let fill = g.random.choose(&[Fill::Mutations, Fill::Renders]);
     let total = match fill {
-        Fill::Operands | Fill::Relations => MAX_RELATIONS,
         Fill::Mutations => MAX_MUTATIONS,
         Fill::Renders => MAX_RENDERS,
     };
@@ -938,21 +981,15 @@ pub fn about_total(random: &mut Random) -> Sheet {
     while left > 0 {
         let part = left.min(g.random.between(1, 400));
         left -= part;
-        if fill == Fill::Operands {
-            let base = g.random.below(60_000) as u32;
-            let operands = (base..).take(part).map(|number| (number, g.place())).collect();
-            filled.phis.push(Phi { place: g.place(), operands });
-        } else {
-            let kinds: Vec<u32> = (0..part).map(|_| g.random.choose(fill.kinds())).collect();
-            let effects = kinds.into_iter().map(|kind| g.effect_of(kind)).collect();
-            let order = g.order();
-            filled.instructions.push(Instruction::plain(order, effects));
-        }
+        let kinds: Vec<u32> = (0..part).map(|_| g.random.choose(fill.kinds())).collect();
+        let effects = kinds.into_iter().map(|kind| g.effect_of(kind)).collect();
+        let order = g.order();
+        filled.instructions.push(Instruction::plain(order, effects));
     }
     sheet.blocks = vec![filled];
     // From here on nothing but the words has a limit.
     let words = SHEET_WORDS - sheet.words().len();
-    g.left = Left { words, relations: usize::MAX, mutations: usize::MAX, renders: usize::MAX };
+    g.left = Left { words, mutations: usize::MAX, renders: usize::MAX };
     fill.kinds().iter().for_each(|&kind| g.weights[kind as usize] += 3);
     sheet.blocks.extend((1..count).map_while(|at| g.block(&numbers, at, &SMALL)));
     sheet

@@ -48,7 +48,7 @@ fn titles(picture: &str, class: &str) -> Vec<String> {
 /// How many nodes and edges a sheet's drawing has, if its picture has the same nodes, the same edges
 /// and the same texts beside them.
 pub fn compare_picture(sheet: &Sheet) -> Result<(usize, usize), String> {
-    let built = build(sheet);
+    let built = build(sheet).map_err(|refusal| format!("refused {refusal}"))?;
     let picture = picture(&dot(&built))?;
     let (mut nodes, mut edges, mut texts) = (Vec::new(), Vec::new(), Vec::new());
     for (id, node) in built.nodes.iter().enumerate().filter_map(|(id, n)| Some((id, n.as_ref()?))) {

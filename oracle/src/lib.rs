@@ -13,6 +13,7 @@ pub mod drawing;
 pub mod forms;
 pub mod generate;
 pub mod graphviz;
+pub mod held;
 pub mod load;
 pub mod original_side;
 #[cfg(feature = "service")]
@@ -20,6 +21,7 @@ pub mod ours;
 pub mod plain;
 pub mod program;
 pub mod random;
+pub mod recreated;
 pub mod replay;
 pub mod text;
 pub mod totals;

@@ -24,6 +24,7 @@ use oxc_span::Span;
 use oxc_str::Ident;
 
 use crate::forms;
+use crate::plain::building::Held;
 use crate::plain::{self, sheet};
 
 const EFFECTS: [Effect; 8] = [
@@ -509,6 +510,17 @@ pub fn graph(sheet: &sheet::Sheet) -> BuiltGraph {
     let allocator = Allocator::new();
     let Prepared { mut func, mut env, is_function_expression, .. } = prepare(sheet, &allocator);
     built_graph(&mut func, &mut env, is_function_expression)
+}
+
+/// How many edges and entries that graph has.
+pub fn held(sheet: &sheet::Sheet) -> Held {
+    let mut held = Held::default();
+    for node in graph(sheet).nodes.values() {
+        held.edges += node.edges.len();
+        let lists = [&node.created_from, &node.aliases, &node.maybe_aliases, &node.captures];
+        held.entries += lists.iter().map(|list| list.len()).sum::<usize>();
+    }
+    held
 }
 
 /// The lines of document 02, order 6, for that graph.

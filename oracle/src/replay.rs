@@ -12,6 +12,7 @@ use crate::compare::{compare, roomy};
 use crate::damage::damaged;
 use crate::dense;
 use crate::generate::{self, LIMITS, Limit, PASSABLE};
+use crate::held;
 use crate::plain::{self, Outcome, sheet::WORKSPACE_WORDS};
 use crate::random::Random;
 use crate::text;
@@ -57,7 +58,7 @@ fn record(sheet: &[u32]) -> Recorded {
 
 /// Whether sheets at the limit and past it are among those of case 9.
 fn is_of_case_9(limit: &Limit) -> bool {
-    matches!(limit, Limit::Relations | Limit::PhiRelations)
+    matches!(limit, Limit::Relations | Limit::PhiRelations | Limit::Entries)
 }
 
 /// Whether sheets past the limit are among those about the totals.
@@ -66,8 +67,8 @@ fn is_total(limit: &Limit) -> bool {
 }
 
 /// The bench cases, the order of refusals, every word at the end of its range and past it, the
-/// sheets of `smallest/`, those at each limit and one past it, those about the totals, those whose
-/// walks are long, and `count` accepted and `count` damaged sheets from a fixed seed.
+/// sheets of `smallest/`, those at each limit and one past it, those about the totals and about what is
+/// held, those whose walks are long, and `count` accepted and `count` damaged sheets from a fixed seed.
 pub fn records(count: usize) -> Vec<Recorded> {
     let mut random = Random::new(15);
     let mut sheets = cases::sheets();
@@ -79,6 +80,7 @@ pub fn records(count: usize) -> Vec<Recorded> {
         sheets.push(generate::past_limit(&mut random, limit).words());
     }
     sheets.extend(totals::chief().into_iter().map(|sheet| sheet.words));
+    sheets.extend(held::chief().into_iter().map(|sheet| sheet.words));
     sheets.extend(dense::mutated(LONG_WALKS).iter().map(|(_, sheet)| sheet.words()));
     let good = std::iter::from_fn(|| Some(generate::sheet(&mut random).words()));
     sheets.extend(good.filter(|words| words.len() <= LONGEST).take(count));

@@ -1,5 +1,7 @@
 //! Sheets just at and just over a total, with a fault before, at and behind the word that passes it
-//! (document 02, order 7). The refusals are written by hand, from the document's text.
+//! (document 02, order 7); and the same of 1,024 relations, which are no total of the reading since
+//! order 10: here none of them is held, so that each fault has its own refusal. The refusals are written
+//! by hand, from the document's text. What is held has `src/held.rs`.
 
 use crate::boundaries::Boundary;
 
@@ -19,7 +21,7 @@ struct Counted {
 type Fault = (&'static str, isize, u32, u32);
 
 /// Two identifiers, the second of which is returned, and so many blocks. The first has no node, so
-/// that relations from it are skipped; they count all the same.
+/// that relations from it are skipped.
 fn head(blocks: u32) -> Vec<u32> {
     vec![2, 0, 1, 2, 0, 0, 0, 0, 0, 0, 0, 0, 0, 1, 1, 0, 0, blocks]
 }
@@ -121,13 +123,14 @@ fn named(name: &str, what: &str, words: &[u32], refusal: u32) -> Boundary {
     Boundary { name: format!("{name}: {what}"), words: words.to_vec(), refusal }
 }
 
-/// The sheet cut before the word that passes a total and right behind it, and these faults.
-fn around(name: &str, passed: &Counted, faults: &[Fault]) -> Vec<Boundary> {
+/// The sheet cut before the word that passes a total and right behind it, where it is refused `behind`;
+/// and these faults.
+fn around(name: &str, passed: &Counted, behind: u32, faults: &[Fault]) -> Vec<Boundary> {
     let at = passed.before.len();
     let words = passed.words();
     let mut sheets = vec![
         named(name, "the end before the word that passes", &words[..at], 3),
-        named(name, "the end behind the word that passes", &words[..=at], 8),
+        named(name, "the end behind the word that passes", &words[..=at], behind),
     ];
     for &(what, by, word, refusal) in faults {
         let mut words = words.clone();
@@ -147,16 +150,27 @@ fn whole(name: &str, total: usize, make: impl Fn(usize) -> Counted) -> Vec<Bound
     ]
 }
 
+/// 1,024 relations and one more, of which none is held.
+fn more_relations(name: &str, make: impl Fn(usize) -> Counted) -> Vec<Boundary> {
+    let words = make(RELATIONS).words();
+    vec![
+        named(name, "1,024 of them", &make(RELATIONS - 1).words(), 0),
+        named(name, "1,025 of them", &words, 0),
+        named(name, "words follow", &[&words[..], &[0]].concat(), 7),
+    ]
+}
+
 fn operands() -> Vec<Boundary> {
     around(
         "a phi operand",
         &Counted::operand(RELATIONS),
+        3,
         &[
             ("traits of the operand before", -2, 16, 5),
             ("its number out of range", 0, 65_536, 5),
             ("its number again", 0, 7, 6),
-            ("its identifier", 1, 2, 8),
-            ("the count of instructions", 4, 1_025, 8),
+            ("its identifier", 1, 2, 5),
+            ("the count of instructions", 4, 1_025, 4),
         ],
     )
 }
@@ -165,12 +179,13 @@ fn returns() -> Vec<Boundary> {
     around(
         "the value of a Return",
         &Counted::returned(RELATIONS),
+        3,
         &[
             ("the terminal's kind", -2, 3, 5),
             ("the terminal's order", -1, 1_000_000, 5),
             ("its identifier", 0, 2, 5),
-            ("its traits", 1, 16, 8),
-            ("the count of effects", 3, 1_025, 8),
+            ("its traits", 1, 16, 5),
+            ("the count of effects", 3, 1_025, 4),
         ],
     )
 }
@@ -179,18 +194,20 @@ fn terminals() -> Vec<Boundary> {
     let of_return = around(
         "an Alias of a Return",
         &Counted::of_return(6, RELATIONS),
+        3,
         &[
             ("the value's traits", -3, 16, 5),
             ("the count of effects", -1, 1_025, 4),
             ("its kind", 0, 18, 5),
-            ("its first place", 1, 2, 8),
-            ("the count of operands", 8, 1, 8),
+            ("its first place", 1, 2, 5),
+            ("the count of operands", 8, 1, 4),
         ],
     );
     let of_maybe_throw = around(
         "an Alias of a MaybeThrow",
         &Counted::of_maybe_throw(6, RELATIONS),
-        &[("the terminal's order", -2, 1_000_000, 5), ("its extra word", 7, 1, 8)],
+        3,
+        &[("the terminal's order", -2, 1_000_000, 5), ("its extra word", 7, 1, 5)],
     );
     [of_return, of_maybe_throw].concat()
 }
@@ -203,13 +220,14 @@ fn relations() -> Vec<Boundary> {
     around(
         "a relation of an instruction",
         &Counted::behind_phi(5, RELATIONS),
+        3,
         &[
             ("the instruction's order", -8, 1_000_000, 5),
             ("the count of effects", -1, 1_025, 4),
             ("its kind", 0, 18, 5),
-            ("its first place", 1, 2, 8),
-            ("traits of its second place", 5, 16, 8),
-            ("its extra word", 7, 1, 8),
+            ("its first place", 1, 2, 5),
+            ("traits of its second place", 5, 16, 5),
+            ("its extra word", 7, 1, 5),
         ],
     )
 }
@@ -218,6 +236,7 @@ fn mutations() -> Vec<Boundary> {
     around(
         "a mutation",
         &Counted::behind_effects(&MUTATION_KINDS, 1, MUTATIONS),
+        8,
         &[
             ("the extra word of the one before", -1, 1, 5),
             ("its kind", 0, 18, 5),
@@ -233,6 +252,7 @@ fn renders() -> Vec<Boundary> {
     let mut sheets = around(
         "a render",
         &passed,
+        8,
         &[
             ("the extra word of the one before", -1, 1, 5),
             ("the kind of the one before", -8, 18, 5),
@@ -285,7 +305,8 @@ fn uncounted() -> Vec<Boundary> {
     ]
 }
 
-/// The three totals met in one sheet, the relations from everything that counts; then one more.
+/// Both totals met in one sheet, with 1,024 relations that are not held, from everything that relates;
+/// then one more.
 fn together() -> Vec<Boundary> {
     let count = RELATION_KINDS.len() + MUTATIONS + RENDERS;
     let kinds =
@@ -311,11 +332,11 @@ fn together() -> Vec<Boundary> {
     let one = |kind| [&[1][..], &instruction(1), &[kind]].concat();
     vec![
         sheet("no more", &[&[0][..], &OTHER].concat(), 0),
-        sheet("one more relation", &one(6), 8),
         sheet("one more mutation", &one(2), 8),
         sheet("one more render", &one(RENDER), 8),
-        sheet("one more Return", &[0, 1, 2, 1], 8),
-        sheet("one more Alias of a terminal", &[0, 2, 2, 1, 6], 8),
+        sheet("one more relation", &one(6), 3),
+        sheet("one more Return", &[0, 1, 2, 1], 3),
+        sheet("one more Alias of a terminal", &[0, 2, 2, 1, 6], 3),
     ]
 }
 
@@ -324,19 +345,20 @@ fn together() -> Vec<Boundary> {
 fn further() -> Vec<Boundary> {
     let mutation = |kind| Counted::behind_effects(&MUTATION_KINDS, kind, MUTATIONS);
     let mut sheets = [
-        whole("a phi operand", RELATIONS, Counted::operand),
-        whole("the value of a Return", RELATIONS, Counted::returned),
-        whole("an Alias of a Return", RELATIONS, |n| Counted::of_return(6, n)),
-        whole("an Alias of a MaybeThrow", RELATIONS, |n| Counted::of_maybe_throw(6, n)),
-        whole("a relation", RELATIONS, |n| Counted::behind_instruction(&RELATION_KINDS, 5, n)),
+        more_relations("a phi operand", Counted::operand),
+        more_relations("the value of a Return", Counted::returned),
+        more_relations("an Alias of a Return", |n| Counted::of_return(6, n)),
+        more_relations("an Alias of a MaybeThrow", |n| Counted::of_maybe_throw(6, n)),
+        more_relations("a relation", |n| Counted::behind_instruction(&[5, 6, 7], 5, n)),
         whole("a mutation", MUTATIONS, |n| Counted::behind_effects(&MUTATION_KINDS, 1, n)),
     ]
     .concat();
     for kind in RELATION_KINDS {
-        sheets.extend(around(&format!("kind {kind}"), &Counted::behind_phi(kind, RELATIONS), &[]));
+        let name = format!("kind {kind}");
+        sheets.extend(around(&name, &Counted::behind_phi(kind, RELATIONS), 3, &[]));
     }
     for kind in MUTATION_KINDS {
-        sheets.extend(around(&format!("kind {kind}"), &mutation(kind), &[]));
+        sheets.extend(around(&format!("kind {kind}"), &mutation(kind), 8, &[]));
     }
     let render = Counted::behind_effects(&[RENDER], RENDER, RENDERS).words();
     for (length, refusal) in [(16_384, 8), (16_385, 2)] {
@@ -349,10 +371,12 @@ fn further() -> Vec<Boundary> {
 
 /// Those that `replay` has: sheets over a total are long.
 pub fn chief() -> Vec<Boundary> {
-    let sheets = [operands(), returns(), terminals(), relations(), mutations(), renders()];
-    [sheets.concat(), uncounted(), together()[..2].to_vec()].concat()
+    let sheets = [mutations(), renders(), uncounted(), together()[..3].to_vec()];
+    let ends = [operands(), returns(), terminals(), relations()];
+    [sheets.concat(), ends.map(|sheets| sheets[..2].to_vec()).concat()].concat()
 }
 
 pub fn all() -> Vec<Boundary> {
-    [chief(), together()[2..].to_vec(), further()].concat()
+    let relations = [operands(), returns(), terminals(), relations()].concat();
+    [mutations(), renders(), uncounted(), together(), relations, further()].concat()
 }

@@ -12,7 +12,7 @@ use Rattle.model.specs.Limits.{mostIdentifiers}
 use Rattle.model.specs.Lists.{pick}
 use Rattle.building.specs.Logs.{Logs, ownerW, without, anyW, onceW, Clean, createL, edgeL, entryL}
 
-without-last : (t x w : ℕ) → (ownerW t w ≡ x → ⊥) → (l : List ℕ) → without t x (l ++ (w ∷ [])) ≡ without t x l ++ (w ∷ [])
+pub without-last : (t x w : ℕ) → (ownerW t w ≡ x → ⊥) → (l : List ℕ) → without t x (l ++ (w ∷ [])) ≡ without t x l ++ (w ∷ [])
 unfolding without
 without-last t x w h [] = rw (ne-eqb (ownerW t w) x h)
 without-last t x w h (v ∷ l) = go (without-last t x w h l) (eqb (ownerW t v) x)
@@ -29,7 +29,7 @@ without-in : (t x w : ℕ) (l : List ℕ) → (ownerW t w ≡ x → ⊥) → wit
 unfolding without
 without-in t x w l e = rw (ne-eqb (ownerW t w) x e)
 
-without-swap : (t x y : ℕ) (l : List ℕ) → without t x (without t y l) ≡ without t y (without t x l)
+pub without-swap : (t x y : ℕ) (l : List ℕ) → without t x (without t y l) ≡ without t y (without t x l)
 without-swap t x y [] = nil
   where
     nil : without t x (without t y []) ≡ without t y (without t x [])

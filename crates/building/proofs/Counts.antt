@@ -9,12 +9,12 @@ use mathlib.Core.Path.{_≡_, refl, sym, ap, _∙_}
 use lib.ListN.{length, getD, length-map}
 use lib.Seq.{length-slice}
 use lib.Dec.{eqb}
-use Rattle.model.specs.Limits.{mostIdentifiers}
+use Rattle.model.specs.Limits.{mostIdentifiers, mostRelations}
 use Rattle.model.specs.Lists.{pick}
 use Rattle.model.specs.Graph.{Node, Graph}
 use Rattle.model.specs.Size.{nodeEdges, nodeEntries, edges, entries}
 use Rattle.workspace.specs.Rows.{mostLists}
-use Rattle.workspace.specs.Layout.{EDGES, ENTRIES}
+use Rattle.workspace.specs.Layout.{LEAST, EDGES, ENTRIES}
 use Rattle.workspace.specs.Sort.{keyW, wordW, sel, cnt, low}
 use Rattle.workspace.specs.Graph.{edgeRow, entryRow, nodeOf, tab}
 use Rattle.workspace.proofs.Counting.{low-suc, low-zero, low-all}
@@ -22,7 +22,7 @@ use Rattle.workspace.proofs.Rows.{keys₀, keys₁}
 use Rattle.workspace.proofs.Graph.{node-some, node-none}
 use Rattle.building.specs.declared.Held.{Held}
 use Rattle.building.specs.Logs.{Logs, graphOfLogs, Clean}
-use Rattle.building.specs.Held.{logsOf, graphOf, Room}
+use Rattle.building.specs.Held.{logsOf, graphOf}
 use Rattle.building.proofs.Words.{sel-own, key-edge, key-entry}
 
 edges-last : (g : Graph) (o : Option Node) → edges (g ++ (o ∷ [])) ≡ edges g + nodeEdges o
@@ -100,20 +100,20 @@ module _ (s : Logs) (clean : Clean s) where
   entries-below zero h = sym (low-zero 1 (s .entries))
   entries-below (suc n) h = omega (arith, entries-last (tab n node) (node n), entries-below n (omega arith), entries-at n h, four n)
 
-  logs-edges : edges (graphOfLogs s) ≡ length (s .edges)
+  pub logs-edges : edges (graphOfLogs s) ≡ length (s .edges)
   unfolding graphOfLogs
   logs-edges = edges-below mostIdentifiers (omega arith) ∙ low-all 0 mostIdentifiers keys₀ (s .edges)
 
-  logs-entries : entries (graphOfLogs s) ≡ length (s .entries)
+  pub logs-entries : entries (graphOfLogs s) ≡ length (s .entries)
   unfolding graphOfLogs
   logs-entries = entries-below mostIdentifiers (omega arith) ∙ low-all 1 mostLists keys₁ (s .entries)
 
 -- ---- in the workspace
-module _ (ws : List ℕ) (h : Held) (room : Room 0 0 ws h) where
+module _ (ws : List ℕ) (h : Held) (clean : Clean (logsOf ws h)) (size : LEAST ≤ length ws) (few : h .edges ≤ mostRelations) (few′ : h .entries ≤ mostRelations) where
   pub held-edges : edges (graphOf ws h) ≡ h .edges
   unfolding graphOf
-  held-edges = logs-edges (logsOf ws h) (room .clean) ∙ length-slice EDGES (EDGES + h .edges) ws (omega (arith, room .size, room .edges)) ∙ omega arith
+  held-edges = logs-edges (logsOf ws h) clean ∙ length-slice EDGES (EDGES + h .edges) ws (omega (arith, size, few)) ∙ omega arith
 
   pub held-entries : entries (graphOf ws h) ≡ h .entries
   unfolding graphOf
-  held-entries = logs-entries (logsOf ws h) (room .clean) ∙ length-slice ENTRIES (ENTRIES + h .entries) ws (omega (arith, room .size, room .entries)) ∙ omega arith
+  held-entries = logs-entries (logsOf ws h) clean ∙ length-slice ENTRIES (ENTRIES + h .entries) ws (omega (arith, size, few′)) ∙ omega arith

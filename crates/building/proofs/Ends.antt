@@ -25,9 +25,8 @@ use Rattle.building.specs.Logs.{graphOfLogs, without, Clean}
 use Rattle.building.specs.Held.{valuesOf, logsOf, graphOf, Laid}
 use Rattle.building.specs.Phis.{phisOf, waitingOf, Known}
 use Rattle.building.specs.Built.{comeOf, builtOf, Sound, Holding, nothing, Starts, LaysOut}
-use Rattle.building.proofs.Writes.{logs-eq}
+use Rattle.building.proofs.Holds.{logs-eq}
 use Rattle.building.proofs.Operands.{built-eq}
-use Rattle.building.proofs.Stages.{room-none}
 use Rattle.building.proofs.Counts.{held-edges, held-entries}
 
 -- ---- the start
@@ -37,7 +36,7 @@ tab-all n f a h =
     (λ i k. let q : i < n = omega (arith, tab-length n f) in tab-at n f i a q ∙ h i q ∙ sym (getD-replicate n i a a q))
 
 abbrev none-held : Held
-none-held = record { edges = 0; entries = 0 }
+none-held = record { edges = 0; entries = 0; most = 0 }
 
 abbrev none-built : Building
 none-built = record { held = none-held; phis = 0; come = 0; relations = 0; mutations = 0; renders = 0 }
@@ -71,25 +70,26 @@ module _ (ws ws′ : List ℕ) (size : LEAST ≤ length ws) (is : ws′ ≡ clea
 
   none-yet : (s : List ℕ) → builtOf s ws′ none-built ≡ nothing
   unfolding builtOf comeOf mutationsOf rendersOf tab
-  none-yet s = built-eq no-graph refl refl (no-operands s) refl refl
+  none-yet s = built-eq no-graph refl refl refl (no-operands s) refl refl
 
   none-held-yet : (s : List ℕ) → length s ≤ mostSheet → Holding s ws′ none-built
-  unfolding builtOf
-  none-held-yet s h =
-      let w = ap length (no-operands s) in
-      record { short = h; phis = subst (Every (Known s)) (sym (slice-empty PHIS ws′)) tt; edges = omega (arith, w); entries = omega (arith, w) }
+  none-held-yet s h = record { short = h; phis = subst (Every (Known s)) (sym (slice-empty PHIS ws′)) tt }
 
   pub started : Starts ws ws′ none-built
   started = record {
     built = none-yet;
     holding = none-held-yet;
     sound = record {
-      size = omega (arith, cleared .same);
-      clean = subst Clean (sym no-logs) (clean-nil (valuesOf ws′));
-      edges = omega arith;
-      entries = omega arith;
+      room = record {
+        size = omega (arith, cleared .same);
+        edges = omega arith;
+        entries = omega arith;
+        held = λ a. (omega arith, omega arith);
+        clean = subst Clean (sym no-logs) (clean-nil (valuesOf ws′));
+        marked = λ x b z. ap (without 0 x) (slice-empty EDGES ws′) ∙ without-nil 0 x ∙ sym (slice-empty EDGES ws′);
+      };
       phis = omega arith;
-      relations = omega arith;
+      indexes = omega arith;
       mutations = omega arith;
       renders = omega arith;
       come = omega arith;
@@ -109,8 +109,8 @@ module _ (ws : List ℕ) (b : Building) (sound : Sound ws b) (ws′ : List ℕ) 
   laid-out = record {
     indexed = s .indexed;
     graph = s .graph;
-    edges = s .edges ∙ sym (held-edges ws (b .held) (room-none ws b sound));
-    entries = s .entries ∙ sym (held-entries ws (b .held) (room-none ws b sound));
+    edges = s .edges ∙ sym (held-edges ws (b .held) (sound .room .clean) (sound .room .size) (sound .room .edges) (sound .room .entries));
+    entries = s .entries ∙ sym (held-entries ws (b .held) (sound .room .clean) (sound .room .size) (sound .room .edges) (sound .room .entries));
     mutations = mutations-kept ws ws′ (b .mutations) (drop-more QUEUE MUTATIONS ws′ ws (omega arith) (s .high));
     renders = renders-kept ws ws′ (b .renders) (drop-more QUEUE RENDERS ws′ ws (omega arith) (s .high));
     low = s .low;

@@ -6,7 +6,7 @@ use mathlib.Core.List.{List}
 use mathlib.Core.Path.{_≡_, sym, ap, subst, _∙_}
 use lib.ListN.{length, getD, take}
 use lib.Seq.{slice}
-use Rattle.model.specs.Limits.{mostIdentifiers, mostRelations}
+use Rattle.model.specs.Limits.{mostIdentifiers}
 use Rattle.workspace.specs.Layout.{LEAST, VALUE, FBOUND, FEDGE, BBOUND, BENTRY, QUEUE, EDGES, ENTRIES}
 use Rattle.workspace.specs.Rows.{rowsOf, mostLists, value, fb, bb, rowF, rowB, Good}
 use Rattle.workspace.specs.Sort.{sel, low, Lay, logOf, Sorted}
@@ -20,13 +20,7 @@ use Rattle.building.specs.declared.Held.{Held}
 use Rattle.building.specs.Logs.{graphOfLogs}
 use Rattle.building.specs.Held.{valuesOf, graphOf, Room, Laid}
 
-module _ (ws : List ℕ) (h : Held) (room : Room 0 0 ws h) where
-  few-e : h .edges ≤ mostRelations
-  few-e = omega (arith, room .edges)
-
-  few-n : h .entries ≤ mostRelations
-  few-n = omega (arith, room .entries)
-
+module _ (ws : List ℕ) (h : Held) (room : Room ws h) where
   E : List ℕ
   E = logOf ws EDGES (h .edges)
 
@@ -35,19 +29,19 @@ module _ (ws : List ℕ) (h : Held) (room : Room 0 0 ws h) where
 
   E-length : length E ≡ h .edges
   unfolding E
-  E-length = log-length ws EDGES (h .edges) (omega (arith, few-e, room .size))
+  E-length = log-length ws EDGES (h .edges) (omega (arith, room .edges, room .size))
 
   N-length : length N ≡ h .entries
   unfolding N
-  N-length = log-length ws ENTRIES (h .entries) (omega (arith, few-n, room .size))
+  N-length = log-length ws ENTRIES (h .entries) (omega (arith, room .entries, room .size))
 
   pub lay-edges : Lay ws 0 FBOUND mostIdentifiers EDGES (h .edges)
   unfolding E
   lay-edges = record {
-    few = few-e;
+    few = room .edges;
     bounds = omega arith;
-    after = omega (arith, few-e);
-    fits = omega (arith, few-e, room .size);
+    after = omega (arith, room .edges);
+    fits = omega (arith, room .edges, room .size);
     keys = low-all 0 mostIdentifiers keys₀ E ∙ E-length;
     small = omega arith;
   }
@@ -55,14 +49,14 @@ module _ (ws : List ℕ) (h : Held) (room : Room 0 0 ws h) where
   module _ (ws₁ : List ℕ) (s₁ : Sorted ws 0 FBOUND mostIdentifiers EDGES (h .edges) ws₁) where
     log₁ : logOf ws₁ ENTRIES (h .entries) ≡ N
     unfolding N
-    log₁ = kept-log (s₁ .kept) ENTRIES (h .entries) (omega (arith, few-e))
+    log₁ = kept-log (s₁ .kept) ENTRIES (h .entries) (omega (arith, room .edges))
 
     pub lay-entries : Lay ws₁ 1 BBOUND mostLists ENTRIES (h .entries)
     lay-entries = record {
-      few = few-n;
+      few = room .entries;
       bounds = omega arith;
-      after = omega (arith, few-n);
-      fits = omega (arith, few-n, room .size, s₁ .kept .same);
+      after = omega (arith, room .entries);
+      fits = omega (arith, room .entries, room .size, s₁ .kept .same);
       keys = ap (low 1 mostLists) log₁ ∙ low-all 1 mostLists keys₁ N ∙ N-length;
       small = omega arith;
     }
@@ -103,10 +97,10 @@ module _ (ws : List ℕ) (h : Held) (room : Room 0 0 ws h) where
       good = record {
         f-in = λ k q. omega (arith, f-word ws₂ long 0 (omega arith), f-all, f-word ws₂ long k q, f-bound k q);
         f-up = λ k q. omega (arith, fb-is k (omega (arith, q)), fb-is (k + 1) (omega (arith, q)), next 0 k E, low-suc 0 k E);
-        f-top = λ k q. omega (arith, fb-is k q, low-le 0 k E, E-length, few-e);
+        f-top = λ k q. omega (arith, fb-is k q, low-le 0 k E, E-length, room .edges);
         b-in = λ k q. omega (arith, b-word ws₂ long 0 (omega arith), b-all, b-word ws₂ long k q, b-bound k q);
         b-up = λ k q. omega (arith, bb-is k (omega (arith, q)), bb-is (k + 1) (omega (arith, q)), next 1 k N, low-suc 1 k N);
-        b-top = λ k q. omega (arith, bb-is k q, low-le 1 k N, N-length, few-n);
+        b-top = λ k q. omega (arith, bb-is k q, low-le 1 k N, N-length, room .entries);
       }
 
       s₁-rows : (x : ℕ) → x < mostIdentifiers → slice (FEDGE + low 0 x E) (FEDGE + low 0 (suc x) E) ws₁ ≡ sel 0 x E
@@ -115,13 +109,13 @@ module _ (ws : List ℕ) (h : Held) (room : Room 0 0 ws h) where
 
       row-edges : (x : ℕ) → x < mostIdentifiers → rowF (rowsOf ws₂) x ≡ sel 0 x E
       row-edges x q =
-          sym (rowF-at ws₂ long x (low 0 x E) (low 0 (suc x) E) (sym (fb-is x (omega arith))) (sym (fb-is (x + 1) (omega arith) ∙ next 0 x E)) (omega (arith, low-le 0 (suc x) E, E-length, few-e)))
-          ∙ slice-take BBOUND (FEDGE + low 0 x E) (FEDGE + low 0 (suc x) E) ws₂ ws₁ (omega (arith, low-le 0 (suc x) E, E-length, few-e)) (s₂ .kept .low)
+          sym (rowF-at ws₂ long x (low 0 x E) (low 0 (suc x) E) (sym (fb-is x (omega arith))) (sym (fb-is (x + 1) (omega arith) ∙ next 0 x E)) (omega (arith, low-le 0 (suc x) E, E-length, room .edges)))
+          ∙ slice-take BBOUND (FEDGE + low 0 x E) (FEDGE + low 0 (suc x) E) ws₂ ws₁ (omega (arith, low-le 0 (suc x) E, E-length, room .edges)) (s₂ .kept .low)
           ∙ s₁-rows x q
 
       row-entries : (k : ℕ) → k < mostLists → rowB (rowsOf ws₂) k ≡ sel 1 k N
       row-entries k q =
-          sym (rowB-at ws₂ long k (low 1 k N) (low 1 (suc k) N) (sym (bb-is k (omega arith))) (sym (bb-is (k + 1) (omega arith) ∙ next 1 k N)) (omega (arith, low-le 1 (suc k) N, N-length, few-n)))
+          sym (rowB-at ws₂ long k (low 1 k N) (low 1 (suc k) N) (sym (bb-is k (omega arith))) (sym (bb-is (k + 1) (omega arith) ∙ next 1 k N)) (omega (arith, low-le 1 (suc k) N, N-length, room .entries)))
           ∙ subst (λ (l : List ℕ). slice (BENTRY + low 1 k l) (BENTRY + low 1 (suc k) l) ws₂ ≡ sel 1 k l) log₁ (s₂ .rows k q)
 
       same-node : (x : ℕ) → x < mostIdentifiers → nodeOf (rowsOf ws₂) (rowF (rowsOf ws₂)) (rowB (rowsOf ws₂)) x ≡ nodeOf (valuesOf ws) (λ y. sel 0 y E) (λ k. sel 1 k N) x
@@ -143,6 +137,6 @@ module _ (ws : List ℕ) (h : Held) (room : Room 0 0 ws h) where
         edges = fb-is mostIdentifiers (omega arith) ∙ low-all 0 mostIdentifiers keys₀ E ∙ E-length;
         entries = bb-is mostLists (omega arith) ∙ low-all 1 mostLists keys₁ N ∙ N-length;
         low = nodes;
-        high = drop-more (BENTRY + h .entries) QUEUE ws₂ ws₁ (omega (arith, few-n)) (s₂ .kept .high) ∙ drop-more (FEDGE + h .edges) QUEUE ws₁ ws (omega (arith, few-e)) (s₁ .kept .high);
+        high = drop-more (BENTRY + h .entries) QUEUE ws₂ ws₁ (omega (arith, room .entries)) (s₂ .kept .high) ∙ drop-more (FEDGE + h .edges) QUEUE ws₁ ws (omega (arith, room .edges)) (s₁ .kept .high);
         same = s₂ .kept .same ∙ s₁ .kept .same;
       }

@@ -2,8 +2,10 @@ pub mod Words
 pub mod Graphs
 pub mod Loops
 pub mod Clean
+pub mod Holds
 pub mod Writes
 pub mod Steps
+pub mod StoredMore
 pub mod LayOut
 pub mod Operands
 pub mod Storing

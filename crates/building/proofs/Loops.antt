@@ -166,3 +166,7 @@ leave-end ws₀ t at n x ws i k c h = record {
   kept = c .kept;
   few = omega (arith, c .low, c .mid);
 }
+
+-- it holds none
+pub leave-none : (t at n x : ℕ) (ws : List ℕ) → without t x (slice at (at + n) ws) ≡ slice at (at + n) ws → Left t at n x ws ws n
+leave-none t at n x ws e = record { log = sym e; kept = kept-none at (at + n) ws; few = omega arith }

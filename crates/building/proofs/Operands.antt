@@ -1,5 +1,5 @@
 -- Phi operands: what waits, by the phis so far and the blocks that have come.
-use Prim.Native.Nat.{ℕ, suc, _+_}
+use Prim.Native.Nat.{ℕ, suc, _+_, _≤_, max}
 use native.Mathlib.Omega.{arith}
 use native.Mathlib.Decide.{ℕ-discrete}
 use mathlib.Core.Bool.{Bool, true, false, not, _&&_, _||_}
@@ -13,14 +13,15 @@ use Rattle.model.specs.Lists.{pick, consIf, keep, each, gather, among, Every}
 use Rattle.model.specs.Sheet.{BlockId, Place, Operand}
 use Rattle.model.specs.Graph.{Graph, intoAliases, relate}
 use Rattle.model.specs.Mutation.{Mutation, RenderOf}
-use Rattle.model.specs.Built.{Built, Waiting, changed, waits, between, comes}
+use Rattle.model.specs.Built.{Built, Waiting, heldIn, changed, waits, between, comes}
 use Rattle.model.specs.Building.{operand, waitingFor, stillWaiting, wake}
 use Rattle.building.specs.Phis.{waitingAt, indexed, operandsOf, waitingOf, stored}
 use Rattle.building.specs.Built.{ends}
+use Rattle.building.proofs.StoredMore.{stores, each-more}
 
-pub built-eq : {g g′ : Graph} {i i′ : ℕ} {c c′ : List ℕ} {w w′ : List Waiting} {m m′ : List Mutation} {n n′ : List RenderOf} → g ≡ g′ → i ≡ i′ → c ≡ c′ → w ≡ w′ → m ≡ m′ → n ≡ n′
-    → _≡_ {A = Built} (record { graph = g; index = i; come = c; waiting = w; mutations = m; renders = n }) (record { graph = g′; index = i′; come = c′; waiting = w′; mutations = m′; renders = n′ })
-built-eq p q r s t u = cc
+pub built-eq : {g g′ : Graph} {h h′ : ℕ} {i i′ : ℕ} {c c′ : List ℕ} {w w′ : List Waiting} {m m′ : List Mutation} {n n′ : List RenderOf} → g ≡ g′ → h ≡ h′ → i ≡ i′ → c ≡ c′ → w ≡ w′ → m ≡ m′ → n ≡ n′
+    → _≡_ {A = Built} (record { graph = g; held = h; index = i; come = c; waiting = w; mutations = m; renders = n }) (record { graph = g′; held = h′; index = i′; come = c′; waiting = w′; mutations = m′; renders = n′ })
+built-eq p o q r s t u = cc
 
 -- ---- lists of which some are kept
 module _ {A : Type 0} where
@@ -47,15 +48,6 @@ module _ {A : Type 0} where
   keep-none : (l : List A) → keep (λ (a : A). false) l ≡ []
   keep-none [] = refl
   keep-none (a ∷ l) = keep-none l
-
-  -- each is kept or not
-  pub keep-split : (f : A → Bool) (l : List A) → length (keep f l) + length (keep (λ (a : A). not (f a)) l) ≡ length l
-  keep-split f [] = refl
-  keep-split f (a ∷ l) = go (f a) (keep-split f l)
-    where
-      go : (b : Bool) → length (keep f l) + length (keep (λ (a : A). not (f a)) l) ≡ length l → length (consIf b a (keep f l)) + length (consIf (not b) a (keep (λ (a : A). not (f a)) l)) ≡ suc (length l)
-      go true e = omega (arith, e)
-      go false e = omega (arith, e)
 
   pub every-last : (P : A → Type 0) (l : List A) (a : A) → Every P l → P a → Every P (l ++ (a ∷ []))
   every-last P [] a h p = (p, tt)
@@ -91,56 +83,86 @@ hasCome come w = among (w .predecessor) come
 abbrev pub notCome : List BlockId → Waiting → Bool
 notCome come w = not (among (w .predecessor) come)
 
-pub operands-are : (into : Place) (l : List Operand) (b : Built) → each (operand into) l b ≡ record {
+-- what is known after them
+abbrev pub operandsAfter : Place → List Operand → Built → Built
+operandsAfter into l b = record {
   graph = stored (hasCome (b .come)) (indexed (into .identifier) (b .index) l) (b .graph);
+  held = max (b .held) (heldIn (stored (hasCome (b .come)) (indexed (into .identifier) (b .index) l) (b .graph)));
   index = b .index + length l;
   come = b .come;
   waiting = b .waiting ++ keep (notCome (b .come)) (indexed (into .identifier) (b .index) l);
   mutations = b .mutations;
   renders = b .renders;
 }
+
+pub operands-are : (into : Place) (l : List Operand) (b : Built) → heldIn (b .graph) ≤ b .held → each (operand into) l b ≡ operandsAfter into l b
 unfolding stored indexed operand
-operands-are into [] b = let z : b .index ≡ b .index + 0 = omega arith in built-eq refl z refl (sym (append-nil (b .waiting))) refl refl
-operands-are into (o ∷ l) b = go (operands-are into l) (among (o .predecessor) (b .come))
+operands-are into [] b h =
+    let z : b .index ≡ b .index + 0 = omega arith in
+    let m : b .held ≡ max (b .held) (heldIn (b .graph)) = omega (arith, h) in
+    built-eq refl m z refl (sym (append-nil (b .waiting))) refl refl
+operands-are into (o ∷ l) b h = go (operands-are into l) (among (o .predecessor) (b .come))
   where
-    go : ((c : Built) → each (operand into) l c ≡ record {
-      graph = stored (hasCome (c .come)) (indexed (into .identifier) (c .index) l) (c .graph);
-      index = c .index + length l;
-      come = c .come;
-      waiting = c .waiting ++ keep (notCome (c .come)) (indexed (into .identifier) (c .index) l);
-      mutations = c .mutations;
-      renders = c .renders;
-    }) → (t : Bool) → each (operand into) l (pick t (between (relate intoAliases) (o .place) into b) (waits (o .predecessor) (o .place .identifier) (into .identifier) b)) ≡ record {
-      graph = each (λ (w : Waiting). relate intoAliases (w .index) (w .origin) (w .into)) (consIf t (waitingAt (into .identifier) (b .index) o) (keep (hasCome (b .come)) (indexed (into .identifier) (suc (b .index)) l))) (b .graph);
-      index = b .index + suc (length l);
-      come = b .come;
-      waiting = b .waiting ++ consIf (not t) (waitingAt (into .identifier) (b .index) o) (keep (notCome (b .come)) (indexed (into .identifier) (suc (b .index)) l));
-      mutations = b .mutations;
-      renders = b .renders;
-    }
-    go ih true = let z : suc (b .index) + length l ≡ b .index + suc (length l) = omega arith in ih (between (relate intoAliases) (o .place) into b) ∙ built-eq refl z refl refl refl refl
+    first : Waiting
+    first = waitingAt (into .identifier) (b .index) o
+
+    rest : List Waiting
+    rest = indexed (into .identifier) (suc (b .index)) l
+
+    go : ((c : Built) → heldIn (c .graph) ≤ c .held → each (operand into) l c ≡ operandsAfter into l c) → (t : Bool)
+        → each (operand into) l (pick t (between (relate intoAliases) (o .place) into b) (waits (o .predecessor) (o .place .identifier) (into .identifier) b)) ≡ record {
+          graph = each stores (consIf t first (keep (hasCome (b .come)) rest)) (b .graph);
+          held = max (b .held) (heldIn (each stores (consIf t first (keep (hasCome (b .come)) rest)) (b .graph)));
+          index = b .index + suc (length l);
+          come = b .come;
+          waiting = b .waiting ++ consIf (not t) first (keep (notCome (b .come)) rest);
+          mutations = b .mutations;
+          renders = b .renders;
+        }
+    go ih true =
+        let z : suc (b .index) + length l ≡ b .index + suc (length l) = omega arith in
+        let c : Built = between (relate intoAliases) (o .place) into b in
+        let m : max (c .held) (heldIn (each stores (keep (hasCome (b .come)) rest) (c .graph))) ≡ max (b .held) (heldIn (each stores (keep (hasCome (b .come)) rest) (c .graph))) = omega (arith, each-more (keep (hasCome (b .come)) rest) (c .graph)) in
+        ih c (omega arith) ∙ built-eq refl m z refl refl refl refl
     go ih false =
         let z : suc (b .index) + length l ≡ b .index + suc (length l) = omega arith in
-        ih (waits (o .predecessor) (o .place .identifier) (into .identifier) b)
-        ∙ built-eq refl z refl (append-snoc (b .waiting) (waitingAt (into .identifier) (b .index) o) (keep (notCome (b .come)) (indexed (into .identifier) (suc (b .index)) l))) refl refl
+        ih (waits (o .predecessor) (o .place .identifier) (into .identifier) b) h
+        ∙ built-eq refl refl z refl (append-snoc (b .waiting) first (keep (notCome (b .come)) rest)) refl refl
 
-pub indexed-length : (into i : ℕ) (l : List Operand) → length (indexed into i l) ≡ length l
-unfolding indexed
-indexed-length into i [] = refl
-indexed-length into i (o ∷ l) = ap suc (indexed-length into (suc i) l)
+pub operands-rise : (into : Place) (l : List Operand) (b : Built) → b .held ≤ each (operand into) l b .held
+unfolding operand
+operands-rise into [] b = omega arith
+operands-rise into (o ∷ l) b = omega (arith, operands-rise into l (operand into o b), go (among (o .predecessor) (b .come)))
+  where
+    go : (t : Bool) → b .held ≤ pick t (between (relate intoAliases) (o .place) into b) (waits (o .predecessor) (o .place .identifier) (into .identifier) b) .held
+    go true = omega arith
+    go false = omega arith
 
 pub waiting-last : (s phis : List ℕ) (come : List BlockId) (w : ℕ) → waitingOf s (phis ++ (w ∷ [])) come ≡ waitingOf s phis come ++ keep (notCome come) (operandsOf s w)
 unfolding waitingOf
 waiting-last s phis come w = ap (keep (notCome come)) (gather-last (operandsOf s) phis w) ∙ keep-append (notCome come) (gather (operandsOf s) phis) (operandsOf s w)
 
 -- ---- a block's end
-each-changed : {A : Type 0} (f : A → Graph → Graph) (l : List A) (b : Built) → each (λ (a : A). changed (f a)) l b ≡ changed (each f l) b
-each-changed f [] b = refl
-each-changed f (a ∷ l) b = each-changed f l (changed (f a) b)
+each-changed : (l : List Waiting) (b : Built) → heldIn (b .graph) ≤ b .held → each (λ (w : Waiting). changed (stores w)) l b ≡ changed (each stores l) b
+each-changed [] b h =
+    let m : b .held ≡ max (b .held) (heldIn (b .graph)) = omega (arith, h) in
+    built-eq refl m refl refl refl refl refl
+each-changed (w ∷ l) b h =
+    let c : Built = changed (stores w) b in
+    let m : max (c .held) (heldIn (each stores l (c .graph))) ≡ max (b .held) (heldIn (each stores l (c .graph))) = omega (arith, each-more l (c .graph)) in
+    each-changed l c (omega arith) ∙ built-eq refl m refl refl refl refl refl
 
-pub ends-are : (n : BlockId) (b : Built) → ends n b ≡ changed (stored (waitingFor n) (b .waiting)) (stillWaiting n (comes n b))
+each-rises : (l : List Waiting) (b : Built) → b .held ≤ each (λ (w : Waiting). changed (stores w)) l b .held
+each-rises [] b = omega arith
+each-rises (w ∷ l) b = omega (arith, each-rises l (changed (stores w) b))
+
+pub ends-are : (n : BlockId) (b : Built) → heldIn (b .graph) ≤ b .held → ends n b ≡ changed (stored (waitingFor n) (b .waiting)) (stillWaiting n (comes n b))
 unfolding wake stored
-ends-are n b = each-changed (λ (w : Waiting). relate intoAliases (w .index) (w .origin) (w .into)) (keep (waitingFor n) (b .waiting)) (stillWaiting n (comes n b))
+ends-are n b h = each-changed (keep (waitingFor n) (b .waiting)) (stillWaiting n (comes n b)) h
+
+pub ends-rise : (n : BlockId) (b : Built) → b .held ≤ ends n b .held
+unfolding wake
+ends-rise n b = each-rises (keep (waitingFor n) (b .waiting)) (stillWaiting n (comes n b))
 
 pub eqb-sym : (n p : ℕ) → eqb n p ≡ eqb p n
 eqb-sym n p = go (ℕ-discrete n p)

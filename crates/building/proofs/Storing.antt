@@ -5,12 +5,12 @@ use native.Mathlib.Numerals.{add-one}
 use mathlib.Core.Bool.{Bool, true, false, not}
 use mathlib.Core.List.{List, [], _∷_, _++_}
 use mathlib.Core.Path.{_≡_, refl, sym, ap, subst, _∙_}
-use lib.ListN.{length, getD, set, take, drop, length-append}
+use lib.ListN.{length, getD, set, take, drop}
 use lib.Seq.{slice, slice-cons, slice-empty}
 use lib.Dec.{eqb}
 use borrow.Author.Tests.{not-true, not-false}
-use Rattle.model.specs.Limits.{mostIdentifiers, mostSheet, mostBlocks, placeWidth, operandWidth}
-use Rattle.model.specs.Lists.{consIf, keep, each, gather, Every}
+use Rattle.model.specs.Limits.{mostIdentifiers, mostSheet, mostBlocks, placeWidth, operandWidth, mostIndex}
+use Rattle.model.specs.Lists.{consIf, each, gather, Every}
 use Rattle.model.specs.Sheet.{IdentifierId, Place, Operand}
 use Rattle.model.specs.Ranges.{PlaceBelow}
 use Rattle.model.specs.Reading.{Position}
@@ -23,29 +23,29 @@ use Rattle.hir.proofs.Standing.{part}
 use Rattle.hir.proofs.Several.{several-next, several-none}
 use Rattle.hir.proofs.Widths.{several-rises, wide-rises}
 use Rattle.workspace.specs.Layout.{LEAST, SEEN, VALUE, PHIS}
-use Rattle.workspace.specs.Pending.{mostIndex}
 use Rattle.workspace.proofs.Parts.{slice-take, slice-push, drop-word, kept-none, kept-set}
 use Rattle.building.specs.declared.Held.{Held}
 use Rattle.building.specs.Logs.{anyP}
 use Rattle.building.specs.Held.{graphOf, Room, Builds}
-use Rattle.building.specs.Phis.{mostPhis, waitingAt, indexed, operandsFrom, phiWord, operandsOf, phisOf, Stands, Known, from, stored, RoomFor, Stores, PushesPhi}
-use Rattle.building.proofs.Writes.{builds-then, builds-as, builds-none, room-then, room-less}
-use Rattle.building.proofs.Operands.{keep-append, stored-append}
+use Rattle.building.specs.Phis.{mostPhis, waitingAt, indexed, operandsFrom, phiWord, operandsOf, phisOf, Stands, Known, from, stored, Stores, PushesPhi}
+use Rattle.building.proofs.Holds.{builds-then, builds-as, builds-none}
+use Rattle.building.proofs.Operands.{stored-append}
+use Rattle.building.proofs.StoredMore.{stored-more, stored-has}
 
 -- ---- what is left to store, when the first have been: whatever stores it has stored the whole
 pub record Storing (test : Waiting → Bool) (whole : List Waiting) (ws₀ : List ℕ) (h₀ : Held) (l : List Waiting) (ws : List ℕ) (h : Held) : Type 0 where
-  pub room : RoomFor test l ws h
+  pub room : Room ws h
   pub rest : (ws′ : List ℕ) (r : Held) → Stores test l ws h ws′ r → Stores test whole ws₀ h₀ ws′ r
   pub low : take VALUE ws ≡ take VALUE ws₀
   pub high : drop PHIS ws ≡ drop PHIS ws₀
   pub same : length ws ≡ length ws₀
 
-pub storing-start : {test : Waiting → Bool} {l : List Waiting} {ws : List ℕ} {h : Held} → RoomFor test l ws h → Storing test l ws h l ws h
+pub storing-start : {test : Waiting → Bool} {l : List Waiting} {ws : List ℕ} {h : Held} → Room ws h → Storing test l ws h l ws h
 storing-start room = record { room = room; rest = λ ws′ r s. s; low = refl; high = refl; same = refl }
 
-none-stored : (test : Waiting → Bool) {ws : List ℕ} {h : Held} → RoomFor test [] ws h → Stores test [] ws h ws h
+none-stored : (test : Waiting → Bool) {ws : List ℕ} {h : Held} → Room ws h → Stores test [] ws h ws h
 unfolding stored
-none-stored test room = builds-none (room .clean) refl
+none-stored test room = builds-none room refl
 
 module _ {test : Waiting → Bool} {whole : List Waiting} {ws₀ : List ℕ} {h₀ : Held} where
   pub storing-done : {l : List Waiting} {ws : List ℕ} {h : Held} → l ≡ [] → Storing test whole ws₀ h₀ l ws h → Stores test whole ws₀ h₀ ws h
@@ -54,21 +54,13 @@ module _ {test : Waiting → Bool} {whole : List Waiting} {ws₀ : List ℕ} {h�
       d .rest ws h (none-stored test (d .room))
 
   module _ (l m : List Waiting) {ws : List ℕ} {h : Held} (c : Storing test whole ws₀ h₀ (l ++ m) ws h) where
-    sizes : length (keep test (l ++ m)) ≡ length (keep test l) + length (keep test m)
-    sizes = ap length (keep-append test l m) ∙ length-append (keep test l) (keep test m)
-
-    both : Room (length (keep test l) + length (keep test m)) (length (keep test l) + length (keep test m)) ws h
-    both = subst (λ (k : ℕ). Room k k ws h) sizes (c .room)
-
-    -- there is room for the first
-    pub storing-room : RoomFor test l ws h
-    storing-room = room-less _ _ (omega arith) (omega arith) both
-
-    -- they are stored
+    -- the first are stored: the others take nothing away
     pub storing-turn : {ws₁ : List ℕ} {h₁ : Held} → Stores test l ws h ws₁ h₁ → Storing test whole ws₀ h₀ m ws₁ h₁
     storing-turn {ws₁} {h₁} s = record {
-      room = room-then (length (keep test m)) (length (keep test m)) both s;
-      rest = λ ws′ r t. c .rest ws′ r (builds-as (builds-then (length (keep test (l ++ m))) (length (keep test (l ++ m))) (omega (arith, sizes)) (omega (arith, sizes)) s t) (sym (stored-append test l m (graphOf ws h))));
+      room = s .room;
+      rest = λ ws′ r t. c .rest ws′ r
+          (builds-as (builds-then (omega (arith, stored-more test m (stored test l (graphOf ws h)))) (λ x. stored-has test m (graphOf ws₁ h₁) x ∙ s .nodes x ∙ sym (stored-has test m (stored test l (graphOf ws h)) x)) s t)
+          (sym (stored-append test l m (graphOf ws h))));
       low = s .low ∙ c .low;
       high = s .high ∙ c .high;
       same = s .same ∙ c .same;
@@ -79,20 +71,17 @@ pub from-same : (first n : ℕ) (ws ws₀ : List ℕ) → first + n ≤ mostBloc
 from-same first n ws ws₀ few e = ap (λ (l : List ℕ). λ (w : Waiting). anyP (eqb (w .predecessor)) l) (slice-take VALUE (SEEN + first) (SEEN + first + n) ws ws₀ (omega arith) e)
 
 -- ---- one operand
-module _ (test : Waiting → Bool) (w : Waiting) {ws : List ℕ} {h : Held} (room : RoomFor test (w ∷ []) ws h) (t : Bool) (is : t ≡ test w) where
-  pub one-room : not t ≡ false → Room 1 1 ws h
-  one-room e = subst (λ (b : Bool). Room (length (consIf b w [])) (length (consIf b w [])) ws h) (sym is ∙ not-false t e) room
-
-  pub one-stored : not t ≡ false → {ws′ : List ℕ} {r : Held} → Builds (relate intoAliases (w .index) (w .origin) (w .into)) 1 1 ws h ws′ r → Stores test (w ∷ []) ws h ws′ r
+module _ (test : Waiting → Bool) (w : Waiting) {ws : List ℕ} {h : Held} (t : Bool) (is : t ≡ test w) where
+  pub one-stored : not t ≡ false → {ws′ : List ℕ} {r : Held} → Builds (relate intoAliases (w .index) (w .origin) (w .into)) ws h ws′ r → Stores test (w ∷ []) ws h ws′ r
   unfolding stored
   one-stored e {ws′} {r} s =
-      subst (λ (b : Bool). Builds (each (λ (w : Waiting). relate intoAliases (w .index) (w .origin) (w .into)) (consIf b w [])) (length (consIf b w [])) (length (consIf b w [])) ws h ws′ r) (sym (sym is ∙ not-false t e)) s
+      subst (λ (b : Bool). Builds (each (λ (w : Waiting). relate intoAliases (w .index) (w .origin) (w .into)) (consIf b w [])) ws h ws′ r) (sym (sym is ∙ not-false t e)) s
 
-  pub one-passed : not t ≡ true → Stores test (w ∷ []) ws h ws h
+  pub one-passed : not t ≡ true → Room ws h → Stores test (w ∷ []) ws h ws h
   unfolding stored
-  one-passed e =
-      subst (λ (b : Bool). Builds (each (λ (w : Waiting). relate intoAliases (w .index) (w .origin) (w .into)) (consIf b w [])) (length (consIf b w [])) (length (consIf b w [])) ws h ws h) (sym (sym is ∙ not-true t e))
-      (builds-none (room .clean) refl)
+  one-passed e room =
+      subst (λ (b : Bool). Builds (each (λ (w : Waiting). relate intoAliases (w .index) (w .origin) (w .into)) (consIf b w [])) ws h ws h) (sym (sym is ∙ not-true t e))
+      (builds-none room refl)
 
 -- ---- the operands of a phi
 abbrev pub oneOperand : Standing Operand
@@ -146,7 +135,7 @@ module _ (s : List ℕ) (c : Position) (i : ℕ) {p : Phi} (at : PhiAt s c p) (s
   unfolding phiFrom
   whole-is = ap (λ (x : IdentifierId). indexed x i (listed oneOperand s (c + placeWidth) .what)) (phi-is s c at) ∙ ap (λ (z : Part (List Operand)). indexed (p .place .identifier .0) i (z .what)) (operands-are s c at)
 
-  pub operands-start : {first n : ℕ} {ws : List ℕ} {h : Held} → first + n ≤ mostBlocks → RoomFor (from first n ws) (operandsFrom s c i) ws h → Operands s (p .place .identifier .0) first n (operandsFrom s c i) ws h i (p .operands .count) (p .operands .first) ws h
+  pub operands-start : {first n : ℕ} {ws : List ℕ} {h : Held} → first + n ≤ mostBlocks → Room ws h → Operands s (p .place .identifier .0) first n (operandsFrom s c i) ws h i (p .operands .count) (p .operands .first) ws h
   unfolding phiFrom
   operands-start {first} {n} {ws} {h} few room = record {
     known = subst (λ (x : ℕ). x < mostIdentifiers) (phi-is s c at) (stands .range .0);
@@ -187,11 +176,6 @@ module _ {s : List ℕ} {into : IdentifierId} {first n : ℕ} {whole : List Wait
       pub operand-below : PlaceBelow mostIdentifiers (m .place)
       operand-below = subst (λ (q : Operand). PlaceBelow mostIdentifiers (q .place)) (sym is) (all .0)
 
-      pub operand-room : RoomFor (from first n ws) (waitingAt into i m ∷ []) ws h
-      operand-room =
-          subst (λ (f : Waiting → Bool). RoomFor f (waitingAt into i m ∷ []) ws h) (sym (from-same first n ws ws₀ (o .few) (o .storing .low)))
-          (subst (λ (q : Operand). RoomFor (from first n ws₀) (waitingAt into i q ∷ []) ws h) (sym is) (storing-room (waitingAt into i (operandAt s c) ∷ []) (indexed into (suc i) others) now-storing))
-
       pub operands-turn : {ws₁ : List ℕ} {h₁ : Held} → Stores (from first n ws) (waitingAt into i m ∷ []) ws h ws₁ h₁ → Operands s into first n whole ws₀ h₀ (i + 1) (left - 1) (c + operandWidth) ws₁ h₁
       operands-turn {ws₁} {h₁} st =
           let x = subst (λ (f : Waiting → Bool). Stores f (waitingAt into i (operandAt s c) ∷ []) ws h ws₁ h₁) (from-same first n ws ws₀ (o .few) (o .storing .low))
@@ -214,7 +198,7 @@ pub record Waking (s : List ℕ) (first n : ℕ) (ws₀ : List ℕ) (h₀ : Held
   pub known : Every (Known s) (ahead ws₀ n i)
   pub storing : Storing (from first 1 ws₀) (gather (operandsOf s) (phisOf ws₀ n)) ws₀ h₀ (gather (operandsOf s) (ahead ws₀ n i)) ws h
 
-pub waking-start : {s : List ℕ} {first n : ℕ} {ws : List ℕ} {h : Held} → RoomFor (from first 1 ws) (gather (operandsOf s) (phisOf ws n)) ws h → Every (Known s) (phisOf ws n) → (n ≤ mostPhis) × (first < mostBlocks) → Waking s first n ws h 0 ws h
+pub waking-start : {s : List ℕ} {first n : ℕ} {ws : List ℕ} {h : Held} → Room ws h → Every (Known s) (phisOf ws n) → (n ≤ mostPhis) × (first < mostBlocks) → Waking s first n ws h 0 ws h
 waking-start room known few = record { size = room .size; few = few; mid = omega arith; known = known; storing = storing-start room }
 
 operands-of : (s : List ℕ) (w : ℕ) → operandsOf s w ≡ operandsFrom s (w % mostSheet) (w / mostSheet)
@@ -248,9 +232,6 @@ module _ {s : List ℕ} {first n : ℕ} {ws₀ : List ℕ} {h₀ : Held} {i : �
 
     tests : from first 1 ws ≡ from first 1 ws₀
     tests = from-same first 1 ws ws₀ (omega (arith, c .few .1)) (c .storing .low)
-
-    pub phi-room : RoomFor (from first 1 ws) (operandsFrom s (word % mostSheet) (word / mostSheet)) ws h
-    phi-room = subst (λ (f : Waiting → Bool). RoomFor f (operandsFrom s (word % mostSheet) (word / mostSheet)) ws h) (sym tests) (storing-room (operandsFrom s (word % mostSheet) (word / mostSheet)) (gather (operandsOf s) (ahead ws₀ n (i + 1))) now)
 
     pub waking-turn : {ws₁ : List ℕ} {h₁ : Held} → Stores (from first 1 ws) (operandsFrom s (word % mostSheet) (word / mostSheet)) ws h ws₁ h₁ → Waking s first n ws₀ h₀ (i + 1) ws₁ h₁
     waking-turn {ws₁} {h₁} st = record {

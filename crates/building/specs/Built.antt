@@ -3,8 +3,9 @@ use Prim.Native.Nat.{ℕ, zero, suc, _+_, _*_, _≤_, _<_}
 use mathlib.Core.Bool.{false}
 use mathlib.Core.List.{List, [], _∷_, _++_}
 use mathlib.Core.Path.{_≡_}
+use mathlib.Core.Logic.{_⊎_}
 use lib.ListN.{length, getD, take, drop}
-use Rattle.model.specs.Limits.{mostSheet, mostIdentifiers, mostRelations, mostFunctions, mostMutations, mostRenders, mostBlocks}
+use Rattle.model.specs.Limits.{mostSheet, mostIdentifiers, mostRelations, mostFunctions, mostMutations, mostRenders, mostBlocks, mostIndex}
 use Rattle.model.specs.Lists.{each, Every}
 use Rattle.model.specs.Sheet.{BlockId, Place, Phi as ModelPhi}
 use Rattle.model.specs.Reading.{Position}
@@ -15,15 +16,14 @@ use Rattle.model.specs.Built.{Built, comes}
 use Rattle.model.specs.Building.{operand, wake, noNodes}
 use Rattle.hir.specs.Words.{phiFrom}
 use Rattle.model.specs.Size as size
-use Rattle.workspace.specs.Layout.{LEAST, SEEN, VALUE, FBOUND, QUEUE, MUTATIONS, RENDERS, FUNCTIONS}
+use Rattle.workspace.specs.Layout.{SEEN, VALUE, FBOUND, QUEUE, MUTATIONS, RENDERS, FUNCTIONS}
 use Rattle.workspace.specs.Rows.{rowsOf, mostLists, fb, bb, Indexed, Kept}
 use Rattle.workspace.specs.Graph.{graphOfRows}
 use Rattle.workspace.specs.Pending.{mutationsOf, rendersOf}
 use Rattle.building.specs.declared.Building.{Building}
 use Rattle.building.specs.declared.NodeValue.{NodeValue}
 use Rattle.building.specs.declared.NodeValue.the-variants.{Object, Phi, Function}
-use Rattle.building.specs.Logs.{Clean}
-use Rattle.building.specs.Held.{logsOf, graphOf}
+use Rattle.building.specs.Held.{graphOf, Room}
 use Rattle.building.specs.Phis.{phisOf, waitingOf, Known}
 
 -- a node's value as the definitions have it
@@ -55,6 +55,7 @@ indexOf b = b .relations + b .mutations + b .renders
 unfoldable pub builtOf : List ℕ → List ℕ → Building → Built
 builtOf s ws b = record {
   graph = graphOf ws (b .held);
+  held = b .held .most;
   index = indexOf b;
   come = comeOf ws (b .come);
   waiting = waitingOf s (phisOf ws (b .phis)) (comeOf ws (b .come));
@@ -62,30 +63,25 @@ builtOf s ws b = record {
   renders = rendersOf ws (b .renders);
 }
 
--- what building keeps true: a missing node holds no word, and no count is above its limit
+-- what building keeps true: there is room for what is held, and no count is above its limit
 pub record Sound (ws : List ℕ) (b : Building) : Type 0 where
-  pub size : LEAST ≤ length ws
-  pub clean : Clean (logsOf ws (b .held))
-  pub edges : b .held .edges ≤ b .relations
-  pub entries : b .held .entries ≤ b .relations
+  pub room : Room ws (b .held)
   pub phis : b .phis ≤ b .relations
-  pub relations : b .relations ≤ mostRelations
+  pub indexes : indexOf b ≤ mostIndex
   pub mutations : b .mutations ≤ mostMutations
   pub renders : b .renders ≤ mostRenders
   pub come : b .come ≤ mostBlocks
 
--- what it keeps true of the sheet: its phis can be read again, and when all that waits is stored, no more is held than relation effects have come
+-- what it keeps true of the sheet: its phis can be read again
 pub record Holding (s ws : List ℕ) (b : Building) : Type 0 where
   pub short : length s ≤ mostSheet
   pub phis : Every (Known s) (phisOf ws (b .phis))
-  pub edges : b .held .edges + length (builtOf s ws b .waiting) ≤ b .relations
-  pub entries : b .held .entries + length (builtOf s ws b .waiting) ≤ b .relations
 
 -- the phi at c is in the sheet and in range, and there is room for its operands
 pub record PhiFits (s : List ℕ) (c : Position) (b : Building) : Type 0 where
   pub inside : phiFrom s c .next ≤ length s
   pub range : PhiBelow mostIdentifiers (phiFrom s c .what)
-  pub relations : b .relations + length (phiFrom s c .what .operands) ≤ mostRelations
+  pub indexes : indexOf b + length (phiFrom s c .what .operands) ≤ mostIndex
 
 -- a phi's operands, after its node
 abbrev pub phiOperands : ModelPhi → Built → Built
@@ -97,7 +93,11 @@ ends n b = wake n (comes n b)
 
 -- a step of the definition on the sheet s, in which d relation effects, m mutations, n renders and k blocks come; the words before SEEN and from FUNCTIONS on stay
 pub record StepsOn (s : List ℕ) (f : Built → Built) (d m n k : ℕ) (ws : List ℕ) (b : Building) (ws′ : List ℕ) (r : Building) : Type 0 where
-  pub built : builtOf s ws′ r ≡ f (builtOf s ws b)
+  -- as long as no more is held than there is room for, this is the definition's; else the definition holds too much as well
+  pub built : r .held .most ≤ mostRelations → builtOf s ws′ r ≡ f (builtOf s ws b)
+  pub over : mostRelations < r .held .most → mostRelations < f (builtOf s ws b) .held
+  pub more : b .held .most ≤ mostRelations ⊎ (mostRelations < r .held .most)
+  pub rises : (c : Built) → c .held ≤ f c .held
   pub holding : Holding s ws b → Holding s ws′ r
   pub sound : Sound ws′ r
   pub relations : r .relations ≡ b .relations + d
@@ -114,7 +114,7 @@ Steps f d m n k ws b ws′ r = (s : List ℕ) → StepsOn s f d m n k ws b ws′
 
 -- nothing is built: no identifier has a node
 abbrev pub nothing : Built
-nothing = record { graph = noNodes mostIdentifiers; index = 0; come = []; waiting = []; mutations = []; renders = [] }
+nothing = record { graph = noNodes mostIdentifiers; held = 0; index = 0; come = []; waiting = []; mutations = []; renders = [] }
 
 -- the start of building
 pub record Starts (ws ws′ : List ℕ) (r : Building) : Type 0 where

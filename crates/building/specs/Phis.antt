@@ -6,7 +6,7 @@ use mathlib.Core.Path.{_≡_}
 use lib.ListN.{length}
 use lib.Seq.{slice}
 use lib.Dec.{eqb}
-use Rattle.model.specs.Limits.{mostIdentifiers, mostSheet}
+use Rattle.model.specs.Limits.{mostIdentifiers, mostSheet, mostIndex}
 use Rattle.model.specs.Lists.{keep, each, gather, among}
 use Rattle.model.specs.Sheet.{IdentifierId, BlockId, Operand}
 use Rattle.model.specs.Reading.{Position}
@@ -15,11 +15,10 @@ use Rattle.model.specs.Graph.{Graph, intoAliases, relate}
 use Rattle.model.specs.Built.{Waiting}
 use Rattle.hir.specs.Words.{phiFrom}
 use Rattle.workspace.specs.Layout.{SEEN, PHIS}
-use Rattle.workspace.specs.Pending.{mostIndex}
 use Rattle.workspace.specs.Rows.{Kept}
 use Rattle.building.specs.declared.Held.{Held}
 use Rattle.building.specs.Logs.{anyP}
-use Rattle.building.specs.Held.{Room, Builds}
+use Rattle.building.specs.Held.{Builds}
 
 -- ---- a phi's operands
 -- an operand as it waits
@@ -43,9 +42,9 @@ phiWord c i = c + mostSheet * i
 unfoldable pub operandsOf : List ℕ → ℕ → List Waiting
 operandsOf s w = operandsFrom s (w % mostSheet) (w / mostSheet)
 
--- there are no more: a phi with an operand takes eight words of a sheet
+-- there are no more: each has an operand, and that has an index
 abbrev pub mostPhis : ℕ
-mostPhis = 2048
+mostPhis = mostIndex
 
 -- the words of the first n phis
 abbrev pub phisOf : List ℕ → ℕ → List ℕ
@@ -74,12 +73,8 @@ from first n ws w = anyP (eqb (w .predecessor)) (slice (SEEN + first) (SEEN + fi
 unfoldable pub stored : (Waiting → Bool) → List Waiting → Graph → Graph
 stored test l = each (λ (w : Waiting). relate intoAliases (w .index) (w .origin) (w .into)) (keep test l)
 
--- there is room for them
-abbrev pub RoomFor : (Waiting → Bool) → List Waiting → List ℕ → Held → Type 0
-RoomFor test l ws h = Room (length (keep test l)) (length (keep test l)) ws h
-
 abbrev pub Stores : (Waiting → Bool) → List Waiting → List ℕ → Held → List ℕ → Held → Type 0
-Stores test l ws h ws′ r = Builds (stored test l) (length (keep test l)) (length (keep test l)) ws h ws′ r
+Stores test l ws h ws′ r = Builds (stored test l) ws h ws′ r
 
 -- one phi more
 pub record PushesPhi (c : Position) (i : ℕ) (ws : List ℕ) (n : ℕ) (ws′ : List ℕ) : Type 0 where

@@ -3,6 +3,7 @@ use crate::Held;
 use crate::logs::add_edge;
 use crate::logs::add_entry;
 use crate::logs::leave;
+use crate::logs::leave_edges;
 use crate::logs::pack;
 use workspace::ALIASES;
 use workspace::BBOUND;
@@ -18,11 +19,10 @@ use workspace::VALUE;
 ghost use mathlib.Core.Path.{_≡_};
 ghost use Prim.Native.Nat.{_+_, _≤_, _<_};
 ghost use lib.ListN.{length};
-ghost use Rattle.model.specs.Limits.{mostIdentifiers};
+ghost use Rattle.model.specs.Limits.{mostIdentifiers, mostIndex};
 ghost use Rattle.model.specs.Graph.{create, relate, createFrom};
 ghost use Rattle.model.specs.Graph.{assign as assignEffect};
 ghost use Rattle.workspace.specs.Layout.{LEAST};
-ghost use Rattle.workspace.specs.Pending.{mostIndex};
 ghost use Rattle.workspace.specs.Graph.{MISSING, valueOf, relationOf};
 ghost use Rattle.building.specs.Held.{hasValue, Room, Builds, Laid};
 
@@ -36,25 +36,29 @@ fn exists(ws: &[u32], x: u32) -> bool
 
 // Creates the node of x, in place of the one that was there: that one's own words leave the logs. A missing node holds none.
 pub fn create(ws: &mut [u32], h: Held, x: u32, value: u32) -> Held
-    requires { ⌜ Room 0 0 (now ws) h ⌝ }
+    requires { ⌜ Room (now ws) h ⌝ }
     requires { ⌜ (x < mostIdentifiers) × (MISSING < value) ⌝ }
-    ensures { λ r. ⌜ Builds (create x (valueOf value)) 0 0 (now (ws .entry)) h (now (ws .exit)) r ⌝ }
+    ensures { λ r. ⌜ Builds (create x (valueOf value)) (now (ws .entry)) h (now (ws .exit)) r ⌝ }
 {
     if ws[VALUE + x as usize] == MISSING {
         ws[VALUE + x as usize] = value;
         return h;
     }
-    let edges = leave(ws, 0, EDGES, h.edges, x);
+    let edges = leave_edges(ws, h.edges, x);
     let entries = leave(ws, 1, ENTRIES, h.entries, x);
     ws[VALUE + x as usize] = value;
-    Held { edges, entries }
+    Held {
+        edges,
+        entries,
+        most: h.most,
+    }
 }
 
 // Stores a relation in the list of this number: skipped if either node is missing.
 pub fn store(ws: &mut [u32], h: Held, list: u32, index: u32, from: u32, into: u32) -> Held
-    requires { ⌜ Room 1 1 (now ws) h ⌝ }
+    requires { ⌜ Room (now ws) h ⌝ }
     requires { ⌜ (from < mostIdentifiers) × ((into < mostIdentifiers) × ((list < 4) × (index < mostIndex))) ⌝ }
-    ensures { λ r. ⌜ Builds (relate (relationOf list) index from into) 1 1 (now (ws .entry)) h (now (ws .exit)) r ⌝ }
+    ensures { λ r. ⌜ Builds (relate (relationOf list) index from into) (now (ws .entry)) h (now (ws .exit)) r ⌝ }
 {
     if !exists(ws, from) {
         return h;
@@ -69,9 +73,9 @@ pub fn store(ws: &mut [u32], h: Held, list: u32, index: u32, from: u32, into: u3
 
 // An Assign effect first creates a missing "into".
 pub fn assign(ws: &mut [u32], h: Held, index: u32, from: u32, into: u32) -> Held
-    requires { ⌜ Room 1 1 (now ws) h ⌝ }
+    requires { ⌜ Room (now ws) h ⌝ }
     requires { ⌜ (from < mostIdentifiers) × ((into < mostIdentifiers) × (index < mostIndex)) ⌝ }
-    ensures { λ r. ⌜ Builds (assignEffect index from into) 1 1 (now (ws .entry)) h (now (ws .exit)) r ⌝ }
+    ensures { λ r. ⌜ Builds (assignEffect index from into) (now (ws .entry)) h (now (ws .exit)) r ⌝ }
 {
     if !exists(ws, into) {
         let g = create(ws, h, into, OBJECT);
@@ -82,9 +86,9 @@ pub fn assign(ws: &mut [u32], h: Held, index: u32, from: u32, into: u32) -> Held
 
 // CreateFrom always creates "into"; its entry is stored even if "from" has no node.
 pub fn create_from(ws: &mut [u32], h: Held, index: u32, from: u32, into: u32) -> Held
-    requires { ⌜ Room 1 1 (now ws) h ⌝ }
+    requires { ⌜ Room (now ws) h ⌝ }
     requires { ⌜ (from < mostIdentifiers) × ((into < mostIdentifiers) × (index < mostIndex)) ⌝ }
-    ensures { λ r. ⌜ Builds (createFrom index from into) 1 1 (now (ws .entry)) h (now (ws .exit)) r ⌝ }
+    ensures { λ r. ⌜ Builds (createFrom index from into) (now (ws .entry)) h (now (ws .exit)) r ⌝ }
 {
     let g = create(ws, h, into, OBJECT);
     let w = pack(from, into, CREATED, index);
@@ -97,7 +101,7 @@ pub fn create_from(ws: &mut [u32], h: Held, index: u32, from: u32, into: u32) ->
 
 // Lays the two logs out in rows, for the walks.
 pub fn lay_out(ws: &mut [u32], h: Held)
-    requires { ⌜ Room 0 0 (now ws) h ⌝ }
+    requires { ⌜ Room (now ws) h ⌝ }
     ensures { λ _. ⌜ Laid (now (ws .entry)) h (now (ws .exit)) ⌝ }
 {
     let edges = h.edges;

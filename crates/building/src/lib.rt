@@ -23,7 +23,7 @@ ghost use mathlib.Core.Path.{_≡_};
 ghost use Prim.Native.Nat.{ℕ, _+_, _≤_, _<_};
 ghost use lib.ListN.{length};
 ghost use lib.Dec.{eqb};
-ghost use Rattle.model.specs.Limits.{mostIdentifiers, mostBlocks, mostRelations, mostMutations, mostRenders};
+ghost use Rattle.model.specs.Limits.{mostIdentifiers, mostBlocks, mostMutations, mostRenders, mostIndex};
 ghost use Rattle.model.specs.Mutation.{reasonOf};
 ghost use Rattle.model.specs.Graph.{create, relate, createFrom, intoAliases, intoMaybeAliases, intoCaptures};
 ghost use Rattle.model.specs.Graph.{assign as assignEffect};
@@ -41,10 +41,11 @@ mod logs;
 mod pending;
 mod phis;
 
-// How many forward edges and entries are held.
+// How many forward edges and entries are held; the most of either that was held at any time, or more than there is room for.
 pub struct Held {
     pub edges: usize,
     pub entries: usize,
+    pub most: usize,
 }
 
 // The counts of the building so far: also the phis that have operands, the blocks that have come, and the relation effects, mutations and renders.
@@ -79,7 +80,7 @@ fn value_word(value: NodeValue) -> u32
 impl Building {
     // The running index.
     pub fn index(self) -> u32
-        requires { ⌜ (self .relations ≤ mostRelations) × ((self .mutations ≤ mostMutations) × (self .renders ≤ mostRenders)) ⌝ }
+        requires { ⌜ indexOf self ≤ mostIndex ⌝ }
         ensures { λ r. ⌜ r ≡ indexOf self ⌝ }
     {
         (self.relations + self.mutations + self.renders) as u32
@@ -106,7 +107,7 @@ impl Building {
         into: IdentifierId,
     ) -> Building
         requires { ⌜ Sound (now ws) self ⌝ }
-        requires { ⌜ (self .relations < mostRelations) × ((from .0 < mostIdentifiers) × ((into .0 < mostIdentifiers) × (list < 4))) ⌝ }
+        requires { ⌜ (indexOf self < mostIndex) × ((from .0 < mostIdentifiers) × ((into .0 < mostIdentifiers) × (list < 4))) ⌝ }
         ensures { λ r. ⌜ Steps (related (λ (i : ℕ). relate (relationOf list) i (from .0) (into .0))) 1 0 0 0 (now (ws .entry)) self (now (ws .exit)) r ⌝ }
     {
         let held = self.held;
@@ -119,7 +120,7 @@ impl Building {
     // "from" is captured in "into".
     pub fn capture(self, ws: &mut [u32], from: IdentifierId, into: IdentifierId) -> Building
         requires { ⌜ Sound (now ws) self ⌝ }
-        requires { ⌜ (self .relations < mostRelations) × ((from .0 < mostIdentifiers) × (into .0 < mostIdentifiers)) ⌝ }
+        requires { ⌜ (indexOf self < mostIndex) × ((from .0 < mostIdentifiers) × (into .0 < mostIdentifiers)) ⌝ }
         ensures { λ r. ⌜ Steps (related (λ (i : ℕ). relate intoCaptures i (from .0) (into .0))) 1 0 0 0 (now (ws .entry)) self (now (ws .exit)) r ⌝ }
     {
         self.relate(ws, CAPTURES, from, into)
@@ -128,7 +129,7 @@ impl Building {
     // "into" is an alias of "from".
     pub fn assign(self, ws: &mut [u32], from: IdentifierId, into: IdentifierId) -> Building
         requires { ⌜ Sound (now ws) self ⌝ }
-        requires { ⌜ (self .relations < mostRelations) × ((from .0 < mostIdentifiers) × (into .0 < mostIdentifiers)) ⌝ }
+        requires { ⌜ (indexOf self < mostIndex) × ((from .0 < mostIdentifiers) × (into .0 < mostIdentifiers)) ⌝ }
         ensures { λ r. ⌜ Steps (related (λ (i : ℕ). relate intoAliases i (from .0) (into .0))) 1 0 0 0 (now (ws .entry)) self (now (ws .exit)) r ⌝ }
     {
         self.relate(ws, ALIASES, from, into)
@@ -137,7 +138,7 @@ impl Building {
     // "into" may be an alias of "from".
     pub fn maybe_alias(self, ws: &mut [u32], from: IdentifierId, into: IdentifierId) -> Building
         requires { ⌜ Sound (now ws) self ⌝ }
-        requires { ⌜ (self .relations < mostRelations) × ((from .0 < mostIdentifiers) × (into .0 < mostIdentifiers)) ⌝ }
+        requires { ⌜ (indexOf self < mostIndex) × ((from .0 < mostIdentifiers) × (into .0 < mostIdentifiers)) ⌝ }
         ensures { λ r. ⌜ Steps (related (λ (i : ℕ). relate intoMaybeAliases i (from .0) (into .0))) 1 0 0 0 (now (ws .entry)) self (now (ws .exit)) r ⌝ }
     {
         self.relate(ws, MAYBE, from, into)
@@ -151,7 +152,7 @@ impl Building {
         into: IdentifierId,
     ) -> Building
         requires { ⌜ Sound (now ws) self ⌝ }
-        requires { ⌜ (self .relations < mostRelations) × ((from .0 < mostIdentifiers) × (into .0 < mostIdentifiers)) ⌝ }
+        requires { ⌜ (indexOf self < mostIndex) × ((from .0 < mostIdentifiers) × (into .0 < mostIdentifiers)) ⌝ }
         ensures { λ r. ⌜ Steps (related (λ (i : ℕ). assignEffect i (from .0) (into .0))) 1 0 0 0 (now (ws .entry)) self (now (ws .exit)) r ⌝ }
     {
         let held = self.held;
@@ -164,7 +165,7 @@ impl Building {
     // "into" is created from "from", always; its entry is stored even if "from" has no node.
     pub fn create_from(mut self, ws: &mut [u32], from: IdentifierId, into: IdentifierId) -> Building
         requires { ⌜ Sound (now ws) self ⌝ }
-        requires { ⌜ (self .relations < mostRelations) × ((from .0 < mostIdentifiers) × (into .0 < mostIdentifiers)) ⌝ }
+        requires { ⌜ (indexOf self < mostIndex) × ((from .0 < mostIdentifiers) × (into .0 < mostIdentifiers)) ⌝ }
         ensures { λ r. ⌜ Steps (related (λ (i : ℕ). createFrom i (from .0) (into .0))) 1 0 0 0 (now (ws .entry)) self (now (ws .exit)) r ⌝ }
     {
         let held = self.held;
@@ -236,7 +237,7 @@ impl Building {
         reason: u32,
     ) -> Building
         requires { ⌜ Sound (now ws) self ⌝ }
-        requires { ⌜ (self .mutations < mostMutations) × ((place .0 < mostIdentifiers) × ((transitive < 2) × ((level < 2) × (reason < 2)))) ⌝ }
+        requires { ⌜ (indexOf self < mostIndex) × ((self .mutations < mostMutations) × ((place .0 < mostIdentifiers) × ((transitive < 2) × ((level < 2) × (reason < 2))))) ⌝ }
         ensures { λ r. ⌜ Steps (mutates (eqb transitive 1) (kindOf level) (reasonOf reason) (order .0) (placeAt (place .0) span)) 0 1 0 0 (now (ws .entry)) self (now (ws .exit)) r ⌝ }
     {
         let count = self.mutations;
@@ -261,7 +262,7 @@ impl Building {
     // A render of `place`, to come after building.
     pub fn push_render(mut self, ws: &mut [u32], place: IdentifierId) -> Building
         requires { ⌜ Sound (now ws) self ⌝ }
-        requires { ⌜ (self .renders < mostRenders) × (place .0 < mostIdentifiers) ⌝ }
+        requires { ⌜ (indexOf self < mostIndex) × ((self .renders < mostRenders) × (place .0 < mostIdentifiers)) ⌝ }
         ensures { λ r. ⌜ Steps (rendersPlace (placeAt (place .0) 0)) 0 0 1 0 (now (ws .entry)) self (now (ws .exit)) r ⌝ }
     {
         let count = self.renders;
@@ -291,6 +292,7 @@ pub fn start(ws: &mut [u32]) -> Building
         held: Held {
             edges: 0,
             entries: 0,
+            most: 0,
         },
         phis: 0,
         come: 0,

@@ -1,18 +1,19 @@
 // The two logs, word by word.
 use crate::Held;
+use hir::limits::MOST_RELATIONS;
 use workspace::EDGES;
 use workspace::ENTRIES;
+use workspace::MARKS;
 ghost use mathlib.Core.Path.{_≡_};
 ghost use mathlib.Core.Bool.{true};
-ghost use Prim.Native.Nat.{_+_, _*_, _/_, _%_, _≤_, _<_};
+ghost use Prim.Native.Nat.{_+_, _*_, _/_, _%_, _≤_, _<_, max};
 ghost use lib.ListN.{length};
 ghost use lib.Seq.{slice};
-ghost use Rattle.model.specs.Limits.{mostIdentifiers, mostRelations};
+ghost use Rattle.model.specs.Limits.{mostIdentifiers, mostRelations, mostIndex};
 ghost use Rattle.model.specs.Graph.{hasNode};
-ghost use Rattle.workspace.specs.Layout.{LEAST, ENTRIES};
-ghost use Rattle.workspace.specs.Pending.{mostIndex};
+ghost use Rattle.workspace.specs.Layout.{LEAST, EDGES, ENTRIES};
 ghost use Rattle.building.specs.Logs.{packW, ownerW, ownsW, anyP, anyW, edgeG, entryG};
-ghost use Rattle.building.specs.Held.{graphOf, Room, Builds, Others, Left};
+ghost use Rattle.building.specs.Held.{heldOver, graphOf, Marked, Room, Builds, Others, Left};
 
 // A log word.
 pub fn pack(from: u32, into: u32, list: u32, index: u32) -> u32
@@ -97,35 +98,76 @@ pub fn leave(ws: &mut [u32], t: u32, at: usize, n: usize, x: u32) -> usize
     k
 }
 
-// Stores the edge of a word, whose "from" has a node.
+// Takes the edges of x out, if it is marked: else it has none.
+pub fn leave_edges(ws: &mut [u32], n: usize, x: u32) -> usize
+    requires { ⌜ (LEAST ≤ length (now ws)) × ((n ≤ mostRelations) × (x < mostIdentifiers)) ⌝ }
+    requires { ⌜ Marked (now ws) n ⌝ }
+    ensures { λ r. ⌜ Left 0 EDGES n x (now (ws .entry)) (now (ws .exit)) r ⌝ }
+{
+    if ws[MARKS + x as usize] == 0 {
+        return n;
+    }
+    leave(ws, 0, EDGES, n, x)
+}
+
+// The larger of two numbers.
+fn larger(a: usize, b: usize) -> usize
+    ensures { λ r. ⌜ r ≡ max a b ⌝ }
+{
+    if a < b { b } else { a }
+}
+
+// One more would be held than there is room for.
+fn over(h: Held) -> Held
+    ensures { λ r. ⌜ r ≡ heldOver h ⌝ }
+{
+    Held {
+        edges: h.edges,
+        entries: h.entries,
+        most: MOST_RELATIONS + 1,
+    }
+}
+
+// Stores the edge of a word, whose "from" has a node and is marked.
 pub fn add_edge(ws: &mut [u32], h: Held, w: u32) -> Held
-    requires { ⌜ Room 1 0 (now ws) h ⌝ }
+    requires { ⌜ Room (now ws) h ⌝ }
     requires { ⌜ hasNode (graphOf (now ws) h) (w % 512) ≡ true ⌝ }
-    ensures { λ r. ⌜ Builds (edgeG w) 1 0 (now (ws .entry)) h (now (ws .exit)) r ⌝ }
+    ensures { λ r. ⌜ Builds (edgeG w) (now (ws .entry)) h (now (ws .exit)) r ⌝ }
 {
     let edges = h.edges;
     let entries = h.entries;
+    if MOST_RELATIONS <= edges {
+        return over(h);
+    }
     ws[EDGES + edges] = w;
+    ws[MARKS + (w % 512) as usize] = 1;
+    let most = larger(h.most, edges + 1);
     Held {
         edges: edges + 1,
         entries,
+        most,
     }
 }
 
 // Stores the entry of a word, whose "into" has a node: once for each "from" and list.
 pub fn add_entry(ws: &mut [u32], h: Held, w: u32) -> Held
-    requires { ⌜ Room 0 1 (now ws) h ⌝ }
+    requires { ⌜ Room (now ws) h ⌝ }
     requires { ⌜ hasNode (graphOf (now ws) h) (w / 512 % 512) ≡ true ⌝ }
-    ensures { λ r. ⌜ Builds (entryG w) 0 1 (now (ws .entry)) h (now (ws .exit)) r ⌝ }
+    ensures { λ r. ⌜ Builds (entryG w) (now (ws .entry)) h (now (ws .exit)) r ⌝ }
 {
     let edges = h.edges;
     let entries = h.entries;
     if has_entry(ws, entries, w) {
         return h;
     }
+    if MOST_RELATIONS <= entries {
+        return over(h);
+    }
     ws[ENTRIES + entries] = w;
+    let most = larger(h.most, entries + 1);
     Held {
         edges,
         entries: entries + 1,
+        most,
     }
 }

@@ -12,12 +12,12 @@ use workspace::PHIS;
 ghost use Prim.Native.Nat.{_+_, _≤_, _<_};
 ghost use mathlib.Core.List.{[], _∷_};
 ghost use lib.ListN.{length};
-ghost use Rattle.model.specs.Limits.{mostIdentifiers, mostBlocks, mostSheet};
+ghost use Rattle.model.specs.Limits.{mostIdentifiers, mostBlocks, mostSheet, mostIndex};
 ghost use Rattle.model.specs.Lists.{gather, Every};
 ghost use Rattle.hir.specs.Parts.{operandIs};
 ghost use Rattle.workspace.specs.Layout.{LEAST};
-ghost use Rattle.workspace.specs.Pending.{mostIndex};
-ghost use Rattle.building.specs.Phis.{mostPhis, waitingAt, operandsFrom, operandsOf, phisOf, from, Stands, Known, RoomFor, Stores, PushesPhi};
+ghost use Rattle.building.specs.Phis.{mostPhis, waitingAt, operandsFrom, operandsOf, phisOf, from, Stands, Known, Stores, PushesPhi};
+ghost use Rattle.building.specs.Held.{Room};
 
 // Stores the word of the phi at `at`, whose first operand has this index, after the first `count` ones.
 pub fn push_phi(ws: &mut [u32], count: usize, at: usize, index: u32)
@@ -37,7 +37,7 @@ fn store_operand(
     first: usize,
     count: usize,
 ) -> Held
-    requires { ⌜ RoomFor (from first count (now ws)) (waitingAt into index (operandIs o) ∷ []) (now ws) h ⌝ }
+    requires { ⌜ Room (now ws) h ⌝ }
     requires { ⌜ (o .place .identifier .0 < mostIdentifiers) × ((into < mostIdentifiers) × ((index < mostIndex) × (first + count ≤ mostBlocks))) ⌝ }
     ensures { λ r. ⌜ Stores (from first count (now (ws .entry))) (waitingAt into index (operandIs o) ∷ []) (now (ws .entry)) h (now (ws .exit)) r ⌝ }
 {
@@ -57,7 +57,7 @@ pub fn store_operands(
     first: usize,
     count: usize,
 ) -> Held
-    requires { ⌜ RoomFor (from first count (now ws)) (operandsFrom (now s) at start) (now ws) h ⌝ }
+    requires { ⌜ Room (now ws) h ⌝ }
     requires { ⌜ Stands (now s) at start × (first + count ≤ mostBlocks) ⌝ }
     ensures { λ r. ⌜ Stores (from first count (now (ws .entry))) (operandsFrom (now (s .entry)) at start) (now (ws .entry)) h (now (ws .exit)) r ⌝ }
 {
@@ -79,7 +79,7 @@ pub fn store_operands(
 
 // The same with the operands of every phi so far.
 pub fn wake(s: &[u32], ws: &mut [u32], h: Held, phis: usize, first: usize) -> Held
-    requires { ⌜ RoomFor (from first 1 (now ws)) (gather (operandsOf (now s)) (phisOf (now ws) phis)) (now ws) h ⌝ }
+    requires { ⌜ Room (now ws) h ⌝ }
     requires { ⌜ Every (Known (now s)) (phisOf (now ws) phis) × ((phis ≤ mostPhis) × (first < mostBlocks)) ⌝ }
     ensures { λ r. ⌜ Stores (from first 1 (now (ws .entry))) (gather (operandsOf (now (s .entry))) (phisOf (now (ws .entry)) phis)) (now (ws .entry)) h (now (ws .exit)) r ⌝ }
 {

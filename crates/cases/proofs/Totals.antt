@@ -4,7 +4,7 @@ use Rattle.model.specs.Refusals.{refusedSo}
 use Rattle.cases.specs.Totals.{totals as calls}
 use Rattle.model.specs.Answer.{rangesBefore, rangesAfter, summary, diagnosed, answer, middleWords, operandWords, answerWords}
 use Rattle.model.specs.Building.{instructionEffect, instruction, operand, phiNode, wake, terminalEffect, terminal, block, firstNodes, build}
-use Rattle.model.specs.Call.{ended, read, applies, fits, answered, admit, outcome, answerAfter, workspaceAfter}
+use Rattle.model.specs.Call.{ended, read, applies, fits, answered, holds, admit, outcome, answerAfter, workspaceAfter}
 use Rattle.model.specs.Effects.{kindOf, rowOf}
 use Rattle.model.specs.Graph.{create, enter, withEdge, withEntry, change, store, relate, assign, createFrom}
 use Rattle.model.specs.Marks.{withEffect, captureOrRead, flowMarks, marksOf, operandEffects, markOf, withMark}
@@ -25,5 +25,5 @@ use Rattle.model.specs.Traits.{effectOf, reactiveOf, traitsWord}
 use Rattle.model.specs.Walks.{pushes, visit, step, run, walkOf, mutate}
 
 pub totals-refused : T (refusedSo calls)
-unfolding rangesBefore rangesAfter summary diagnosed answer middleWords operandWords answerWords instructionEffect instruction operand phiNode wake terminalEffect terminal block firstNodes build ended read applies fits answered admit outcome answerAfter workspaceAfter kindOf rowOf create enter withEdge withEntry change store relate assign createFrom withEffect captureOrRead flowMarks marksOf operandEffects markOf withMark setUnset startIf nameLvalue storeValue phisMarked phiStarts phis nameLvalues instructionMarks operandRanges instructionRanges instruction-Operands terminalPlaces terminal-Operands block-Operands sheetStarts endsBefore beforePass afterPass word count fixed atMost below newNumber times numbered counted optional timesFrom numberedFrom countedFrom renderPushes renderVisit renderStep renderRun renderWalk walksOf after rendersOf rendered reached largestEnd flag flags identifier diagnostic place innerFunction unused extra effect effects operand-Sections phi instructionValue instruction-Sections terminalOf terminal-Sections block-Sections sheet taken serves call tracked simulation flowEffects simulate enough accepts copied recorded sheetEnds built realWalks afterReal afterRenders collectParamEffects captureMark marked createReturns instructionEffects blockRelations totals over tellBlock effect-Asking effects-Asking operand-Asking phi-Asking instruction-Asking terminalOf-Asking terminal-Asking block-Asking sheet-Asking countKind countedSheet effectOf reactiveOf traitsWord pushes visit step run walkOf mutate refusedSo calls
+unfolding rangesBefore rangesAfter summary diagnosed answer middleWords operandWords answerWords instructionEffect instruction operand phiNode wake terminalEffect terminal block firstNodes build ended read applies fits answered holds admit outcome answerAfter workspaceAfter kindOf rowOf create enter withEdge withEntry change store relate assign createFrom withEffect captureOrRead flowMarks marksOf operandEffects markOf withMark setUnset startIf nameLvalue storeValue phisMarked phiStarts phis nameLvalues instructionMarks operandRanges instructionRanges instruction-Operands terminalPlaces terminal-Operands block-Operands sheetStarts endsBefore beforePass afterPass word count fixed atMost below newNumber times numbered counted optional timesFrom numberedFrom countedFrom renderPushes renderVisit renderStep renderRun renderWalk walksOf after rendersOf rendered reached largestEnd flag flags identifier diagnostic place innerFunction unused extra effect effects operand-Sections phi instructionValue instruction-Sections terminalOf terminal-Sections block-Sections sheet taken serves call tracked simulation flowEffects simulate enough accepts copied recorded sheetEnds built realWalks afterReal afterRenders collectParamEffects captureMark marked createReturns instructionEffects blockRelations totals over tellBlock effect-Asking effects-Asking operand-Asking phi-Asking instruction-Asking terminalOf-Asking terminal-Asking block-Asking sheet-Asking countKind countedSheet effectOf reactiveOf traitsWord pushes visit step run walkOf mutate refusedSo calls
 totals-refused = tt

@@ -7,7 +7,7 @@ use mathlib.Core.List.{List, [], _∷_}
 use lib.ListN.{length}
 use lib.Dec.{ltb}
 use borrow.Author.Tests.{ltb-false}
-use Rattle.model.specs.Limits.{mostSheet, mostIdentifiers, mostFunctions, mostParams, mostContext, returnsCount, mostBlocks, mostInnerDiagnostics, mostInnerContext}
+use Rattle.model.specs.Limits.{mostSheet, mostIdentifiers, mostFunctions, mostParams, mostContext, returnsCount, mostBlocks, mostInnerDiagnostics, mostInnerContext, mostIndex}
 use Rattle.model.specs.Lists.{pick, Every}
 use Rattle.model.specs.Sheet.{BlockId, Identifier, InnerFunction, Diagnostic, Block, Sheet}
 use Rattle.model.specs.Totals.{totals, over}
@@ -18,6 +18,7 @@ use Rattle.model.specs.Sections.{flags, identifier, diagnostic, innerFunction, 
 use Rattle.model.specs.Call.{ended, read, IsSheet}
 use Rattle.model.proofs.ReadLaws.{Reads, isGot, pure-reads, both-reads, bind-reads, then-reads, numbered-reads, counted-reads, count-reads, counted-length}
 use Rattle.model.proofs.WhenRead.{read-got, in-range}
+use Rattle.model.proofs.WordsRead.{words-index}
 use Rattle.hir.specs.declared.at.List.{List as Listed}
 use Rattle.hir.specs.Words.{Part, Standing, several, listed, identifiersFrom, functionsFrom, placesFrom, blocksFrom, placeAt, flagsAt, sectionsFrom, sheetFrom}
 use Rattle.hir.specs.Parts.{ListAt}
@@ -94,9 +95,9 @@ module _ (ws : List ℕ) {s : Sheet} (is : IsSheet ws s) where
   pub accepted : Accepted ws
   accepted =
       let k = sheet-known ws 0 s (is .0) is-read in
-      subst (λ (t : Sheet). SheetBelow t → Every FewDiagnostics (t .functions) → Every BlockInRange (t .blocks) → length (t .blocks) ≤ mostBlocks → over (totals t) ≡ false → Accepted ws) sheet-is
-      (λ below functions blocks few within. record { short = short-sheet ws s is; inside = ends; below = below; functions = functions; blocks = blocks; fewBlocks = few; within = within })
-      (in-range ws s is) (k .functions) (k .blocks) (k .few) (read-got ws s (is .0) (is .1) .1)
+      subst (λ (t : Sheet). SheetBelow t → Every FewDiagnostics (t .functions) → Every BlockInRange (t .blocks) → length (t .blocks) ≤ mostBlocks → over (totals t) ≡ false → totals t .relations + (totals t .mutations + totals t .renders) ≤ mostIndex → Accepted ws) sheet-is
+      (λ below functions blocks few within indexes. record { short = short-sheet ws s is; inside = ends; below = below; functions = functions; blocks = blocks; fewBlocks = few; within = within; indexes = indexes })
+      (in-range ws s is) (k .functions) (k .blocks) (k .few) (read-got ws s (is .0) (is .1) .1) (omega (arith, words-index ws s (is .0) is-read, short-sheet ws s is))
 
 -- ---- the sections, each by its count
 module _ (ws : List ℕ) where

@@ -29,7 +29,7 @@ module _ (s : List ℕ) (c : Position) {ws : List ℕ} {b : Building} (w : Ready
   -- it can be built
   pub phi-can : (Sound ws b × Holding s ws b) × PhiFits s c b
   unfolding phiCost
-  phi-can = ((w .sound, w .holding), record { inside = w .inside; range = w .range; relations = w .fits .relations })
+  phi-can = ((w .sound, w .holding), record { inside = w .inside; range = w .range; indexes = omega (arith, w .fits .indexes) })
 
   module _ {p : Phi} (h : PhiAt s c p) where
     next-is : p .operands .first + p .operands .count * operandWidth ≡ phiFrom s c .next

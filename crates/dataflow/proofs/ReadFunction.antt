@@ -10,6 +10,7 @@ use Rattle.model.specs.Limits.{identifierWidth}
 use Rattle.model.specs.Lists.{each}
 use Rattle.model.specs.Sheet.{InnerFunction, noFunction, Place}
 use Rattle.model.specs.Reading.{Position}
+use Rattle.model.specs.Built.{Built}
 use Rattle.model.specs.Building.{firstPlaces}
 use Rattle.model.proofs.Everywhere.{every-at}
 use Rattle.hir.specs.Words.{wide, identifierAt, several, placed, functionFrom, blockFrom}
@@ -32,7 +33,7 @@ use Rattle.dataflow.specs.Read.{endOf, standsAt, TopRead}
 use Rattle.dataflow.specs.Places.{TrackedRead}
 use Rattle.dataflow.specs.ReadFunction.{FunctionRead}
 use Rattle.dataflow.proofs.Accepted.{identifiers-are, functions-are, blocks-are, list-what, list-next, list-count}
-use Rattle.dataflow.proofs.Sheet.{first-nodes}
+use Rattle.dataflow.proofs.Sheet.{first-nodes, first-held}
 
 none-tracked : (ws : List ℕ) → trackedOf ws 0 ≡ []
 unfolding trackedOf tab
@@ -88,7 +89,9 @@ module _ {sheet : List ℕ} (a : Accepted sheet) {ws ws₁ : List ℕ} {t : Top}
 
   first : First (sheetOf sheet) ws₃ (u .building)
   first = record {
-    built = λ z. U .places .built z ∙ ap (each createdFor (firstPlaces (sheetOf sheet))) (start .built z) ∙ first-nodes (sheetOf sheet);
+    built = λ z.
+        let nodes = ap (each createdFor (firstPlaces (sheetOf sheet))) (start .built z) ∙ first-nodes (sheetOf sheet) in
+        U .places .built z (omega (arith, ap (λ (t : Built). t .held) nodes, first-held (sheetOf sheet))) ∙ nodes;
     holding = λ z h. U .places .holding z (start .holding z h);
     sound = U .places .sound;
     relations = U .places .relations ∙ start .relations;
@@ -140,7 +143,7 @@ module _ {sheet : List ℕ} (a : Accepted sheet) {ws ws₁ : List ℕ} {t : Top}
       let n : length (sheetOf sheet .params) + length (sheetOf sheet .context) + 1 ≡ 0 + length (firstPlaces (sheetOf sheet)) =
       omega (arith, length-append (sheetOf sheet .params) (sheetOf sheet .context ++ (sheetOf sheet .returns ∷ [])), length-append (sheetOf sheet .context) (sheetOf sheet .returns ∷ [])) in
       record {
-        size = U .places .sound .size;
+        size = U .places .sound .room .size;
         functions = functions-stand;
         tracked = ap (trackedOf ws₃) n ∙ U .places .tracked ∙ ap (λ (l : List Place). l ++ firstPlaces (sheetOf sheet)) (none-tracked ws₂);
       }

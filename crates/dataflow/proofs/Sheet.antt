@@ -1,22 +1,25 @@
 -- The blocks of an accepted sheet: they can be built, and what is built of them is the definition's building of the sheet.
-use Prim.Native.Nat.{ℕ}
+use Prim.Native.Nat.{ℕ, zero, suc, _≤_}
 use native.Mathlib.Omega.{arith}
 use mathlib.Core.Path.{_≡_, refl, sym, subst, ap, _∙_}
 use mathlib.Core.List.{List, [], _∷_}
 use lib.ListN.{length}
+use Rattle.model.specs.Limits.{mostIdentifiers}
 use Rattle.model.specs.Lists.{each, Every}
 use Rattle.model.specs.Sheet.{Place, Block, Sheet}
 use Rattle.model.specs.Totals.{totals}
 use Rattle.model.specs.Graph.{object, create}
-use Rattle.model.specs.Built.{Built, changed}
-use Rattle.model.specs.Building.{firstPlaces, firstNodes, build}
+use Rattle.model.specs.Built.{Built, heldIn}
+use Rattle.model.specs.Building.{firstPlaces, noNodes, firstNodes, build}
 use Rattle.model.specs.Building.{block as blockStep}
+use Rattle.model.proofs.HeldMore.{create-less}
 use Rattle.model.proofs.Limited.{not-over}
 use Rattle.model.proofs.Counted.{tally-one}
 use Rattle.hir.specs.Says.{placeIs}
 use Rattle.hir.specs.Words.{several, blockFrom}
 use Rattle.building.specs.declared.Building.{Building}
 use Rattle.building.specs.Built.{nothing}
+use Rattle.building.proofs.Operands.{built-eq}
 use Rattle.instructions.specs.declared.Built.{Built as BuiltPart}
 use Rattle.instructions.specs.Cost.{costs, Fits}
 use Rattle.instructions.specs.Builds.{SpendsOn, Ready, Builds}
@@ -53,7 +56,8 @@ module _ {t : Sheet} {sheet : List ℕ} {f : HirFunction} (d : Describes t sheet
       subst (λ (p : Place). SpendsOn sheet (each (blockStep p) (t .blocks)) (costs blockCost (t .blocks)) ws b ws′ (r .building)) (d .returns)
       (subst (λ (l : List Block). SpendsOn sheet (each (blockStep (placeIs (f .returns))) l) (costs blockCost l) ws b ws′ (r .building)) (d .blocks) (h .spends)) in
       record {
-        built = x .built ∙ ap (each (blockStep (t .returns)) (t .blocks)) (first .built sheet);
+        built = λ a. x .built a ∙ ap (each (blockStep (t .returns)) (t .blocks)) (first .built sheet);
+        over = λ a. omega (arith, x .over a, ap (λ (c : Built). each (blockStep (t .returns)) (t .blocks) c .held) (first .built sheet));
         sound = x .sound;
         relations = omega (arith, x .relations, first .relations, relations-spent t);
         mutations = omega (arith, x .mutations, first .mutations, mutations-spent t);
@@ -76,18 +80,37 @@ blocks-ready {sheet} a d {b = b} first =
       inside = d .blocksInside;
       range = subst (Every BlockInRange) (sym (d .blocks)) (a .blocks);
       fits = subst (λ (l : List Block). Fits (costs blockCost l) b) (sym (d .blocks)) (record {
-        relations = omega (arith, limits .0, first .relations, relations-spent t);
-        mutations = omega (arith, limits .1, first .mutations, mutations-spent t);
-        renders = omega (arith, limits .2, first .renders, renders-spent t);
+        indexes = omega (arith, a .indexes, first .relations, relations-spent t, first .mutations, mutations-spent t, first .renders, renders-spent t);
+        mutations = omega (arith, limits .0, first .mutations, mutations-spent t);
+        renders = omega (arith, limits .1, first .renders, renders-spent t);
         blocks = omega (arith, a .fewBlocks, first .come, blocks-spent (t .blocks));
       });
     }
 
+-- where no identifier has a node nothing is held
+none-held : (n : ℕ) → heldIn (noNodes n) ≤ 0
+none-held zero = omega arith
+none-held (suc n) = omega (arith, none-held n)
+
 -- the first nodes, created one after another, are the building before the first block
-created : (l : List Place) (b : Built) → each createdFor l b ≡ changed (each (λ (p : Place). create (p .identifier) object) l) b
-created [] b = refl
-created (p ∷ l) b = created l (createdFor p b)
+created : (l : List Place) (b : Built) → heldIn (b .graph) ≤ b .held → each createdFor l b ≡ record {
+  graph = each (λ (p : Place). create (p .identifier) object) l (b .graph);
+  held = b .held;
+  index = b .index;
+  come = b .come;
+  waiting = b .waiting;
+  mutations = b .mutations;
+  renders = b .renders;
+}
+created [] b h = refl
+created (p ∷ l) b h =
+    let q : createdFor p b .held ≡ b .held = omega (arith, h, create-less (p .identifier) object (b .graph)) in
+    created l (createdFor p b) (omega arith) ∙ built-eq refl q refl refl refl refl refl
 
 pub first-nodes : (t : Sheet) → each createdFor (firstPlaces t) nothing ≡ firstBuilt t
 unfolding firstBuilt firstNodes
-first-nodes t = created (firstPlaces t) nothing
+first-nodes t = created (firstPlaces t) nothing (none-held mostIdentifiers)
+
+pub first-held : (t : Sheet) → firstBuilt t .held ≡ 0
+unfolding firstBuilt
+first-held t = refl

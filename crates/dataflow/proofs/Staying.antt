@@ -10,7 +10,7 @@ use Rattle.workspace.proofs.Pending.{mutations-below, renders-below}
 use Rattle.building.specs.declared.Building.{Building}
 use Rattle.building.specs.Phis.{phisOf}
 use Rattle.building.specs.Built.{comeOf, builtOf, Sound, Holding}
-use Rattle.building.proofs.Writes.{graph-low, clean-low}
+use Rattle.building.proofs.Holds.{graph-low, clean-low, marked-low}
 use Rattle.building.proofs.Pushes.{come-kept}
 use Rattle.building.proofs.Operands.{built-eq}
 use Rattle.building.proofs.Stages.{waiting-stays}
@@ -21,7 +21,7 @@ module _ (ws ws′ : List ℕ) (b : Building) (sound : Sound ws b) (e : take FUN
   low = take-less PHIS FUNCTIONS ws′ ws (omega arith) e
 
   phis-stay : phisOf ws′ (b .phis) ≡ phisOf ws (b .phis)
-  phis-stay = slice-take FUNCTIONS PHIS (PHIS + b .phis) ws′ ws (omega (arith, sound .phis, sound .relations)) e
+  phis-stay = slice-take FUNCTIONS PHIS (PHIS + b .phis) ws′ ws (omega (arith, sound .phis, sound .indexes)) e
 
   come-stays : comeOf ws′ (b .come) ≡ comeOf ws (b .come)
   come-stays = come-kept ws ws′ FUNCTIONS (b .come) (omega (arith, sound .come)) e
@@ -29,21 +29,25 @@ module _ (ws ws′ : List ℕ) (b : Building) (sound : Sound ws b) (e : take FUN
   pub built-stays : (s : List ℕ) → builtOf s ws′ b ≡ builtOf s ws b
   unfolding builtOf
   built-stays s =
-      built-eq (graph-low ws ws′ (b .held) (omega (arith, sound .edges, sound .relations)) (omega (arith, sound .entries, sound .relations)) low) refl come-stays (waiting-stays s ws b ws′ b phis-stay come-stays)
+      built-eq (graph-low ws ws′ (b .held) (sound .room .edges) (sound .room .entries) low) refl refl come-stays (waiting-stays s ws b ws′ b phis-stay come-stays)
       (mutations-below ws ws′ (b .mutations) (take-less (MUTATIONS + 3 * b .mutations) FUNCTIONS ws′ ws (omega (arith, sound .mutations)) e))
       (renders-below ws ws′ (b .renders) (take-less (RENDERS + b .renders) FUNCTIONS ws′ ws (omega (arith, sound .renders)) e))
 
   pub holding-stays : (s : List ℕ) → Holding s ws b → Holding s ws′ b
-  holding-stays s = holding-on s ws b ws′ b phis-stay come-stays 0 (omega arith) (omega arith) (omega arith)
+  holding-stays s = holding-on s ws b ws′ b phis-stay come-stays
 
   pub sound-stays : length ws′ ≡ length ws → Sound ws′ b
   sound-stays n = record {
-    size = omega (arith, sound .size, n);
-    clean = clean-low ws ws′ (b .held) (omega (arith, sound .edges, sound .relations)) (omega (arith, sound .entries, sound .relations)) low (sound .clean);
-    edges = sound .edges;
-    entries = sound .entries;
+    room = record {
+      size = omega (arith, sound .room .size, n);
+      edges = sound .room .edges;
+      entries = sound .room .entries;
+      held = sound .room .held;
+      clean = clean-low ws ws′ (b .held) (sound .room .edges) (sound .room .entries) low (sound .room .clean);
+      marked = marked-low ws ws′ (b .held .edges) (sound .room .edges) low (sound .room .marked);
+    };
     phis = sound .phis;
-    relations = sound .relations;
+    indexes = sound .indexes;
     mutations = sound .mutations;
     renders = sound .renders;
     come = sound .come;

@@ -11,7 +11,7 @@ use Rattle.model.specs.Limits.{mostIdentifiers, mostParams, mostContext, placeW
 use Rattle.model.specs.Ranges.{PlaceBelow}
 use Rattle.model.specs.Reading.{Position}
 use Rattle.model.specs.Graph.{object, create}
-use Rattle.model.specs.Built.{changed}
+use Rattle.model.specs.Built.{Built, changed}
 use Rattle.hir.specs.Words.{Part, Standing, wide, placeAt, several}
 use Rattle.hir.proofs.Standing.{part}
 use Rattle.hir.proofs.Widths.{wide-rises}
@@ -21,6 +21,7 @@ use Rattle.workspace.proofs.Parts.{take-less, drop-more, slice-take, slice-drop
 use Rattle.building.specs.declared.Building.{Building}
 use Rattle.building.specs.Built.{builtOf, Sound, Steps}
 use Rattle.building.proofs.Operands.{each-append}
+use Rattle.building.proofs.Stages.{steps-within}
 use Rattle.dataflow.specs.Whole.{createdFor}
 use Rattle.workspace.specs.Tracked.{trackedOf, Tracks}
 use Rattle.workspace.proofs.Places.{tracked-kept}
@@ -35,7 +36,7 @@ onePlace = wide placeWidth placeAt
 -- none
 pub places-none : (first : ℕ) (ws : List ℕ) (b : Building) → Sound ws b → Places [] first ws b ws b
 places-none first ws b sound = record {
-  built = λ s. refl;
+  built = λ s a. refl;
   holding = λ s x. x;
   sound = sound;
   relations = refl;
@@ -48,13 +49,22 @@ places-none first ws b sound = record {
   same = refl;
 }
 
+-- no less is held after them
+created-rise : (ps : List Place) (b : Built) → b .held ≤ each createdFor ps b .held
+created-rise [] b = omega arith
+created-rise (p ∷ ps) b = omega (arith, created-rise ps (createdFor p b))
+
 -- some, then some more
 pub places-then : {ps qs : List Place} {first second : ℕ} {ws : List ℕ} {b : Building} {ws₁ : List ℕ} {b₁ : Building} {ws₂ : List ℕ} {b₂ : Building}
     → Places ps first ws b ws₁ b₁ → second ≡ first + length ps → Places qs second ws₁ b₁ ws₂ b₂ → Places (ps ++ qs) first ws b ws₂ b₂
 places-then {ps} {qs} {first} {second} {ws} {b} {ws₁} {b₁} {ws₂} {b₂} p e q =
     let n : first + length (ps ++ qs) ≡ second + length qs = omega (arith, e, length-append ps qs) in
     record {
-      built = λ s. q .built s ∙ ap (each createdFor qs) (p .built s) ∙ sym (each-append createdFor ps qs (builtOf s ws b));
+      built = λ s a.
+          let all = each-append createdFor ps qs (builtOf s ws b) in
+          let k = ap (λ (t : Built). t .held) all in
+          let one = p .built s (omega (arith, a, k, created-rise qs (each createdFor ps (builtOf s ws b)))) in
+          q .built s (omega (arith, a, k, ap (λ (t : Built). each createdFor qs t .held) one)) ∙ ap (each createdFor qs) one ∙ sym all;
       holding = λ s x. q .holding s (p .holding s x);
       sound = q .sound;
       relations = q .relations ∙ p .relations;
@@ -80,7 +90,9 @@ module _ {ws : List ℕ} {b : Building} (sound : Sound ws b) {i : ℕ} {p : Plac
 
   pub places-one : {ws₂ : List ℕ} {r : Building} → Steps (changed (create (p .identifier) object)) 0 0 0 0 ws₁ b ws₂ r → Places (p ∷ []) i ws b ws₂ r
   places-one {ws₂} x = record {
-    built = λ s. x s .built ∙ ap (createdFor p) (built-stays ws ws₁ b sound below-functions s);
+    built = λ s a.
+        let e = ap (createdFor p) (built-stays ws ws₁ b sound below-functions s) in
+        steps-within (x s) (omega (arith, a, ap (λ (t : Built). t .held) e)) ∙ e;
     holding = λ s h. x s .holding (holding-stays ws ws₁ b sound below-functions s h);
     sound = x [] .sound;
     relations = x [] .relations ∙ add-zero (b .relations);

@@ -1,10 +1,10 @@
 -- A sheet that was accepted, as the second reading finds it: what stands in its words, and what is known of them.
-use Prim.Native.Nat.{ℕ, _≤_}
+use Prim.Native.Nat.{ℕ, _+_, _≤_}
 use mathlib.Core.Path.{_≡_}
 use mathlib.Core.Bool.{false}
 use mathlib.Core.List.{List}
 use lib.ListN.{length}
-use Rattle.model.specs.Limits.{mostSheet, mostInnerDiagnostics, mostBlocks}
+use Rattle.model.specs.Limits.{mostSheet, mostInnerDiagnostics, mostBlocks, mostIndex}
 use Rattle.model.specs.Lists.{Every}
 use Rattle.model.specs.Sheet.{InnerFunction, Sheet}
 use Rattle.model.specs.Totals.{totals, over}
@@ -33,3 +33,4 @@ pub record Accepted (sheet : List ℕ) : Type 0 where
   pub blocks : Every BlockInRange (sheetOf sheet .blocks)
   pub fewBlocks : length (sheetOf sheet .blocks) ≤ mostBlocks
   pub within : over (totals (sheetOf sheet)) ≡ false
+  pub indexes : totals (sheetOf sheet) .relations + (totals (sheetOf sheet) .mutations + totals (sheetOf sheet) .renders) ≤ mostIndex

@@ -4,7 +4,7 @@ use mathlib.Core.Path.{_≡_}
 use mathlib.Core.List.{List, _++_}
 use lib.ListN.{length, take}
 use lib.Seq.{slice}
-use Rattle.model.specs.Limits.{mostIdentifiers, mostParams, mostContext}
+use Rattle.model.specs.Limits.{mostIdentifiers, mostRelations, mostParams, mostContext}
 use Rattle.model.specs.Lists.{each, Every}
 use Rattle.model.specs.Sheet.{Place}
 use Rattle.model.specs.Ranges.{PlaceBelow}
@@ -23,7 +23,7 @@ use Rattle.dataflow.specs.declared.parameters.Tracked.{Tracked}
 
 -- the places ps were tracked from number `first` on, and each got a node
 pub record Places (ps : List Place) (first : ℕ) (ws : List ℕ) (b : Building) (ws′ : List ℕ) (r : Building) : Type 0 where
-  pub built : (s : List ℕ) → builtOf s ws′ r ≡ each createdFor ps (builtOf s ws b)
+  pub built : (s : List ℕ) → each createdFor ps (builtOf s ws b) .held ≤ mostRelations → builtOf s ws′ r ≡ each createdFor ps (builtOf s ws b)
   pub holding : (s : List ℕ) → Holding s ws b → Holding s ws′ r
   pub sound : Sound ws′ r
   pub relations : r .relations ≡ b .relations

@@ -1,9 +1,9 @@
 -- The building of a whole sheet: where it starts, and what the loop over the blocks leaves.
-use Prim.Native.Nat.{ℕ, _≤_}
+use Prim.Native.Nat.{ℕ, _≤_, _<_}
 use mathlib.Core.List.{List, []}
 use mathlib.Core.Path.{_≡_}
 use lib.ListN.{length, take, drop}
-use Rattle.model.specs.Limits.{mostSheet}
+use Rattle.model.specs.Limits.{mostSheet, mostRelations}
 use Rattle.model.specs.Sheet.{Place, Sheet}
 use Rattle.model.specs.Graph.{object, create}
 use Rattle.model.specs.Totals.{totals}
@@ -19,7 +19,7 @@ createdFor p = changed (create (p .identifier) object)
 
 -- the building before the first block: "Parameters, context, returns get nodes first"
 unfoldable pub firstBuilt : Sheet → Built
-firstBuilt t = record { graph = firstNodes t; index = 0; come = []; waiting = []; mutations = []; renders = [] }
+firstBuilt t = record { graph = firstNodes t; held = 0; index = 0; come = []; waiting = []; mutations = []; renders = [] }
 
 -- it stands in the workspace
 pub record First (t : Sheet) (ws : List ℕ) (b : Building) : Type 0 where
@@ -33,7 +33,9 @@ pub record First (t : Sheet) (ws : List ℕ) (b : Building) : Type 0 where
 
 -- the whole sheet is built, which stands in the words s
 pub record Whole (t : Sheet) (s ws ws′ : List ℕ) (r : Building) : Type 0 where
-  pub built : builtOf s ws′ r ≡ build t
+  -- as long as no more is held than there is room for, this is the definition's; else the definition holds too much as well
+  pub built : r .held .most ≤ mostRelations → builtOf s ws′ r ≡ build t
+  pub over : mostRelations < r .held .most → mostRelations < build t .held
   pub sound : Sound ws′ r
   pub relations : r .relations ≡ totals t .relations
   pub mutations : r .mutations ≡ totals t .mutations

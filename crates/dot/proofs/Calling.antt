@@ -41,7 +41,7 @@ draw-indexed h e = let (_, (_, (_, (ready, _)))) = ready-by h e in ready .indexe
 module _ (sheet ws text ws₁ : List ℕ) {p : Preparation} (h : Prepares (admit sheet (length ws)) sheet ws ws₁ p) {r : Outcome} {ws′ text′ : List ℕ} where
   pub draw-refused : {k : ℕ} → p ≡ Refused k → Came (refusal k) ws₁ text r ws′ text′ → Drawn sheet ws text r ws′ text′
   unfolding draw drawn
-  draw-refused e c = let q = refused-by h e in came-as (sym (ap (drawn (length text)) (q .0))) (came-long (ap (λ (l : List ℕ). length l) (q .1)) refl c)
+  draw-refused e c = let q = refused-by h e in came-as (sym (ap (drawn (length text)) (q .0))) (came-long (q .1) refl c)
 
   module _ {f : HirFunction} {b : Building} (e : p ≡ Ready f b) where
     module _ {text₁ : List ℕ} {n : ℕ} (put : Wrote (dot (graphOfRows (rowsOf ws₁))) text 0 text₁ n) where

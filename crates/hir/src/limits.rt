@@ -50,7 +50,7 @@ pub const MOST_TRAITS: u32 = 15;
 
 pub const MOST_KIND: u32 = 17;
 
-pub const MOST_RELATIONS: u32 = 1024;
+pub const MOST_RELATIONS: usize = 1024;
 
 pub const MOST_MUTATIONS: u32 = 512;
 

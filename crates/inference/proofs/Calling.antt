@@ -12,7 +12,7 @@ use Rattle.model.specs.Lists.{pick}
 use Rattle.model.specs.Sheet.{Sheet}
 use Rattle.model.specs.Reading.{Position, Result, got, refused}
 use Rattle.model.specs.Answer.{answer, answerWords}
-use Rattle.model.specs.Call.{refusal, read, IsSheet, applies, fits, answered, admit, outcome}
+use Rattle.model.specs.Call.{refusal, read, IsSheet, holds, applies, fits, answered, admit, outcome}
 use Rattle.model.proofs.Either.{or-left, or-right}
 use Rattle.reading.specs.Judging.{Told}
 use Rattle.reading.specs.Whole.{acceptance, judgementOf}
@@ -52,10 +52,10 @@ module _ {x : Result Sheet} {sheet ws ws′ : List ℕ} {r : Preparation} (p : P
   pub prepares-as : {y : Result Sheet} → x ≡ y → Prepares y sheet ws ws′ r
   prepares-as e = subst (λ (z : Result Sheet). Prepares z sheet ws ws′ r) e p
 
-  pub refused-by : {k : ℕ} → r ≡ Refused k → (x ≡ refused k) × (ws′ ≡ ws)
+  pub refused-by : {k : ℕ} → r ≡ Refused k → (x ≡ refused k) × (length ws′ ≡ length ws)
   refused-by {k} e = go x (subst (preparedIs x sheet ws ws′) e (p .is))
     where
-      go : (y : Result Sheet) → preparedIs y sheet ws ws′ (Refused k) → (y ≡ refused k) × (ws′ ≡ ws)
+      go : (y : Result Sheet) → preparedIs y sheet ws ws′ (Refused k) → (y ≡ refused k) × (length ws′ ≡ length ws)
       go (refused j) q = (ap refused (sym (q .0)), q .1)
       go (got s c) q = absurd q
 
@@ -76,21 +76,22 @@ module _ (sheet ws : List ℕ) where
   short-refused h = refuses (sym (rw (lt-ltb (length ws) leastWorkspace h)))
 
   module _ (h : leastWorkspace ≤ length ws) where
-    enough : read sheet ≡ admit sheet (length ws)
+    enough : holds (read sheet) ≡ admit sheet (length ws)
     unfolding admit
     enough = sym (rw (le-ltb (length ws) leastWorkspace h))
 
     pub reading-refused : {k : ℕ} → judgementOf (read sheet) ≡ noSheet k → Prepares (admit sheet (length ws)) sheet ws ws (Refused k)
-    reading-refused {k} e = refuses (sym (refused-sheet sheet k e) ∙ enough)
+    unfolding holds
+    reading-refused {k} e = refuses (sym (ap holds (refused-sheet sheet k e)) ∙ enough)
 
-    pub reading-prepares : {ws′ : List ℕ} {r : Preparation} → Prepares (read sheet) sheet ws ws′ r → Prepares (admit sheet (length ws)) sheet ws ws′ r
+    pub reading-prepares : {ws′ : List ℕ} {r : Preparation} → Prepares (holds (read sheet)) sheet ws ws′ r → Prepares (admit sheet (length ws)) sheet ws ws′ r
     reading-prepares p = prepares-as p enough
 
 -- ---- the call by what was prepared
 module _ (sheet ws ans ws₁ : List ℕ) {p : Preparation} (h : Prepares (admit sheet (length ws)) sheet ws ws₁ p) {r : Outcome} {ws′ ans′ : List ℕ} where
   pub call-refused : {k : ℕ} → p ≡ Refused k → Came (refusal k) ws₁ ans r ws′ ans′ → Inferred sheet ws ans r ws′ ans′
   unfolding outcome answered
-  call-refused e c = let q = refused-by h e in came-as (sym (ap (answered (length ans)) (q .0))) (came-long (ap (λ (l : List ℕ). length l) (q .1)) refl c)
+  call-refused e c = let q = refused-by h e in came-as (sym (ap (answered (length ans)) (q .0))) (came-long (q .1) refl c)
 
   module _ {f : HirFunction} {b : Building} (e : p ≡ Ready f b) where
     -- 10 before the answer is measured

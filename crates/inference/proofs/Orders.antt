@@ -14,7 +14,7 @@ use Rattle.model.specs.Built.{Waiting, Built, changed, between}
 use Rattle.model.specs.Building.{instructionEffect, operand, phiNode, wake, waitingFor, stillWaiting, terminalEffect, build}
 use Rattle.model.specs.Building.{instruction as instructionStep, terminal as terminalStep, block as blockStep}
 use Rattle.model.proofs.Everywhere.{every-append}
-use Rattle.model.proofs.Steady.{each-keeps}
+use Rattle.model.proofs.BuiltKeeps.{each-keeps}
 
 abbrev Small : Mutation → Type 0
 Small m = m .order ≤ mostOrder

@@ -8,7 +8,7 @@ use lib.ListN.{length, getD, take, replicate, length-replicate, length-append, l
 use lib.Seq.{sets, length-sets, ext-getD, getD-append-add}
 use lib.Dec.{ltb}
 use borrow.Author.Tests.{lt-ltb, le-ltb}
-use Rattle.model.specs.Limits.{mostIdentifiers, mostOrder}
+use Rattle.model.specs.Limits.{mostIdentifiers, mostRelations, mostOrder}
 use Rattle.model.specs.Lists.{pick, Every}
 use Rattle.model.specs.Sheet.{Identifier, Sheet}
 use Rattle.model.specs.Mutation.{Mutation}
@@ -79,7 +79,7 @@ module _ (ids : List Identifier) (few : length ids ≤ mostIdentifiers) (ws₀ :
 module _ (s : Sheet) (sheet : List ℕ) {lists : List ℕ} (f : HirFunction) (b : Building) (ws₀ ws₁ ws₂ ws₃ ws₄ : List ℕ) where
   module _ (describes : Describes s sheet f) (told : f .applies ≡ applies s) (below : SheetBelow s) (limited : Limited f) (stands : Stands s lists ws₁) (size : LEAST ≤ length ws₀)
       (ends : take SEEN ws₁ ≡ take SEEN (sets ws₀ END (map (λ (i : Identifier). i .end) (s .identifiers)))) where
-    module _ (w : Whole s sheet ws₁ ws₂ b) (l : LaysOut ws₂ b ws₃) (k : Keeps (f .identifiers .count) ws₃ ws₄) where
+    module _ (w : Whole s sheet ws₁ ws₂ b) (within : b .held .most ≤ mostRelations) (l : LaysOut ws₂ b ws₃) (k : Keeps (f .identifiers .count) ws₃ ws₄) where
       low-kept : take SEEN ws₃ ≡ take SEEN (sets ws₀ END (map (λ (i : Identifier). i .end) (s .identifiers)))
       low-kept = take-less SEEN FBOUND ws₃ ws₂ (omega arith) (l .low) ∙ w .low ∙ ends
 
@@ -94,11 +94,11 @@ module _ (s : Sheet) (sheet : List ℕ) {lists : List ℕ} (f : HirFunction) (b 
 
       mutations-are : mutationsOf ws₄ (b .mutations) ≡ build s .mutations
       unfolding builtOf
-      mutations-are = mutations-kept ws₃ ws₄ (b .mutations) (drop-more SEEN MUTATIONS ws₄ ws₃ (omega arith) (k .high)) ∙ l .mutations ∙ ap (λ (x : Built). x .mutations) (w .built)
+      mutations-are = mutations-kept ws₃ ws₄ (b .mutations) (drop-more SEEN MUTATIONS ws₄ ws₃ (omega arith) (k .high)) ∙ l .mutations ∙ ap (λ (x : Built). x .mutations) (w .built within)
 
       index-is : indexOf b ≡ build s .index
       unfolding builtOf
-      index-is = ap (λ (x : Built). x .index) (w .built)
+      index-is = ap (λ (x : Built). x .index) (w .built within)
 
       pub prepared : Prepared s sheet lists ws₄ f b
       unfolding built builtOf
@@ -109,15 +109,15 @@ module _ (s : Sheet) (sheet : List ℕ) {lists : List ℕ} (f : HirFunction) (b 
         limited = limited;
         stands = stands-kept s lists (drop-more SEEN FUNCTIONS ws₄ ws₃ (omega arith) (k .high) ∙ drop-more QUEUE FUNCTIONS ws₃ ws₂ (omega arith) (l .high) ∙ w .high) (k .same ∙ l .same ∙ w .same) stands;
         indexed = indexed-after (l .indexed) rows-kept (k .same);
-        state = state-new ws₄ (build s .graph) (sheetEnds (s .identifiers)) (ap graphOfRows rows-kept ∙ l .graph ∙ ap (λ (x : Built). x .graph) (w .built)) (k .records)
+        state = state-new ws₄ (build s .graph) (sheetEnds (s .identifiers)) (ap graphOfRows rows-kept ∙ l .graph ∙ ap (λ (x : Built). x .graph) (w .built within)) (k .records)
             (ends-stand (s .identifiers) few-ids ws₀ size ws₃ low-kept ws₄ (λ x h. k .ends x h ∙ ap (λ (n : ℕ). pick (ltb x n) (getD ws₃ (END + x) 0) 0) (describes .n)));
         mutations = mutations-are;
-        renders = renders-kept ws₃ ws₄ (b .renders) (drop-more SEEN RENDERS ws₄ ws₃ (omega arith) (k .high)) ∙ l .renders ∙ ap (λ (x : Built). x .renders) (w .built);
+        renders = renders-kept ws₃ ws₄ (b .renders) (drop-more SEEN RENDERS ws₄ ws₃ (omega arith) (k .high)) ∙ l .renders ∙ ap (λ (x : Built). x .renders) (w .built within);
         index = index-is;
         pending = record {
           few = w .sound .mutations;
           orders = subst (Every (λ (m : Mutation). m .order ≤ mostOrder)) (sym mutations-are) (orders s below);
         };
-        fewRelations = w .sound .relations;
+        indexes = w .sound .indexes;
         fewRenders = w .sound .renders;
       }

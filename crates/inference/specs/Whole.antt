@@ -5,7 +5,7 @@ use mathlib.Core.Path.{_≡_}
 use mathlib.Core.List.{List, [], _++_, map}
 use lib.ListN.{length, getD, drop}
 use lib.Dec.{ltb}
-use Rattle.model.specs.Limits.{mostIdentifiers, mostParams, mostContext, mostRelations, mostRenders, placeWidth}
+use Rattle.model.specs.Limits.{mostIdentifiers, mostParams, mostContext, mostRenders, mostIndex, placeWidth}
 use Rattle.model.specs.Lists.{pick}
 use Rattle.model.specs.Sheet.{Sheet}
 use Rattle.model.specs.Reading.{Result, got, refused}
@@ -63,12 +63,12 @@ pub record Prepared (s : Sheet) (sheet lists ws : List ℕ) (f : HirFunction) (b
   pub renders : rendersOf ws (b .renders) ≡ build s .renders
   pub index : indexOf b ≡ build s .index
   pub pending : Pending ws (b .mutations)
-  pub fewRelations : b .relations ≤ mostRelations
+  pub indexes : indexOf b ≤ mostIndex
   pub fewRenders : b .renders ≤ mostRenders
 
--- the refusal of a reading, the workspace being as it was, or its sheet built
+-- the refusal of a reading or of what building holds, or its sheet built
 abbrev pub preparedIs : Result Sheet → List ℕ → List ℕ → List ℕ → Preparation → Type 0
-preparedIs (refused k) sheet ws ws′ (Refused j) = (j ≡ k) × (ws′ ≡ ws)
+preparedIs (refused k) sheet ws ws′ (Refused j) = (j ≡ k) × (length ws′ ≡ length ws)
 preparedIs (refused k) sheet ws ws′ (Ready f b) = ⊥
 preparedIs (got s c) sheet ws ws′ (Refused j) = ⊥
 preparedIs (got s c) sheet ws ws′ (Ready f b) = Prepared s sheet sheet ws′ f b × (length ws′ ≡ length ws)

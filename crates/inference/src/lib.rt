@@ -4,7 +4,7 @@ ghost use lib.ListN.{length};
 ghost use Rattle.model.specs.Limits.{mostIdentifiers};
 ghost use Rattle.workspace.specs.Layout.{LEAST};
 ghost use Rattle.model.specs.Sheet.{Sheet};
-ghost use Rattle.model.specs.Call.{refusal, read, admit, IsSheet};
+ghost use Rattle.model.specs.Call.{refusal, read, holds, admit, IsSheet};
 ghost use Rattle.dataflow.specs.Function.{Limited};
 ghost use Rattle.inference.specs.Outcome.{Came, Inferred};
 ghost use Rattle.writing.specs.Wrote.{farthest};
@@ -17,6 +17,7 @@ use dataflow::build_blocks;
 use dataflow::function::HirFunction;
 use dataflow::parameters::read_function;
 use diagnostics::put_diagnostics;
+use hir::limits::MOST_RELATIONS;
 use operands::RANGE_WIDTH;
 use operands::put_operands;
 use operands::ranges::put_ranges;
@@ -47,13 +48,13 @@ fn keep(ws: &mut [u32], n: usize)
     clear(ws, END + n, IDENTIFIERS - n);
 }
 
-// Part 1: builds the data flow graph of an accepted sheet and lays it out for the walks. Unless `copies`, its instructions have no effect of kind 14 to 17; `applies` says whether one has Apply.
+// Part 1: builds the data flow graph of a sheet that was read and lays it out for the walks; 8, if it would hold too much. Unless `copies`, its instructions have no effect of kind 14 to 17; `applies` says whether one has Apply.
 fn build(sheet: &[u32], ws: &mut [u32], copies: bool, applies: bool) -> Preparation
     requires { ⌜ LEAST ≤ length (now ws) ⌝ }
     requires { ⌜ ((s : Sheet) × IsSheet (now sheet) s) ⌝ }
     requires { ⌜ NoneUnless copies (now sheet) ⌝ }
     requires { ⌜ AppliesIs applies (now sheet) ⌝ }
-    ensures { λ r. ⌜ Prepares (read (now (sheet .entry))) (now (sheet .entry)) (now (ws .entry)) (now (ws .exit)) r ⌝ }
+    ensures { λ r. ⌜ Prepares (holds (read (now (sheet .entry)))) (now (sheet .entry)) (now (ws .entry)) (now (ws .exit)) r ⌝ }
 {
     let read = read_function(sheet, ws);
     let mut function = read.function;
@@ -70,12 +71,15 @@ fn build(sheet: &[u32], ws: &mut [u32], copies: bool, applies: bool) -> Preparat
         returns,
     );
     let building = built.building;
+    if MOST_RELATIONS < building.held.most {
+        return Preparation::Refused(8);
+    }
     building.lay_out(ws);
     keep(ws, function.identifiers.count as usize);
     Preparation::Ready(function, building)
 }
 
-// Reads a sheet and builds it: refusals 1 to 8, which leave the workspace as it was, or the sheet before its first mutation.
+// Reads a sheet and builds it: refusals 1 to 8, or the sheet before its first mutation.
 pub fn prepare(sheet: &[u32], ws: &mut [u32]) -> Preparation
     ensures { λ r. ⌜ Prepares (admit (now (sheet .entry)) (length (now (ws .entry)))) (now (sheet .entry)) (now (ws .entry)) (now (ws .exit)) r ⌝ }
 {

@@ -9,7 +9,7 @@ use lib.Dec.{leb, eqb}
 use borrow.Author.Tests.{eq-eqb}
 use types.Run.{OneOf}
 use denote.Enum.Declared.{tagOf}
-use Rattle.model.specs.Limits.{mostIdentifiers, mostFunctions, mostRelations, mostMutations, mostRenders}
+use Rattle.model.specs.Limits.{mostIdentifiers, mostFunctions, mostMutations, mostRenders, mostIndex}
 use Rattle.model.specs.Lists.{pick, oneIf, among}
 use Rattle.model.specs.Sheet.{EvaluationOrder, EffectKind, Freeze, Mutate, MutateConditionally, MutateTransitive, MutateTransitiveConditionally, Capture, Alias, MaybeAlias, Assign, Create, CreateFrom, ImmutableCapture, Apply, CreateFunction, MutateFrozen, MutateGlobal, Impure, Render, Effect}
 use Rattle.model.specs.Effects.{rowOf, isAlias, isCreateFunction, isRelation, isMutation, isRender}
@@ -24,7 +24,7 @@ use Rattle.hir.proofs.EffectKind.{the-type}
 use Rattle.hir.specs.declared.EffectKind.{EffectKind as Kind}
 use Rattle.hir.specs.declared.EffectKind.the-variants.{Freeze as KindFreeze, Mutate as KindMutate, MutateConditionally as KindMutateConditionally, MutateTransitive as KindMutateTransitive, MutateTransitiveConditionally as KindMutateTransitiveConditionally, Capture as KindCapture, Alias as KindAlias, MaybeAlias as KindMaybeAlias, Assign as KindAssign, Create as KindCreate, CreateFrom as KindCreateFrom, ImmutableCapture as KindImmutableCapture, Apply as KindApply, CreateFunction as KindCreateFunction, MutateFrozen as KindMutateFrozen, MutateGlobal as KindMutateGlobal, Impure as KindImpure, Render as KindRender}
 use Rattle.building.specs.declared.Building.{Building}
-use Rattle.building.specs.Built.{Sound}
+use Rattle.building.specs.Built.{indexOf, Sound}
 use Rattle.instructions.specs.Cost.{relationsOnly, kindCost, effectCost, terminalEffectCost, Fits}
 use Rattle.instructions.specs.Ranges.{InRange}
 use Rattle.instructions.specs.Builds.{effectStep, Spends, Buildable}
@@ -65,17 +65,17 @@ module _ (e : AliasingEffect) {k : Kind} (q : e .kind ≡ k) {ws : List ℕ} {b 
   room : Asked e ws b → Fits (kindCost (kindSays k)) b
   room p = subst (λ (k : Kind). Fits (kindCost (kindSays k)) b) q (p .fits)
 
-  pub relation-can : isRelation (rowOf (kindSays k) .role) ≡ true → Asked e ws b → Sound ws b × ((b .relations < mostRelations) × (PlaceBelow mostIdentifiers (placeIs (e .first)) × PlaceBelow mostIdentifiers (placeIs (e .second))))
+  pub relation-can : isRelation (rowOf (kindSays k) .role) ≡ true → Asked e ws b → Sound ws b × ((indexOf b < mostIndex) × (PlaceBelow mostIdentifiers (placeIs (e .first)) × PlaceBelow mostIdentifiers (placeIs (e .second))))
   unfolding kindCost
-  relation-can t p = (p .sound, (omega (arith, room p .relations, ap oneIf t), (p .range .first, p .range .second (ap (λ (j : Kind). leb 2 (rowOf (kindSays j) .places)) q ∙ relation-places (kindSays k) t))))
+  relation-can t p = (p .sound, (omega (arith, room p .indexes, ap oneIf t), (p .range .first, p .range .second (ap (λ (j : Kind). leb 2 (rowOf (kindSays j) .places)) q ∙ relation-places (kindSays k) t))))
 
-  pub mutation-can : isMutation (rowOf (kindSays k) .role) ≡ true → Asked e ws b → Sound ws b × ((b .mutations < mostMutations) × PlaceBelow mostIdentifiers (placeIs (e .first)))
+  pub mutation-can : isMutation (rowOf (kindSays k) .role) ≡ true → Asked e ws b → Sound ws b × ((indexOf b < mostIndex) × ((b .mutations < mostMutations) × PlaceBelow mostIdentifiers (placeIs (e .first))))
   unfolding kindCost
-  mutation-can t p = (p .sound, (omega (arith, room p .mutations, ap oneIf t), p .range .first))
+  mutation-can t p = (p .sound, (omega (arith, room p .indexes, ap oneIf t), (omega (arith, room p .mutations, ap oneIf t), p .range .first)))
 
-  pub render-can : isRender (rowOf (kindSays k) .role) ≡ true → Asked e ws b → Sound ws b × ((b .renders < mostRenders) × PlaceBelow mostIdentifiers (placeIs (e .first)))
+  pub render-can : isRender (rowOf (kindSays k) .role) ≡ true → Asked e ws b → Sound ws b × ((indexOf b < mostIndex) × ((b .renders < mostRenders) × PlaceBelow mostIdentifiers (placeIs (e .first))))
   unfolding kindCost
-  render-can t p = (p .sound, (omega (arith, room p .renders, ap oneIf t), p .range .first))
+  render-can t p = (p .sound, (omega (arith, room p .indexes, ap oneIf t), (omega (arith, room p .renders, ap oneIf t), p .range .first)))
 
 -- the extra word is a reason or none
 pub reason-below : (e : AliasingEffect) → e .kind ≡ KindMutate → InRange (effectIs e) → e .extra < 2
@@ -138,9 +138,9 @@ pub alias-places : {k : Kind} → k ≡ KindAlias → leb 2 (rowOf (kindSays k) 
 unfolding rowOf
 alias-places q = ap (λ (j : Kind). leb 2 (rowOf (kindSays j) .places)) q
 
-pub alias-fits : (e : AliasingEffect) {b : Building} → isAlias (kindSays (e .kind)) ≡ true → Fits (terminalEffectCost (effectIs e)) b → b .relations < mostRelations
+pub alias-fits : (e : AliasingEffect) {b : Building} → isAlias (kindSays (e .kind)) ≡ true → Fits (terminalEffectCost (effectIs e)) b → indexOf b < mostIndex
 unfolding terminalEffectCost
-alias-fits e t f = omega (arith, f .relations, ap oneIf t)
+alias-fits e t f = omega (arith, f .indexes, ap oneIf t)
 
 -- the kinds that are no Alias
 abbrev pub otherKinds : List ℕ

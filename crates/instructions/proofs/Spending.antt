@@ -2,11 +2,13 @@
 use Prim.Native.Nat.{ℕ}
 use native.Mathlib.Omega.{arith}
 use mathlib.Core.Path.{_≡_, refl, ap, _∙_}
+use mathlib.Core.Logic.{inl, inr}
 use mathlib.Core.List.{List, [], _∷_}
 use Rattle.model.specs.Lists.{tally}
 use Rattle.model.specs.Built.{Built}
 use Rattle.building.specs.declared.Building.{Building}
 use Rattle.building.specs.Built.{builtOf, Sound}
+use Rattle.building.proofs.Holds.{by-limit}
 use Rattle.building.proofs.Stages.{steps-then}
 use Rattle.instructions.specs.Cost.{Cost, relationsOnly, sum, costs, Fits}
 use Rattle.instructions.specs.Builds.{SpendsOn, Spends}
@@ -14,8 +16,12 @@ use Rattle.instructions.specs.Builds.{SpendsOn, Spends}
 module _ {ws : List ℕ} {b : Building} where
   -- nothing is done
   pub spends-none : Sound ws b → Spends (λ (t : Built). t) (relationsOnly 0) ws b ws b
+  unfolding builtOf
   spends-none h s = record {
-    built = refl;
+    built = λ a. refl;
+    over = λ a. a;
+    more = by-limit (b .held .most) (λ a. inl a) (λ a. inr a);
+    rises = λ c. omega arith;
     holding = λ x. x;
     sound = h;
     relations = omega arith;
@@ -35,7 +41,10 @@ module _ {ws : List ℕ} {b : Building} where
   -- a step that is another
   pub spends-as : {s : List ℕ} {f g : Built → Built} {k : Cost} {ws′ : List ℕ} {r : Building} → ((t : Built) → f t ≡ g t) → SpendsOn s f k ws b ws′ r → SpendsOn s g k ws b ws′ r
   spends-as {s} e x = record {
-    built = x .built ∙ e (builtOf s ws b);
+    built = λ a. x .built a ∙ e (builtOf s ws b);
+    over = λ a. omega (arith, x .over a, ap (λ (t : Built). t .held) (e (builtOf s ws b)));
+    more = x .more;
+    rises = λ c. omega (arith, x .rises c, ap (λ (t : Built). t .held) (e c));
     holding = x .holding;
     sound = x .sound;
     relations = x .relations;
@@ -50,7 +59,7 @@ module _ {ws : List ℕ} {b : Building} where
 -- there is room for a part of what there is room for
 pub fits-first : (j k : Cost) {b : Building} → Fits (sum j k) b → Fits j b
 fits-first j k h = record {
-  relations = omega (arith, h .relations);
+  indexes = omega (arith, h .indexes);
   mutations = omega (arith, h .mutations);
   renders = omega (arith, h .renders);
   blocks = omega (arith, h .blocks);
@@ -59,7 +68,7 @@ fits-first j k h = record {
 -- and for the rest of it after that
 pub fits-second : {s : List ℕ} {f : Built → Built} (j k : Cost) {ws ws′ : List ℕ} {b r : Building} → Fits (sum j k) b → SpendsOn s f j ws b ws′ r → Fits k r
 fits-second j k h x = record {
-  relations = omega (arith, h .relations, x .relations);
+  indexes = omega (arith, h .indexes, x .relations, x .mutations, x .renders);
   mutations = omega (arith, h .mutations, x .mutations);
   renders = omega (arith, h .renders, x .renders);
   blocks = omega (arith, h .blocks, x .come);

@@ -4,7 +4,7 @@ use native.Mathlib.Omega.{arith}
 use mathlib.Core.Path.{_≡_, refl, sym, subst, ap, _∙_}
 use mathlib.Core.List.{List}
 use lib.ListN.{length}
-use Rattle.model.specs.Limits.{mostIdentifiers, mostRelations, placeWidth}
+use Rattle.model.specs.Limits.{mostIdentifiers, mostIndex, placeWidth}
 use Rattle.model.specs.Lists.{each, Every, oneIf}
 use Rattle.model.specs.Sheet.{EvaluationOrder, Place, Effect, EffectList, Terminal, Other, Return, MaybeThrow}
 use Rattle.model.specs.Effects.{isAlias}
@@ -23,6 +23,7 @@ use Rattle.hir.specs.Words.{Part, wordAt, placeAt, several, effectsFrom, places
 use Rattle.hir.specs.Parts.{TerminalAt}
 use Rattle.hir.proofs.Values.{list-end}
 use Rattle.building.specs.declared.Building.{Building}
+use Rattle.building.specs.Built.{indexOf}
 use Rattle.instructions.specs.declared.Built.{Built as BuiltPart}
 use Rattle.instructions.specs.Cost.{Cost, relationsOnly, sum, costs, terminalEffectCost, terminalCost, Fits}
 use Rattle.instructions.specs.Ranges.{InRange, TerminalInRange}
@@ -124,8 +125,8 @@ module _ (s : List ℕ) (c : Position) {ws : List ℕ} {b : Building} (w : Ready
     room : Fits (sum (relationsOnly 1) (costs terminalEffectCost behind)) b
     room = subst (λ (k : Cost). Fits k b) (returns-cost (wordAt s (c + 1)) (placeAt s (c + 2)) behind) (returned .fits)
 
-    pub value-fits : b .relations < mostRelations
-    value-fits = omega (arith, room .relations)
+    pub value-fits : indexOf b < mostIndex
+    value-fits = omega (arith, room .indexes)
 
     pub value-known : PlaceBelow mostIdentifiers (placeIs v)
     value-known = subst (PlaceBelow mostIdentifiers) (sym (return .1 .0)) (returned .range .0)

@@ -1,12 +1,13 @@
--- What the parts of a sheet spend of the limits: document 01, refusal 8 (relation effects, mutations, renders), and blocks.
+-- What the parts of a sheet spend of the limits: indexes (relation effects, mutations, renders), mutations and renders by document 01, refusal 8, and blocks.
 use Prim.Native.Nat.{ℕ, _+_, _≤_}
 use mathlib.Core.List.{List}
-use Rattle.model.specs.Limits.{mostRelations, mostMutations, mostRenders, mostBlocks}
+use Rattle.model.specs.Limits.{mostMutations, mostRenders, mostBlocks, mostIndex}
 use Rattle.model.specs.Lists.{tally, oneIf}
 use Rattle.model.specs.Sheet.{EffectKind, Effect, Instruction, listOf, Terminal}
 use Rattle.model.specs.Effects.{rowOf, isAlias, isRelation, isMutation, isRender}
 use Rattle.model.specs.Totals.{terminalRelations}
 use Rattle.building.specs.declared.Building.{Building}
+use Rattle.building.specs.Built.{indexOf}
 
 -- how many of each
 pub record Cost : Type 0 where
@@ -64,7 +65,7 @@ terminalCost t = relationsOnly (terminalRelations t)
 
 -- there is room for so much
 pub record Fits (k : Cost) (b : Building) : Type 0 where
-  pub relations : b .relations + k .relations ≤ mostRelations
+  pub indexes : indexOf b + (k .relations + k .mutations + k .renders) ≤ mostIndex
   pub mutations : b .mutations + k .mutations ≤ mostMutations
   pub renders : b .renders + k .renders ≤ mostRenders
   pub blocks : b .come + k .blocks ≤ mostBlocks

@@ -13,10 +13,10 @@ use Rattle.model.specs.Sections.{noQuestion, innerFunction, sheet}
 use Rattle.model.specs.Asking as asking
 use Rattle.model.specs.Asking.{Asks, tellBlock}
 use Rattle.model.specs.Totals.{Totals, totals, over}
-use Rattle.model.specs.Counting.{noTotals, withRelation, countRole, countKind, counting, countedSheet}
+use Rattle.model.specs.Counting.{noTotals, withRelation, countRole, countKind, countingBy, counting, countedSheet}
 use Rattle.model.proofs.Got.{got-value, not-both}
 use Rattle.model.proofs.Asked.{itself, sheet-follows, never}
-use Rattle.model.proofs.Limited.{Above, over-above, few-not-over}
+use Rattle.model.proofs.Limited.{Above, Limit, over-limit}
 use Rattle.model.proofs.TotalsAdded.{sheet-adds}
 use Rattle.model.proofs.Ahead.{Comes, same, neither, stopped}
 use Rattle.model.proofs.SheetAhead.{Asked, on, apart, Related, sheet-ahead}
@@ -46,66 +46,81 @@ kind-above true k t = go (isAlias k)
     go true = role-above relation t
     go false = role-above nothing t
 
--- ---- both readings
--- the totals so far are the same, and none is over its limit
-abbrev Within : Totals → Totals → Type 0
-Within t u = (t ≡ u) × (over t ≡ false)
+-- ---- both readings, by what is over a limit
+module _ (over : Totals → Bool) (limit : Limit over) where
+  -- the totals so far are the same, and none is over its limit
+  abbrev Within : Totals → Totals → Type 0
+  Within t u = (t ≡ u) × (over t ≡ false)
 
-abbrev Over : Totals → Type 0
-Over u = over u ≡ true
+  abbrev Over : Totals → Type 0
+  Over u = over u ≡ true
 
-asked-totals : (t u : Totals) → t ≡ u → Asked counting quiet (Unit {0}) Within Over t u
-asked-totals t u e = go (over t) refl
-  where
-    go : (b : Bool) → over t ≡ b → Asked counting quiet (Unit {0}) Within Over t u
-    go true o = apart tt (λ ws c. ap (λ (x : Bool). pick x (refuse 8) (pure tt) ws c) o) (sym (ap over e) ∙ o)
-    go false o = on (λ ws c. ap (λ (x : Bool). pick x (refuse 8) (pure tt) ws c) o) (λ ws c. refl) (e, o)
+  asked-totals : (t u : Totals) → t ≡ u → Asked (countingBy over) quiet (Unit {0}) Within Over t u
+  asked-totals t u e = go (over t) refl
+    where
+      go : (b : Bool) → over t ≡ b → Asked (countingBy over) quiet (Unit {0}) Within Over t u
+      go true o = apart tt (λ ws c. ap (λ (x : Bool). pick x (refuse 8) (pure tt) ws c) o) (sym (ap over e) ∙ o)
+      go false o = on (λ ws c. ap (λ (x : Bool). pick x (refuse 8) (pure tt) ws c) o) (λ ws c. refl) (e, o)
 
-related : Related counting quiet (Unit {0}) Within Over
-related = record {
-  effect = λ terminal k t u r. asked-totals _ _ (ap (countKind terminal k) (r .0));
-  relation = λ t u r. asked-totals _ _ (ap (λ (x : Totals). withRelation x) (r .0));
-  worseEffect = λ terminal k u o. over-above u (countKind terminal k u) (kind-above terminal k u) o;
-  worseRelation = λ u o. over-above u (withRelation u) (role-above relation u) o;
-}
+  related : Related (countingBy over) quiet (Unit {0}) Within Over
+  related = record {
+    effect = λ terminal k t u r. asked-totals _ _ (ap (countKind terminal k) (r .0));
+    relation = λ t u r. asked-totals _ _ (ap (λ (x : Totals). withRelation x) (r .0));
+    worseEffect = λ terminal k u o. limit .stays u (countKind terminal k u) (kind-above terminal k u) o;
+    worseRelation = λ u o. limit .stays u (withRelation u) (role-above relation u) o;
+  }
 
-abbrev told : Sheet → Totals
-told s = each (tellBlock counting) (s .blocks) noTotals
+  abbrev told : Sheet → Totals
+  told s = each (tellBlock counting) (s .blocks) noTotals
 
-side-by-side : (ws : List ℕ) (c : Position) → Comes (Unit {0}) Within Over told told (countedSheet ws c) (sheet ws c)
-unfolding countedSheet tellBlock
-side-by-side ws c =
-    subst (λ (y : Result Sheet). Comes (Unit {0}) Within Over told told (countedSheet ws c) y) (quiet-sheet ws c)
-    (sheet-ahead counting quiet (Unit {0}) Within Over related refl (refl, few-not-over noTotals (omega arith) (omega arith) (omega arith)) ws c)
+  side-by-side : (ws : List ℕ) (c : Position) → Comes (Unit {0}) Within Over told told (asking.sheet (countingBy over) ws c) (sheet ws c)
+  unfolding tellBlock
+  side-by-side ws c =
+      subst (λ (y : Result Sheet). Comes (Unit {0}) Within Over told told (asking.sheet (countingBy over) ws c) y) (quiet-sheet ws c)
+      (sheet-ahead (countingBy over) quiet (Unit {0}) Within Over related refl (refl, limit .none) ws c)
 
+  module _ (ws : List ℕ) (c : Position) where
+    -- what is accepted is what was read, with its totals within their limits
+    pub got-by : (s : Sheet) (d : Position) → asking.sheet (countingBy over) ws c ≡ got s d → (sheet ws c ≡ got s d) × (over (totals s) ≡ false)
+    got-by s d e = go (side-by-side ws c)
+      where
+        go : Comes (Unit {0}) Within Over told told (asking.sheet (countingBy over) ws c) (sheet ws c) → (sheet ws c ≡ got s d) × (over (totals s) ≡ false)
+        go (same v k x y r) = (y ∙ sym x ∙ e, sym (ap (λ (z : Sheet). over (told z)) (got-value (sym x ∙ e)) ∙ ap over (sheet-adds s)) ∙ r .1)
+        go (neither k x y) = absurd (not-both e x)
+        go (stopped m x l) = absurd (not-both e x)
+
+    -- and the other way
+    pub within-by : (s : Sheet) (d : Position) → sheet ws c ≡ got s d → over (totals s) ≡ false → asking.sheet (countingBy over) ws c ≡ got s d
+    within-by s d e o = go (side-by-side ws c)
+      where
+        go : Comes (Unit {0}) Within Over told told (asking.sheet (countingBy over) ws c) (sheet ws c) → asking.sheet (countingBy over) ws c ≡ got s d
+        go (same v k x y r) = x ∙ sym y ∙ e
+        go (neither k x y) = absurd (not-both e y)
+        go (stopped m x l) = absurd (true≢false (sym (l s d e) ∙ ap over (sheet-adds s) ∙ o))
+
+    -- a refusal is the reading's own, or 8
+    pub refused-by : (k : ℕ) → asking.sheet (countingBy over) ws c ≡ refused k → (sheet ws c ≡ refused k) ⊎ (k ≡ 8)
+    refused-by k e = go (side-by-side ws c)
+      where
+        number : Result Sheet → ℕ
+        number (got s d) = 0
+        number (refused n) = n
+
+        go : Comes (Unit {0}) Within Over told told (asking.sheet (countingBy over) ws c) (sheet ws c) → (sheet ws c ≡ refused k) ⊎ (k ≡ 8)
+        go (same v j x y r) = absurd (not-both x e)
+        go (neither j x y) = inl (y ∙ sym x ∙ e)
+        go (stopped m x l) = inr (ap number (sym e ∙ x))
+
+-- ---- of mutations and renders
 module _ (ws : List ℕ) (c : Position) where
-  -- what is accepted is what was read, with its totals within their limits
   pub counted-got : (s : Sheet) (d : Position) → countedSheet ws c ≡ got s d → (sheet ws c ≡ got s d) × (over (totals s) ≡ false)
-  counted-got s d e = go (side-by-side ws c)
-    where
-      go : Comes (Unit {0}) Within Over told told (countedSheet ws c) (sheet ws c) → (sheet ws c ≡ got s d) × (over (totals s) ≡ false)
-      go (same v k x y r) = (y ∙ sym x ∙ e, sym (ap (λ (z : Sheet). over (told z)) (got-value (sym x ∙ e)) ∙ ap over (sheet-adds s)) ∙ r .1)
-      go (neither k x y) = absurd (not-both e x)
-      go (stopped m x l) = absurd (not-both e x)
+  unfolding countedSheet
+  counted-got = got-by over over-limit ws c
 
-  -- and the other way
   pub counted-within : (s : Sheet) (d : Position) → sheet ws c ≡ got s d → over (totals s) ≡ false → countedSheet ws c ≡ got s d
-  counted-within s d e o = go (side-by-side ws c)
-    where
-      go : Comes (Unit {0}) Within Over told told (countedSheet ws c) (sheet ws c) → countedSheet ws c ≡ got s d
-      go (same v k x y r) = x ∙ sym y ∙ e
-      go (neither k x y) = absurd (not-both e y)
-      go (stopped m x l) = absurd (true≢false (sym (l s d e) ∙ ap over (sheet-adds s) ∙ o))
+  unfolding countedSheet
+  counted-within = within-by over over-limit ws c
 
-  -- a refusal is the reading's own, or 8
   pub counted-refused : (k : ℕ) → countedSheet ws c ≡ refused k → (sheet ws c ≡ refused k) ⊎ (k ≡ 8)
-  counted-refused k e = go (side-by-side ws c)
-    where
-      number : Result Sheet → ℕ
-      number (got s d) = 0
-      number (refused n) = n
-
-      go : Comes (Unit {0}) Within Over told told (countedSheet ws c) (sheet ws c) → (sheet ws c ≡ refused k) ⊎ (k ≡ 8)
-      go (same v j x y r) = absurd (not-both x e)
-      go (neither j x y) = inl (y ∙ sym x ∙ e)
-      go (stopped m x l) = inr (ap number (sym e ∙ x))
+  unfolding countedSheet
+  counted-refused = refused-by over over-limit ws c

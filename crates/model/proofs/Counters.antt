@@ -96,7 +96,7 @@ module _ (M : Built → ℕ) (unit : ℕ) (costs : EffectKind → ℕ) (c : Coun
       let h₂ : M b₂ ≡ tally instructionCost (k .instructions) + M (comes (k .number) b₁) = each-counts instruction instructionCost instruction-counts (k .instructions) (comes (k .number) b₁) in
       omega (arith, h₁, h₂, c .comes (k .number) b₁, wake-counts (k .number) b₂, terminal-counts r (k .terminal) (wake (k .number) b₂))
 
-  pub build-counts : (s : Sheet) → M (record { graph = firstNodes s; index = 0; come = []; waiting = []; mutations = []; renders = [] }) ≡ 0 → M (build s) ≡ tally blockCost (s .blocks)
+  pub build-counts : (s : Sheet) → M (record { graph = firstNodes s; held = 0; index = 0; come = []; waiting = []; mutations = []; renders = [] }) ≡ 0 → M (build s) ≡ tally blockCost (s .blocks)
   unfolding build
   build-counts s z =
-      omega (arith, z, each-counts (block (s .returns)) blockCost (block-counts (s .returns)) (s .blocks) (record { graph = firstNodes s; index = 0; come = []; waiting = []; mutations = []; renders = [] }))
+      omega (arith, z, each-counts (block (s .returns)) blockCost (block-counts (s .returns)) (s .blocks) (record { graph = firstNodes s; held = 0; index = 0; come = []; waiting = []; mutations = []; renders = [] }))

@@ -12,7 +12,7 @@ use Rattle.model.specs.Lists.{pick, each, among}
 use Rattle.model.specs.Sheet.{InnerFunction, Place, InstructionValue, Plain, Function, StoreContext, Instruction, isListed, lvaluesOf, Block}
 use Rattle.model.specs.Operands.{Ranges, Pass, orIfUnset, setUnset, endsAfter, startIf, nameLvalue, endPast, storeValue, nameLvalues, contextOf, operandRanges, instructionRanges, block}
 use Rattle.model.specs.EndsSet.{instructionsOf, isLvalue, isStored, stores, lvalueEnd, storeEnd, endAfter, endOf, startOf}
-use Rattle.model.proofs.Steady.{each-keeps}
+use Rattle.model.proofs.BuiltKeeps.{each-keeps}
 use Rattle.model.proofs.PassRanges.{Follows, pass-follows, Kept, pass-keeps}
 
 -- one entry, after an entry was changed by g

@@ -19,12 +19,16 @@ pub mod Ends
 pub mod Sets
 pub mod Levels
 -- building
+pub mod BuiltKeeps
 pub mod Steady
 pub mod Nodes
 pub mod Stored
 pub mod Counters
 pub mod Counted
 pub mod Indexes
+pub mod WordsRead
+pub mod Held
+pub mod HeldMore
 -- renders
 pub mod RenderBound
 pub mod Gathers
@@ -47,6 +51,7 @@ pub mod Limited
 pub mod TotalsAdded
 pub mod CountedSheet
 pub mod Overlap
+pub mod Collected
 pub mod Numbers
 pub mod Callers
 pub mod Isolation

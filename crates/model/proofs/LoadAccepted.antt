@@ -7,11 +7,12 @@ use mathlib.Core.List.{List, [], _∷_, append-nil}
 use lib.ListN.{length, replicate, length-append, length-replicate}
 use lib.Dec.{leb}
 use borrow.Author.Tests.{leb-true}
-use Rattle.model.specs.Limits.{leastWorkspace, mostSheet, mostIdentifiers, leastLoadIdentifiers, leastLoadEffects, mostLoadEffects}
+use Rattle.model.specs.Limits.{leastWorkspace, mostSheet, mostRelations, mostIdentifiers, leastLoadIdentifiers, leastLoadEffects, mostLoadEffects}
 use Rattle.model.specs.Lists.{gather, each, tally, oneIf, Every}
 use Rattle.model.specs.Sheet.{Diagnostic, Place, Effect, Instruction, listOf, Other, Block, Sheet}
 use Rattle.model.specs.Effects.{Role, rowOf, isRelation, isMutation, isRender, isDiagnosis, isApply, anyApply}
 use Rattle.model.specs.Totals.{instructionEffects, withRole, blockRelations, totals, over}
+use Rattle.model.specs.Building.{build}
 use Rattle.model.specs.Summary.{copied, recorded}
 use Rattle.model.specs.Simulated.{simulate}
 use Rattle.model.specs.Answer.{functionErrors, diagnosed, answer, answerWords}
@@ -25,6 +26,7 @@ use Rattle.model.proofs.Everywhere.{every-mem, every-replicate, every-g
 use Rattle.model.proofs.Gathers.{gather-none}
 use Rattle.model.proofs.Tallies.{tally-each, role-most, keep-none}
 use Rattle.model.proofs.Limited.{few-not-over}
+use Rattle.model.proofs.Held.{few-held}
 use Rattle.model.proofs.CountedSheet.{counted-within}
 use Rattle.model.proofs.AllRefusals.{then-accepted}
 use Rattle.model.proofs.Callers.{first-11, inside-outcome}
@@ -148,10 +150,18 @@ module _ (seed n m : ℕ) (h : Loadable n m) where
   unfolding totals classLoad
   few-mutations = omega (arith, with-role isMutation)
 
+  few-relations : totals (classLoad seed n m) .relations ≤ m
+  unfolding totals blockRelations classLoad
+  few-relations = omega (arith, with-role isRelation)
+
   load-not-over : over (totals (classLoad seed n m)) ≡ false
   unfolding totals blockRelations classLoad
   load-not-over =
-      few-not-over (totals (classLoad seed n m)) (omega (arith, with-role isRelation, h .effects)) (omega (arith, few-mutations, h .effects)) (omega (arith, no-renders))
+      few-not-over (totals (classLoad seed n m)) (omega (arith, few-mutations, h .effects)) (omega (arith, no-renders))
+
+  -- no more is held than it has effects
+  load-held : build (classLoad seed n m) .held ≤ mostRelations
+  load-held = omega (arith, few-held (classLoad seed n m), few-relations, h .effects)
 
   load-short : length (sheetWords (classLoad seed n m)) ≤ mostSheet
   load-short = omega (arith, load-length, h .identifiers, h .effects)
@@ -234,7 +244,7 @@ module _ (seed n m : ℕ) (h : Loadable n m) where
   call-accepted workspace room w r =
       let s : Sheet = classLoad seed n m in
       let ws : List ℕ = sheetWords s in
-      then-accepted ws workspace room w load-short s (length ws) (counted-within ws 0 s (length ws) (reads-back s load-fits) load-not-over) (omega arith) no-apply r
+      then-accepted ws workspace room w load-short s (length ws) (counted-within ws 0 s (length ws) (reads-back s load-fits) load-not-over) (omega arith) load-held no-apply r
 
   within-bounds : LoadAccepted seed n m
   within-bounds = record {

@@ -16,7 +16,7 @@ use Rattle.model.specs.Certainty.{isLocal, AllTransitive, mutationKind, 
 use Rattle.model.proofs.Everywhere.{every-append, every-mem, every-member}
 use Rattle.model.proofs.Follow.{OnlyTransitive}
 use Rattle.model.proofs.Gathers.{gather-gather, mem-gather}
-use Rattle.model.proofs.Steady.{each-keeps}
+use Rattle.model.proofs.BuiltKeeps.{each-keeps}
 
 -- outside instructions no mutation is added
 abbrev Same : Built → Built → Type 0

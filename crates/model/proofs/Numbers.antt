@@ -7,7 +7,7 @@ use mathlib.Core.Logic.{_⊎_, inl, inr}
 use mathlib.Core.List.{List}
 use lib.ListN.{length}
 use lib.Dec.{ltb}
-use Rattle.model.specs.Limits.{leastWorkspace, mostSheet, lastOfSheet, lastOfDrawing}
+use Rattle.model.specs.Limits.{leastWorkspace, mostSheet, mostRelations, lastOfSheet, lastOfDrawing}
 use Rattle.model.specs.Lists.{pick}
 use Rattle.model.specs.Sheet.{Sheet}
 use Rattle.model.specs.Reading.{Position, Result, got, refused}
@@ -15,7 +15,7 @@ use Rattle.model.specs.Sections.{sheet}
 use Rattle.model.specs.Counting.{countedSheet}
 use Rattle.model.specs.Building.{build}
 use Rattle.model.specs.Answer.{answer, answerWords}
-use Rattle.model.specs.Call.{applies, Outcome, refusal, accepted, ended, read, fits, answered, admit, outcome, numberOf}
+use Rattle.model.specs.Call.{applies, Outcome, refusal, accepted, ended, read, fits, answered, holds, admit, outcome, numberOf}
 use Rattle.model.specs.Dot.{dot, drawn, draw}
 use Rattle.model.specs.Numbers.{FromReading, Numbered}
 use Rattle.model.proofs.CountedSheet.{counted-refused}
@@ -64,13 +64,22 @@ answered-numbered room (got s c) h = go (applies s) (ltb room (length (answerWor
     go false false = tt
 answered-numbered room (refused k) h = (h .0, omega (arith, h .1))
 
+holds-numbered : (r : Result Sheet) → NumberedRead r → NumberedRead (holds r)
+unfolding holds
+holds-numbered (refused k) h = h
+holds-numbered (got s c) h = go (ltb mostRelations (build s .held))
+  where
+    go : (b : Bool) → NumberedRead (pick b (refused 8) (got s c))
+    go true = (omega arith, omega arith)
+    go false = tt
+
 admit-numbered : (ws : List ℕ) (workspace : ℕ) → NumberedRead (admit ws workspace)
 unfolding admit
 admit-numbered ws workspace = go (ltb workspace leastWorkspace)
   where
-    go : (b : Bool) → NumberedRead (pick b (refused 1) (read ws))
+    go : (b : Bool) → NumberedRead (pick b (refused 1) (holds (read ws)))
     go true = (omega arith, omega arith)
-    go false = read-numbered ws
+    go false = holds-numbered (read ws) (read-numbered ws)
 
 -- for all words and lengths
 pub outcome-numbered : (ws : List ℕ) (workspace room : ℕ) → Numbered lastOfSheet (outcome ws workspace room)

@@ -7,7 +7,7 @@ use Rattle.model.specs.Lists.{pick, each}
 use Rattle.model.specs.Sheet.{InnerFunction, Place, Phi, InstructionValue, Instruction, isListed, lvaluesOf, Block}
 use Rattle.model.specs.Operands.{Ranges, Pass, startIf, nameLvalue, nameLvalues, storeValue, operandRanges, instructionRanges, contextOf, phiStarts, phis, firstOrder, instruction, terminal, block}
 use Rattle.model.specs.EndsSet.{instructionsOf}
-use Rattle.model.proofs.Steady.{each-keeps}
+use Rattle.model.proofs.BuiltKeeps.{each-keeps}
 
 module _ {A B : Type 0} where
   pub each-append : (f : A → B → B) (k l : List A) (b : B) → each f (k ++ l) b ≡ each f l (each f k b)

@@ -24,7 +24,7 @@ use Rattle.model.proofs.EncoderParts.{kind-back}
 use Rattle.model.proofs.Everywhere.{every-of, every-keep, every-append, every-gather}
 use Rattle.model.proofs.Tallies.{tally-each, tally-member, tally-some}
 use Rattle.model.proofs.Stored.{tally-append}
-use Rattle.model.proofs.Steady.{each-keeps}
+use Rattle.model.proofs.BuiltKeeps.{each-keeps}
 use Rattle.model.proofs.Simulating.{next}
 use Rattle.model.proofs.Levels.{infoLevel}
 

@@ -8,7 +8,7 @@ use Rattle.model.specs.Refusals.{calls, refusedSo}
 use Rattle.model.specs.Boundaries.{limits, effectTable, effectRows, sameRows, totalsRight}
 use Rattle.model.specs.Answer.{rangesBefore, rangesAfter, summary, diagnosed, answer, middleWords, operandWords, answerWords}
 use Rattle.model.specs.Building.{instructionEffect, instruction, operand, phiNode, wake, terminalEffect, terminal, block, firstNodes, build}
-use Rattle.model.specs.Call.{ended, read, applies, fits, answered, admit, outcome, answerAfter, workspaceAfter}
+use Rattle.model.specs.Call.{holds, ended, read, applies, fits, answered, admit, outcome, answerAfter, workspaceAfter}
 use Rattle.model.specs.Effects.{kindOf, rowOf}
 use Rattle.model.specs.Graph.{create, enter, withEdge, withEntry, change, store, relate, assign, createFrom}
 use Rattle.model.specs.Marks.{withEffect, captureOrRead, flowMarks, marksOf, operandEffects, markOf, withMark}
@@ -46,7 +46,7 @@ pub record AllRight : Type 0 where
   pub callers-right : T (calledSo callerCases)
 
 pub all-right : AllRight
-unfolding rangesBefore rangesAfter summary diagnosed answer middleWords operandWords answerWords instructionEffect instruction operand phiNode wake terminalEffect terminal block firstNodes build ended read applies fits answered admit outcome answerAfter workspaceAfter kindOf rowOf create enter withEdge withEntry change store relate assign createFrom withEffect captureOrRead flowMarks marksOf operandEffects markOf withMark setUnset startIf nameLvalue storeValue phisMarked phiStarts phis nameLvalues instructionMarks operandRanges instructionRanges instruction-Operands terminalPlaces terminal-Operands block-Operands sheetStarts endsBefore beforePass afterPass word count fixed atMost below newNumber times numbered counted optional timesFrom numberedFrom countedFrom renderPushes renderVisit renderStep renderRun renderWalk walksOf after rendersOf rendered reached largestEnd flag flags identifier diagnostic place innerFunction unused extra effect effects operand-Sections phi instructionValue instruction-Sections terminalOf terminal-Sections block-Sections sheet taken serves call tracked simulation flowEffects simulate enough accepts copied recorded sheetEnds built realWalks afterReal afterRenders collectParamEffects captureMark marked createReturns instructionEffects blockRelations totals over tellBlock effect-Asking effects-Asking operand-Asking phi-Asking instruction-Asking terminalOf-Asking terminal-Asking block-Asking sheet-Asking countKind countedSheet effectOf reactiveOf traitsWord pushes visit step run walkOf mutate right table ours refusedSo calls limits effectTable totalsRight answeredSo readings operandCases digitsIn digits nodeLine edgeLine byNode nodeLines edgeLines dot graphs graphsRight drawn draw drawings drawingsRight outside callFor callerCases calledSo
+unfolding holds rangesBefore rangesAfter summary diagnosed answer middleWords operandWords answerWords instructionEffect instruction operand phiNode wake terminalEffect terminal block firstNodes build ended read applies fits answered admit outcome answerAfter workspaceAfter kindOf rowOf create enter withEdge withEntry change store relate assign createFrom withEffect captureOrRead flowMarks marksOf operandEffects markOf withMark setUnset startIf nameLvalue storeValue phisMarked phiStarts phis nameLvalues instructionMarks operandRanges instructionRanges instruction-Operands terminalPlaces terminal-Operands block-Operands sheetStarts endsBefore beforePass afterPass word count fixed atMost below newNumber times numbered counted optional timesFrom numberedFrom countedFrom renderPushes renderVisit renderStep renderRun renderWalk walksOf after rendersOf rendered reached largestEnd flag flags identifier diagnostic place innerFunction unused extra effect effects operand-Sections phi instructionValue instruction-Sections terminalOf terminal-Sections block-Sections sheet taken serves call tracked simulation flowEffects simulate enough accepts copied recorded sheetEnds built realWalks afterReal afterRenders collectParamEffects captureMark marked createReturns instructionEffects blockRelations totals over tellBlock effect-Asking effects-Asking operand-Asking phi-Asking instruction-Asking terminalOf-Asking terminal-Asking block-Asking sheet-Asking countKind countedSheet effectOf reactiveOf traitsWord pushes visit step run walkOf mutate right table ours refusedSo calls limits effectTable totalsRight answeredSo readings operandCases digitsIn digits nodeLine edgeLine byNode nodeLines edgeLines dot graphs graphsRight drawn draw drawings drawingsRight outside callFor callerCases calledSo
 all-right = record { table-right = tt; ours-right = tt; calls-refused = tt; limits-right = tt; effect-table-right = tt; readings-right = tt; operand-cases-right = tt; drawings-right = tt; callers-right = tt }
 
 pub effect-rows : T (sameRows effectRows)

@@ -187,6 +187,6 @@ sameRows (r ∷ l) = sameRow (rowOf (kindOf (r .kind))) && sameRows l
 abbrev pub three : ℕ → ℕ → ℕ → Totals
 three r m k = record { relations = r; mutations = m; renders = k }
 
--- "over 1,024 relation effects, 512 mutations or 256 renders": all met, then each passed by one
+-- "over .. 512 mutations or 256 renders": both met, then each passed by one; document 02, order 10: relation effects have no limit
 unfoldable pub totalsRight : Bool
-totalsRight = not (over (three 1024 512 256)) && (over (three 1025 0 0) && (over (three 0 513 0) && over (three 0 0 257)))
+totalsRight = not (over (three 1025 512 256)) && (over (three 0 513 0) && over (three 0 0 257))

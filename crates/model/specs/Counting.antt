@@ -39,12 +39,16 @@ unfoldable pub countKind : Bool → EffectKind → Totals → Totals
 countKind terminal k t = pick terminal (pick (isAlias k) (withRelation t) t) (countRole (rowOf k .role) t)
 
 -- 8, if a total is passed with this word
-abbrev pub askTotals : Totals → Read (Unit {0})
-askTotals t = pick (over t) (refuse 8) (pure tt)
+abbrev pub askTotals : (Totals → Bool) → Totals → Read (Unit {0})
+askTotals over t = pick (over t) (refuse 8) (pure tt)
 
--- what is counted, and what is asked at each counted word
+-- what is counted, and what is asked at each counted word, by what is over a limit
+abbrev pub countingBy : (Totals → Bool) → Asks
+countingBy over = record { Tally = Totals; none = noTotals; effect = countKind; relation = withRelation; ask = askTotals over; inner = innerFunction }
+
+-- mutations and renders
 abbrev pub counting : Asks
-counting = record { Tally = Totals; none = noTotals; effect = countKind; relation = withRelation; ask = askTotals; inner = innerFunction }
+counting = countingBy over
 
 -- "one reading left to right" for 3 to 6 and 8
 unfoldable pub countedSheet : Read Sheet

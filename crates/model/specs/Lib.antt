@@ -32,6 +32,7 @@ pub mod Operands
 pub mod Answer
 pub mod Call
 pub mod Overlap
+pub mod Collected
 pub mod Service
 pub mod Callers
 -- document 02, order 2: a class load from a seed

@@ -1,8 +1,8 @@
 -- Document 02, order 7: "Answers that change: sheets that pass a total before their first other fault gave 3, 4, 5, 6 or 7 and now give 8; no accepted sheet changes."
--- The reading before is a definition here alone: no call takes this way.
+-- The readings of document 01 and of orders 7 to 9 are definitions here alone: no call takes either way.
 use Prim.Native.Nat.{ℕ, suc, _≤_}
 use mathlib.Core.Path.{_≡_}
-use mathlib.Core.Bool.{Bool, _&&_}
+use mathlib.Core.Bool.{Bool, _||_, _&&_}
 use mathlib.Core.List.{List}
 use lib.ListN.{length}
 use lib.Dec.{ltb, eqb}
@@ -14,12 +14,24 @@ use Rattle.model.specs.Sections.{innerFunction, sheet}
 use Rattle.model.specs.Asking.{Asks}
 use Rattle.model.specs.Asking as asking
 use Rattle.model.specs.Totals.{Totals, totals, over}
-use Rattle.model.specs.Counting.{noTotals, withRelation, countKind}
-use Rattle.model.specs.Call.{ended, read}
+use Rattle.model.specs.Counting.{noTotals, withRelation, countKind, countingBy}
+use Rattle.model.specs.Call.{ended}
+
+-- "over 1,024 relation effects", until document 02, order 10
+abbrev pub mostRelationEffects : ℕ
+mostRelationEffects = 1024
+
+-- "over 1,024 relation effects, 512 mutations or 256 renders"
+unfoldable pub overThen : Totals → Bool
+overThen t = ltb mostRelationEffects (t .relations) || over t
+
+-- document 02, orders 7 to 9: relation effects are counted while reading as well
+unfoldable pub readThen : List ℕ → Result Sheet
+readThen ws = pick (ltb mostSheet (length ws)) (refused 2) (ended (asking.sheet (countingBy overThen) ws 0) (length ws))
 
 -- document 01: 8 comes after 7
 unfoldable pub judged : Result Sheet → Result Sheet
-judged (got s c) = pick (over (totals s)) (refused 8) (got s c)
+judged (got s c) = pick (overThen (totals s)) (refused 8) (got s c)
 judged (refused k) = refused k
 
 -- document 01: "3 to 6 come from one reading left to right", then 7, then 8
@@ -46,7 +58,7 @@ lookingAt n = record {
   none = record { words = 0; totals = noTotals };
   effect = seenEffect;
   relation = seenRelation;
-  ask = λ s. pick (eqb (s .words) n && over (s .totals)) (refuse 8) (pure tt);
+  ask = λ s. pick (eqb (s .words) n && overThen (s .totals)) (refuse 8) (pure tt);
   inner = innerFunction;
 }
 
@@ -56,10 +68,10 @@ Passes ws = (n : ℕ) × (asking.sheet (lookingAt n) ws 0 ≡ refused 8)
 
 pub record Overlap (ws : List ℕ) : Type 0 where
   -- "no accepted sheet changes": what was accepted is accepted, as the same tree
-  pub same : (s : Sheet) (c : Position) → readBefore ws ≡ got s c → read ws ≡ got s c
+  pub same : (s : Sheet) (c : Position) → readBefore ws ≡ got s c → readThen ws ≡ got s c
   -- and nothing else
-  pub back : (s : Sheet) (c : Position) → read ws ≡ got s c → readBefore ws ≡ got s c
+  pub back : (s : Sheet) (c : Position) → readThen ws ≡ got s c → readBefore ws ≡ got s c
   -- "sheets that pass a total before their first other fault .. now give 8"
-  pub news : length ws ≤ mostSheet → Passes ws → read ws ≡ refused 8
+  pub news : length ws ≤ mostSheet → Passes ws → readThen ws ≡ refused 8
   -- every other refusal is the one that was given before
-  pub others : (k : ℕ) → read ws ≡ refused k → (k ≡ 8 → ⊥) → readBefore ws ≡ refused k
+  pub others : (k : ℕ) → readThen ws ≡ refused k → (k ≡ 8 → ⊥) → readBefore ws ≡ refused k

@@ -7,20 +7,19 @@ use mathlib.Core.List.{List, []}
 use lib.ListN.{length, drop, getD}
 use lib.Seq.{drop-length, drop-cons}
 use lib.Dec.{eqb}
-use Rattle.model.specs.Limits.{mostCount, mostKind, mostTraits, mostOrder, mostLvalues, mostOperands, noOperands, mostTerminal, mostBlocks, absentCount}
-use Rattle.model.specs.Lists.{pick, each, among}
-use Rattle.model.specs.Sheet.{Place, EffectKind, Effect, Operand, Phi, Instruction, Terminal, BlockId}
-use Rattle.model.specs.Reading.{Position, got, refused, _>>=_, pure, refuse, Read, count, fixed, word, atMost, below, counted, optional, numberedFrom, countedFrom}
-use Rattle.model.specs.Sections.{place, placeAsking, effectAfter, instructionValue}
+use Rattle.model.specs.Limits.{mostCount, mostKind, mostOrder, mostLvalues, mostOperands, noOperands, mostTerminal, mostBlocks, absentCount}
+use Rattle.model.specs.Lists.{each, among}
+use Rattle.model.specs.Sheet.{Place, EffectKind, Effect, Phi, Instruction, Terminal, BlockId}
+use Rattle.model.specs.Reading.{Position, got, refused, _>>=_, pure, Read, count, fixed, word, atMost, numbered, counted, optional, numberedFrom, countedFrom}
+use Rattle.model.specs.Sections.{place, effectAfter, operand, phi, instructionValue}
 use Rattle.model.specs.Effects.{kindOf}
-use Rattle.model.specs.Totals.{over}
-use Rattle.model.specs.Traits.{effectOf, reactiveOf}
 use Rattle.model.proofs.SheetAhead.{after-kind}
-use Rattle.model.proofs.Got.{got-next, not-both, bind-got}
-use Rattle.model.specs.Asking.{effect, effects, operand, phi, instruction, terminalOf, terminal, block, tellEffect, tellOperand, tellPhi, tellInstruction, tellTerminal, tellBlock}
-use Rattle.reading.specs.Judging.{Told, telling, judge, withRelation, tellKind, totalsOf, askTold, counting, judgedValue, instructionEffects, terminalEffects, blocksOf}
-use Rattle.reading.specs.Whole.{lengthOf, uses, judgedInstruction}
-use Rattle.reading.proofs.JudgeLaws.{result-case, judge-got, judge-refused, got-judged, refused-judged, then-got, then-refused, then-made}
+use Rattle.model.specs.Asking as asking
+use Rattle.model.specs.Asking.{effect, effects, instruction, terminalOf, terminal, block, tellEffect, tellOperand, tellPhi, tellInstruction, tellTerminal, tellBlock}
+use Rattle.reading.specs.Judging.{Told, telling, judge, tellKind, overTold, Tally, within, standing, countKind, askTally, counting, instructionEffects, terminalEffects, blocksOf}
+use Rattle.reading.specs.Whole.{lengthOf, skip, passingNumbered, uses, judgedInstruction}
+use Rattle.reading.proofs.JudgeLaws.{result-case, judge-got, judge-refused, got-judged, refused-judged, then-got, then-refused, then-made, each-keeps, counted-keeps, numbered-keeps}
+use Rattle.reading.proofs.TallyLaws.{standing-within, asked-on, asked-off}
 
 -- a search: what is found or stands from here on, one number later
 pub listed-next : (x : ℕ) (l : List ℕ) (i : ℕ) (found : Bool) → i < length l → found || among x (drop i l) ≡ eqb x (getD l i 0) || found || among x (drop (i + 1) l)
@@ -31,22 +30,11 @@ pub listed-end : (x : ℕ) (l : List ℕ) (i : ℕ) (found : Bool) → i ≡ len
 listed-end x l i found e = rw (e, drop-length l, or-false found)
 
 -- a section of phis, and one of instructions
-abbrev phis : ℕ → Told → Read (List Phi)
-phis n = countedFrom mostCount (phi counting n) (tellPhi counting)
+abbrev phis : ℕ → Tally → Read (List Phi)
+phis n = countedFrom mostCount (asking.phi counting n) (tellPhi counting)
 
-abbrev instructions : ℕ → ℕ → Told → Read (List Instruction)
+abbrev instructions : ℕ → ℕ → Tally → Read (List Instruction)
 instructions n m = countedFrom mostCount (instruction counting n m) (tellInstruction counting)
-
--- what is asked at a counted word
-asked-on : (t : Told) (ws : List ℕ) (c : Position) → over (totalsOf t) ≡ false → askTold t ws c ≡ got tt c
-asked-on t ws c o = ap (λ (b : Bool). pick b (refuse 8) (pure tt) ws c) o
-
-asked-off : (t : Told) (ws : List ℕ) (c : Position) → over (totalsOf t) ≡ true → askTold t ws c ≡ refused 8
-asked-off t ws c o = ap (λ (b : Bool). pick b (refuse 8) (pure tt) ws c) o
-
--- a place by its three words
-abbrev placeOf : ℕ → ℕ → ℕ → Place
-placeOf i r s = record { identifier = i; effect = effectOf r; reactive = reactiveOf r; span = s }
 
 -- an effect: its kind, the question, the rest
 module _ (n m : ℕ) (terminal : Bool) (t : Told) (ws : List ℕ) (c : Position) where
@@ -54,127 +42,112 @@ module _ (n m : ℕ) (terminal : Bool) (t : Told) (ws : List ℕ) (c : Position)
   abbrev kindTold : EffectKind → Told
   kindTold k = tellKind terminal k t
 
-  effect-on : (w : ℕ) (d : Position) → atMost mostKind ws c ≡ got w d → over (totalsOf (kindTold (kindOf w))) ≡ false
-      → judge (effect counting terminal n m) (tellEffect counting terminal) t ws c ≡ telling (effectAfter n m (kindOf w)) (tellEffect counting terminal) t ws d
-  unfolding effect
+  -- they are the tally, where none is over its limit
+  kind-counted : (k : EffectKind) → overTold (kindTold k) ≡ false → countKind terminal k (within t) ≡ within (kindTold k)
+  unfolding countKind
+  kind-counted k o = standing-within (kindTold k) o
+
+  effect-on : (w : ℕ) (d : Position) → atMost mostKind ws c ≡ got w d → overTold (kindTold (kindOf w)) ≡ false
+      → judge (effect counting terminal n m) (tellEffect counting terminal) (within t) ws c ≡ telling (effectAfter n m (kindOf w)) (tellEffect counting terminal) (within t) ws d
+  unfolding effect countKind
   effect-on w d e o =
-      then-got (atMost mostKind) _ (tellEffect counting terminal) t ws c w d e
-      ∙ then-got (askTold (kindTold (kindOf w))) _ (tellEffect counting terminal) t ws d tt d (asked-on (kindTold (kindOf w)) ws d o)
+      then-got (atMost mostKind) _ (tellEffect counting terminal) (within t) ws c w d e
+      ∙ then-got (askTally (standing (kindTold (kindOf w)))) _ (tellEffect counting terminal) (within t) ws d tt d (asked-on (kindTold (kindOf w)) ws d o)
 
   module _ (w : ℕ) (d : Position) (e : atMost mostKind ws c ≡ got w d) (k : EffectKind) (is : k ≡ kindOf w) where
-    pub effect-got : (x : Effect) (f : Position) → over (totalsOf (kindTold k)) ≡ false → effectAfter n m k ws d ≡ got x f
-        → judge (effect counting terminal n m) (tellEffect counting terminal) t ws c ≡ got (kindTold k) f
+    pub effect-got : (x : Effect) (f : Position) → overTold (kindTold k) ≡ false → effectAfter n m k ws d ≡ got x f
+        → judge (effect counting terminal n m) (tellEffect counting terminal) (within t) ws c ≡ got (within (kindTold k)) f
     effect-got x f o r =
-        effect-on w d e (ap (λ (j : EffectKind). over (totalsOf (kindTold j))) (sym is) ∙ o)
-        ∙ ap (λ (j : EffectKind). telling (effectAfter n m j) (tellEffect counting terminal) t ws d) (sym is)
-        ∙ judge-got (effectAfter n m k) (tellEffect counting terminal) t ws d x f r ∙ ap (λ (j : EffectKind). got (kindTold j) f) (after-kind n m k ws d x f r)
+        effect-on w d e (ap (λ (j : EffectKind). overTold (kindTold j)) (sym is) ∙ o)
+        ∙ ap (λ (j : EffectKind). telling (effectAfter n m j) (tellEffect counting terminal) (within t) ws d) (sym is)
+        ∙ judge-got (effectAfter n m k) (tellEffect counting terminal) (within t) ws d x f r
+        ∙ ap (λ (j : EffectKind). got (countKind terminal j (within t)) f) (after-kind n m k ws d x f r)
+        ∙ ap (λ (y : Tally). got y f) (kind-counted k o)
 
-    pub effect-refused : (i : ℕ) → over (totalsOf (kindTold k)) ≡ false → effectAfter n m k ws d ≡ refused i → judge (effect counting terminal n m) (tellEffect counting terminal) t ws c ≡ refused i
+    pub effect-refused : (i : ℕ) → overTold (kindTold k) ≡ false → effectAfter n m k ws d ≡ refused i → judge (effect counting terminal n m) (tellEffect counting terminal) (within t) ws c ≡ refused i
     effect-refused i o r =
-        effect-on w d e (ap (λ (j : EffectKind). over (totalsOf (kindTold j))) (sym is) ∙ o)
-        ∙ ap (λ (j : EffectKind). telling (effectAfter n m j) (tellEffect counting terminal) t ws d) (sym is)
-        ∙ judge-refused (effectAfter n m k) (tellEffect counting terminal) t ws d i r
+        effect-on w d e (ap (λ (j : EffectKind). overTold (kindTold j)) (sym is) ∙ o)
+        ∙ ap (λ (j : EffectKind). telling (effectAfter n m j) (tellEffect counting terminal) (within t) ws d) (sym is)
+        ∙ judge-refused (effectAfter n m k) (tellEffect counting terminal) (within t) ws d i r
 
-    pub effect-8 : over (totalsOf (kindTold k)) ≡ true → judge (effect counting terminal n m) (tellEffect counting terminal) t ws c ≡ refused 8
-    unfolding effect
+    pub effect-8 : overTold (kindTold k) ≡ true → judge (effect counting terminal n m) (tellEffect counting terminal) (within t) ws c ≡ refused 8
+    unfolding effect countKind
     effect-8 o =
-        then-got (atMost mostKind) _ (tellEffect counting terminal) t ws c w d e
-        ∙ then-refused (askTold (kindTold (kindOf w))) _ (tellEffect counting terminal) t ws d 8
-        (asked-off (kindTold (kindOf w)) ws d (ap (λ (j : EffectKind). over (totalsOf (kindTold j))) (sym is) ∙ o))
+        then-got (atMost mostKind) _ (tellEffect counting terminal) (within t) ws c w d e
+        ∙ then-refused (askTally (standing (kindTold (kindOf w)))) _ (tellEffect counting terminal) (within t) ws d 8
+        (asked-off (kindTold (kindOf w)) ws d (ap (λ (j : EffectKind). overTold (kindTold j)) (sym is) ∙ o))
 
-  pub effect-kind-refused : (k : ℕ) → atMost mostKind ws c ≡ refused k → judge (effect counting terminal n m) (tellEffect counting terminal) t ws c ≡ refused k
+  pub effect-kind-refused : (k : ℕ) → atMost mostKind ws c ≡ refused k → judge (effect counting terminal n m) (tellEffect counting terminal) (within t) ws c ≡ refused k
   unfolding effect
-  effect-kind-refused k e = then-refused (atMost mostKind) _ (tellEffect counting terminal) t ws c k e
+  effect-kind-refused k e = then-refused (atMost mostKind) _ (tellEffect counting terminal) (within t) ws c k e
+
+-- ---- a phi, of which nothing goes on
+module _ (n : ℕ) (ws : List ℕ) (c : Position) where
+  pub operand-got : (x : BlockId) (p : Place) (d : Position) → place n ws c ≡ got p d → telling (operand n x) skip tt ws c ≡ got tt d
+  unfolding operand telling
+  operand-got x p d e = rw e
+
+  pub operand-refused : (x : BlockId) (k : ℕ) → place n ws c ≡ refused k → telling (operand n x) skip tt ws c ≡ refused k
+  unfolding operand telling
+  operand-refused x k e = rw e
+
+  pub phi-got : (p : Place) (d : Position) (k : ℕ) (e : Position) → place n ws c ≡ got p d → count mostCount ws d ≡ got k e → telling (phi n) skip tt ws c ≡ passingNumbered k [] (operand n) ws e
+  unfolding phi telling
+  phi-got p d k e x y =
+      result-case (numbered k [] (operand n) ws e)
+      (λ l f z. rw (x, y, z, numbered-keeps skip tt (λ o. refl) k [] (λ (b : BlockId) (u : Unit {0}). operand n b) ws e, z))
+      (λ r z. rw (x, y, z, numbered-keeps skip tt (λ o. refl) k [] (λ (b : BlockId) (u : Unit {0}). operand n b) ws e, z))
+
+  pub phi-place-refused : (k : ℕ) → place n ws c ≡ refused k → telling (phi n) skip tt ws c ≡ refused k
+  unfolding phi
+  phi-place-refused k x = then-refused (place n) _ skip tt ws c k x
+
+  pub phi-count-refused : (p : Place) (d : Position) (k : ℕ) → place n ws c ≡ got p d → count mostCount ws d ≡ refused k → telling (phi n) skip tt ws c ≡ refused k
+  unfolding phi
+  phi-count-refused p d k x y = then-got (place n) _ skip tt ws c p d x ∙ then-refused (count mostCount) _ skip tt ws d k y
+
+-- it counts nothing
+pub phi-keeps : (t : Tally) (p : Phi) → tellPhi counting p t ≡ t
+phi-keeps t p = each-keeps (tellOperand counting) t (λ o. refl) (p .operands)
+
+-- so phis are read as if nothing was counted before
+module _ (n : ℕ) (t : Told) (ws : List ℕ) where
+  operands-plain : (k : ℕ) (c : Position) → numberedFrom k [] (asking.operand counting n) (tellOperand counting) (within t) ws c ≡ numbered k [] (operand n) ws c
+  unfolding asking.operand operand
+  operands-plain k c = numbered-keeps (tellOperand counting) (within t) (λ o. refl) k [] (asking.operand counting n) ws c
+
+  phi-plain : (c : Position) → asking.phi counting n (within t) ws c ≡ phi n ws c
+  unfolding asking.phi phi
+  phi-plain c =
+      result-case (place n ws c)
+      (λ p d x. result-case (count mostCount ws d) (λ k e y. rw (x, y, operands-plain k e)) (λ r y. rw (x, y)))
+      (λ r x. rw x)
 
 module _ (n : ℕ) (t : Told) (ws : List ℕ) (c : Position) where
-  -- an operand after its number: the question, the place
-  operand-on : (x : BlockId) → over (totalsOf (withRelation t)) ≡ false
-      → judge (operand counting n x) (tellOperand counting) t ws c ≡ telling (place n >>= λ (p : Place). pure (record { predecessor = x; place = p })) (tellOperand counting) t ws c
-  unfolding operand
-  operand-on x o = then-got (askTold (withRelation t)) _ (tellOperand counting) t ws c tt c (asked-on (withRelation t) ws c o)
+  phis-plain : phis n (within t) ws c ≡ counted mostCount (phi n) ws c
+  phis-plain =
+      counted-keeps (tellPhi counting) (within t) (phi-keeps (within t)) mostCount (asking.phi counting n) ws c
+      ∙ (λ j. counted mostCount (λ (l : List ℕ) (d : Position). phi-plain n t l d j) ws c)
 
-  pub operand-got : (x : BlockId) (p : Place) (d : Position) → over (totalsOf (withRelation t)) ≡ false → place n ws c ≡ got p d → judge (operand counting n x) (tellOperand counting) t ws c ≡ got (withRelation t) d
-  unfolding telling
-  operand-got x p d o e = operand-on x o ∙ rw e
+  pub phis-got : (k : ℕ) (d : Position) → lengthOf (counted mostCount (phi n)) ws c ≡ got k d → judge (phis n) (each (tellPhi counting)) (within t) ws c ≡ got (within t) d
+  unfolding lengthOf telling
+  phis-got k d q =
+      got-judged (counted mostCount (phi n)) (λ (l : List Phi) (i : ℕ). length l) 0 ws c k d q
+      (λ l x w. judge-got (phis n (within t)) (each (tellPhi counting)) (within t) ws c l d (phis-plain ∙ x) ∙ ap (λ (y : Tally). got y d) (each-keeps (tellPhi counting) (within t) (phi-keeps (within t)) l))
 
-  pub operand-refused : (x : BlockId) (k : ℕ) → over (totalsOf (withRelation t)) ≡ false → place n ws c ≡ refused k → judge (operand counting n x) (tellOperand counting) t ws c ≡ refused k
-  unfolding telling
-  operand-refused x k o e = operand-on x o ∙ rw e
-
-  pub operand-8 : (x : BlockId) → over (totalsOf (withRelation t)) ≡ true → judge (operand counting n x) (tellOperand counting) t ws c ≡ refused 8
-  unfolding operand
-  operand-8 x o = then-refused (askTold (withRelation t)) _ (tellOperand counting) t ws c 8 (asked-off (withRelation t) ws c o)
-
-  -- what was read of it, if it was
-  pub operand-place : {P : Type 0} (x : BlockId) (u : Told) (d : Position) → judge (operand counting n x) (tellOperand counting) t ws c ≡ got u d → ((p : Place) → place n ws c ≡ got p d → P) → P
-  unfolding operand
-  operand-place x u d q k =
-      got-judged (operand counting n x t) (tellOperand counting) t ws c u d q
-      (λ a e w. let i = bind-got (askTold (withRelation t)) (λ (z : Unit {0}). place n >>= λ (p : Place). pure (record { predecessor = x; place = p })) ws c a d e in
-      let j = bind-got (place n) (λ (p : Place). pure (record { predecessor = x; place = p })) ws (i .next) a d (i .second) in
-      k (j .value) (ap (place n ws) (asked-here (withRelation t) ws c (i .value) (i .next) (i .first)) ∙ j .first ∙ ap (got (j .value)) (got-next (j .second))))
-    where
-      asked-here : (u : Told) (ws : List ℕ) (c : Position) (v : Unit {0}) (d : Position) → askTold u ws c ≡ got v d → c ≡ d
-      asked-here u ws c v d e = go (over (totalsOf u)) e
-        where
-          go : (b : Bool) → pick b (refuse 8) (pure tt) ws c ≡ got v d → c ≡ d
-          go true f = absurd (not-both f refl)
-          go false f = got-next f
-
-  -- a Return value: its identifier, the question, the rest
-  value-on : (i : ℕ) (d : Position) → below n ws c ≡ got i d → over (totalsOf (withRelation t)) ≡ false
-      → judgedValue n t ws c ≡ telling (atMost mostTraits >>= λ (r : ℕ). word >>= λ (s : ℕ). pure (placeOf i r s)) (λ (p : Place) (u : Told). withRelation u) t ws d
-  value-on i d e o =
-      then-got (below n) _ (λ (p : Place) (u : Told). withRelation u) t ws c i d e
-      ∙ then-got (askTold (withRelation t)) _ (λ (p : Place) (u : Told). withRelation u) t ws d tt d (asked-on (withRelation t) ws d o)
-
-  pub value-got : (i : ℕ) (d : Position) (r : ℕ) (f : Position) (s : ℕ) (g : Position) → below n ws c ≡ got i d → over (totalsOf (withRelation t)) ≡ false → atMost mostTraits ws d ≡ got r f → word ws f ≡ got s g
-      → judgedValue n t ws c ≡ got (withRelation t) g
-  unfolding telling
-  value-got i d r f s g e o x y = value-on i d e o ∙ rw (x, y)
-
-  pub value-traits-refused : (i : ℕ) (d : Position) (k : ℕ) → below n ws c ≡ got i d → over (totalsOf (withRelation t)) ≡ false → atMost mostTraits ws d ≡ refused k → judgedValue n t ws c ≡ refused k
-  unfolding telling
-  value-traits-refused i d k e o x = value-on i d e o ∙ rw x
-
-  pub value-span-refused : (i : ℕ) (d : Position) (r : ℕ) (f : Position) (k : ℕ) → below n ws c ≡ got i d → over (totalsOf (withRelation t)) ≡ false → atMost mostTraits ws d ≡ got r f → word ws f ≡ refused k
-      → judgedValue n t ws c ≡ refused k
-  unfolding telling
-  value-span-refused i d r f k e o x y = value-on i d e o ∙ rw (x, y)
-
-  pub value-8 : (i : ℕ) (d : Position) → below n ws c ≡ got i d → over (totalsOf (withRelation t)) ≡ true → judgedValue n t ws c ≡ refused 8
-  value-8 i d e o =
-      then-got (below n) _ (λ (p : Place) (u : Told). withRelation u) t ws c i d e
-      ∙ then-refused (askTold (withRelation t)) _ (λ (p : Place) (u : Told). withRelation u) t ws d 8 (asked-off (withRelation t) ws d o)
-
-  pub value-refused : (k : ℕ) → below n ws c ≡ refused k → judgedValue n t ws c ≡ refused k
-  value-refused k e = then-refused (below n) _ (λ (p : Place) (u : Told). withRelation u) t ws c k e
-
-  pub phi-got : (p : Place) (d : Position) (k : ℕ) (e : Position) → place n ws c ≡ got p d → count mostCount ws d ≡ got k e →
-      judge (phi counting n) (tellPhi counting) t ws c ≡ judge (numberedFrom k [] (operand counting n) (tellOperand counting)) (each (tellOperand counting)) t ws e
-  unfolding phi
-  phi-got p d k e x y =
-      then-got (place n) _ (tellPhi counting) t ws c p d x
-      ∙ then-got (count mostCount) _ (tellPhi counting) t ws d k e y
-      ∙ then-made (numberedFrom k [] (operand counting n) (tellOperand counting) t) (λ (l : List Operand). record { place = p; operands = l }) (tellPhi counting) t ws e
-
-  pub phi-place-refused : (k : ℕ) → place n ws c ≡ refused k → judge (phi counting n) (tellPhi counting) t ws c ≡ refused k
-  unfolding phi
-  phi-place-refused k x = then-refused (place n) _ (tellPhi counting) t ws c k x
-
-  pub phi-count-refused : (p : Place) (d : Position) (k : ℕ) → place n ws c ≡ got p d → count mostCount ws d ≡ refused k → judge (phi counting n) (tellPhi counting) t ws c ≡ refused k
-  unfolding phi
-  phi-count-refused p d k x y = then-got (place n) _ (tellPhi counting) t ws c p d x ∙ then-refused (count mostCount) _ (tellPhi counting) t ws d k y
+  pub phis-refused : (r : ℕ) → lengthOf (counted mostCount (phi n)) ws c ≡ refused r → judge (phis n) (each (tellPhi counting)) (within t) ws c ≡ refused r
+  unfolding lengthOf telling
+  phis-refused r q = judge-refused (phis n (within t)) (each (tellPhi counting)) (within t) ws c r (phis-plain ∙ refused-judged (counted mostCount (phi n)) (λ (l : List Phi) (i : ℕ). length l) 0 ws c r q)
 
 -- a block's totals: those of its phis, then of its instructions, then of its terminal
-block-told : (n m : ℕ) (x : BlockId) (t u v : Told) (ws : List ℕ) (c : Position) (ps : List Phi) (is : List Instruction) → each (tellPhi counting) ps t ≡ u →
+block-told : (n m : ℕ) (x : BlockId) (t u v : Tally) (ws : List ℕ) (c : Position) (ps : List Phi) (is : List Instruction) → each (tellPhi counting) ps t ≡ u →
     each (tellInstruction counting) is u ≡ v →
     telling (terminal counting n m (each (tellInstruction counting) is (each (tellPhi counting) ps t))) (λ (z : Terminal). tellBlock counting (record { number = x; phis = ps; instructions = is; terminal = z })) t ws c
     ≡ judge (terminal counting n m) (tellTerminal counting) v ws c
 unfolding telling tellBlock
 block-told n m x t u v ws c ps is g k = rw (g, k)
 
-module _ (n m : ℕ) (t : Told) (ws : List ℕ) (c : Position) where
+module _ (n m : ℕ) (t : Tally) (ws : List ℕ) (c : Position) where
   -- the effects of an instruction: the word is the count of an absent list
   pub absent-judged : (w : ℕ) (d : Position) → word ws c ≡ got w d → eqb w absentCount ≡ true → instructionEffects n m t ws c ≡ got t d
   unfolding optional telling
@@ -238,19 +211,7 @@ module _ (n m : ℕ) (t : Told) (ws : List ℕ) (c : Position) where
         (λ k e2. rw (e1, e2)))
         (λ k e1. rw e1)
 
-    pub return-judged : atMost mostTerminal ws c ≡ got 1 d → judge (terminal counting n m) (tellTerminal counting) t ws c ≡ (judgedValue n t >>= λ (u : Told). terminalEffects n m u) ws e
-    unfolding terminalOf terminalEffects telling
-    return-judged x =
-        terminal-got 1 x
-        ∙ result-case (placeAsking (askTold (withRelation t)) n ws e)
-        (λ p d1 e1. result-case (effects counting true n m (withRelation t) ws d1)
-        (λ l d2 e2. result-case (fixed noOperands ws d2)
-        (λ k d3 e3. rw (e1, e2, e3))
-        (λ k e3. rw (e1, e2, e3)))
-        (λ k e2. rw (e1, e2)))
-        (λ k e1. rw e1)
-
-  pub block-got : (x : BlockId) (u v : Told) (d e : Position) → judge (phis n) (each (tellPhi counting)) t ws c ≡ got u d →
+  pub block-got : (x : BlockId) (u v : Tally) (d e : Position) → judge (phis n) (each (tellPhi counting)) t ws c ≡ got u d →
       judge (instructions n m) (each (tellInstruction counting)) u ws d ≡ got v e →
       judge (block counting n m x) (tellBlock counting) t ws c ≡ judge (terminal counting n m) (tellTerminal counting) v ws e
   unfolding block
@@ -266,7 +227,7 @@ module _ (n m : ℕ) (t : Told) (ws : List ℕ) (c : Position) where
   unfolding block
   block-phis-refused x r p = then-refused (phis n t) _ (tellBlock counting) t ws c r (refused-judged (phis n t) (each (tellPhi counting)) t ws c r p)
 
-  pub block-instructions-refused : (x : BlockId) (u : Told) (d : Position) (r : ℕ) → judge (phis n) (each (tellPhi counting)) t ws c ≡ got u d →
+  pub block-instructions-refused : (x : BlockId) (u : Tally) (d : Position) (r : ℕ) → judge (phis n) (each (tellPhi counting)) t ws c ≡ got u d →
       judge (instructions n m) (each (tellInstruction counting)) u ws d ≡ refused r → judge (block counting n m x) (tellBlock counting) t ws c ≡ refused r
   unfolding block
   block-instructions-refused x u d r p q =
@@ -284,3 +245,17 @@ module _ (n m : ℕ) (t : Told) (ws : List ℕ) (c : Position) where
   pub blocks-refused : (r : ℕ) → count mostBlocks ws c ≡ refused r → judge (blocksOf n m) (each (tellBlock counting)) t ws c ≡ refused r
   unfolding blocksOf
   blocks-refused r x = then-refused (count mostBlocks) (λ (k : ℕ). numberedFrom k [] (block counting n m) (tellBlock counting) t) (each (tellBlock counting)) t ws c r x
+
+-- a Return: its value counts nothing
+pub return-judged : (n m : ℕ) (t : Told) (ws : List ℕ) (c : Position) (o : ℕ) (d e : Position) → atMost mostOrder ws d ≡ got o e → atMost mostTerminal ws c ≡ got 1 d →
+    judge (terminal counting n m) (tellTerminal counting) (within t) ws c ≡ (place n >>= λ (p : Place). terminalEffects n m (within t)) ws e
+unfolding terminalOf terminalEffects telling place
+return-judged n m t ws c o d e y x =
+    terminal-got n m (within t) ws c o d e y 1 x
+    ∙ result-case (place n ws e)
+    (λ p d1 e1. result-case (effects counting true n m (within t) ws d1)
+    (λ l d2 e2. result-case (fixed noOperands ws d2)
+    (λ k d3 e3. rw (e1, e2, e3))
+    (λ k e3. rw (e1, e2, e3)))
+    (λ k e2. rw (e1, e2)))
+    (λ k e1. rw e1)

@@ -1,4 +1,4 @@
--- Laws of judging: a part, parts in sequence, a part k times over, and k times over with numbers.
+-- Laws of judging: a part, parts in sequence, a part k times over, and k times over with numbers; and parts that count nothing.
 use Prim.Native.Nat.{ℕ, zero, suc, _-_, _≤_, _<_}
 use native.Mathlib.Nat.{not-suc-le-zero, le-of-suc-le-suc}
 use native.Mathlib.Numerals.{sub-one}
@@ -12,7 +12,7 @@ use borrow.Author.Tests.{ne-eqb}
 use Rattle.model.specs.Limits.{mostBlockNumber}
 use Rattle.model.specs.Lists.{each, among, Every}
 use Rattle.model.specs.Sheet.{BlockId}
-use Rattle.model.specs.Reading.{Position, Result, got, refused, Read, andThen, _>>=_, pure, count, atMost, newNumber, timesFrom, numberedFrom, countedFrom}
+use Rattle.model.specs.Reading.{Position, Result, got, refused, Read, andThen, _>>=_, pure, count, atMost, newNumber, times, numbered, counted, timesFrom, numberedFrom, countedFrom}
 use Rattle.model.proofs.Everywhere.{every-mem}
 use Rattle.reading.specs.Judging.{mapResult, telling, judge}
 
@@ -208,3 +208,26 @@ module _ {A B : Type 0} (f : BlockId → B → Read A) (tell : A → B → B) (w
   pub one-stored : (k : ℕ) (l : List ℕ) (i x : ℕ) (b : B) (c : Position) → 0 < i → i ≤ length l →
       judge (numberedFrom k (x ∷ drop i l) f tell) (each tell) b ws c ≡ judge (numberedFrom k (drop (i - 1) (set l (i - 1) x)) f tell) (each tell) b ws c
   one-stored k l i x b c h g = used-as k (x ∷ drop i l) (drop (i - 1) (set l (i - 1) x)) b c (sym (drop-stored l i x h g))
+
+-- ---- parts that count nothing: a tally that each of them leaves as it was
+module _ {A T : Type 0} (tell : A → T → T) (t : T) (keeps : (a : A) → tell a t ≡ t) where
+  pub each-keeps : (l : List A) → each tell l t ≡ t
+  each-keeps [] = refl
+  each-keeps (a ∷ l) = ap (each tell l) (keeps a) ∙ each-keeps l
+
+  pub times-keeps : (k : ℕ) (f : T → Read A) (ws : List ℕ) (c : Position) → timesFrom k f tell t ws c ≡ times k (f t) ws c
+  unfolding timesFrom times
+  times-keeps zero f ws c = refl
+  times-keeps (suc k) f ws c = result-case (f t ws c) (λ a d e. rw (e, keeps a, times-keeps k f ws d)) (λ n e. rw e)
+
+  pub counted-keeps : (most : ℕ) (f : T → Read A) (ws : List ℕ) (c : Position) → countedFrom most f tell t ws c ≡ counted most (f t) ws c
+  unfolding countedFrom counted
+  counted-keeps most f ws c = result-case (count most ws c) (λ k d e. rw (e, times-keeps k f ws d)) (λ n e. rw e)
+
+  pub numbered-keeps : (k : ℕ) (used : List BlockId) (f : BlockId → T → Read A) (ws : List ℕ) (c : Position) → numberedFrom k used f tell t ws c ≡ numbered k used (λ (b : BlockId). f b t) ws c
+  unfolding numberedFrom numbered
+  numbered-keeps zero used f ws c = refl
+  numbered-keeps (suc k) used f ws c =
+      result-case (newNumber used ws c)
+      (λ b d x. result-case (f b t ws d) (λ a e y. rw (x, y, keeps a, numbered-keeps k (b ∷ used) f ws e)) (λ n y. rw (x, y)))
+      (λ n x. rw x)

@@ -1,4 +1,5 @@
 pub mod JudgeLaws
+pub mod TallyLaws
 pub mod BlockLaws
 pub mod OperandLaws
 pub mod SectionLaws

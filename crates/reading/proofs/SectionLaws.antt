@@ -1,20 +1,19 @@
 -- A section of which only the length goes on: its count, if all of its parts are read.
 use Prim.Native.Nat.{ℕ}
-use mathlib.Core.Path.{_≡_, _∙_, sym}
+use mathlib.Core.Path.{_≡_, _∙_, refl, sym}
 use mathlib.Core.List.{List}
 use Rattle.model.specs.Limits.{mostInnerDiagnostics, mostInnerContext}
 use Rattle.model.specs.Lists.{each}
 use Rattle.model.specs.Reading.{Position, got, refused, Read, _>>=_, pure, count, times, counted, timesFrom}
 use Rattle.model.specs.Sections.{diagnostic, innerFunction, place}
 use Rattle.model.proofs.ReadLaws.{times-length}
-use Rattle.model.proofs.Asked.{itself, times-follows, never}
 use Rattle.reading.specs.Judging.{telling}
-use Rattle.reading.proofs.JudgeLaws.{result-case, got-judged, refused-judged}
+use Rattle.reading.proofs.JudgeLaws.{result-case, got-judged, refused-judged, times-keeps}
 use Rattle.reading.specs.Whole.{lengthOf, skip, passing}
 
 -- parts that are read with a tally of nothing
 plain : {A : Type 0} (k : ℕ) (f : Read A) (ws : List ℕ) (d : Position) → timesFrom k (λ (u : Unit {0}). f) skip tt ws d ≡ times k f ws d
-plain k f ws d = never (timesFrom k (λ (u : Unit {0}). f) skip tt) (times k f) (times-follows (λ (k : ℕ). ⊥) skip k (λ (u : Unit {0}). f) f (λ u. itself (λ (k : ℕ). ⊥) f) tt) ws d
+plain k f ws d = times-keeps skip tt (λ a. refl) k (λ (u : Unit {0}). f) ws d
 
 module _ {A : Type 0} (most : ℕ) (f : Read A) (ws : List ℕ) (c : Position) where
   pub section-read : (k : ℕ) (d e : Position) → count most ws c ≡ got k d → passing k f ws d ≡ got tt e →

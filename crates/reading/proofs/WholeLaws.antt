@@ -1,28 +1,29 @@
 -- The judged sheet is the sheet, told.
 use Prim.Native.Nat.{ℕ, suc, _+_, _≤_}
 use native.Mathlib.Omega.{arith}
-use mathlib.Core.Path.{_≡_, refl, sym, ap, _∙_}
+use mathlib.Core.Path.{_≡_, refl, sym, ap, subst, _∙_}
 use mathlib.Core.Bool.{Bool, true, false}
 use mathlib.Core.List.{List, []}
 use lib.ListN.{length}
 use borrow.Author.Tests.{lt-ltb}
-use Rattle.model.specs.Limits.{mostIdentifiers, mostFunctions, mostParams, mostContext, returnsCount, mostBlocks, mostRelations, mostMutations, mostRenders}
+use Rattle.model.specs.Limits.{mostIdentifiers, mostFunctions, mostParams, mostContext, returnsCount, mostBlocks, mostMutations, mostRenders}
 use Rattle.model.specs.Lists.{pick, each}
 use Rattle.model.specs.Sheet.{EffectKind, Sheet}
 use Rattle.model.specs.Effects.{Role, relation, mutation, render, diagnosis, nothing, rowOf, isApply, isAlias}
 use Rattle.model.specs.Totals.{Totals, over}
-use Rattle.model.specs.Counting.{noTotals as noModelTotals, withRelation as countRelation, countRole, countKind, counting as modelCounting, countedSheet}
+use Rattle.model.specs.Counting.{noTotals as noModelTotals, withRelation, countRole, countKind as modelKind, counting as modelCounting, countedSheet}
 use Rattle.model.specs.Reading.{Position, pure, refuse, count, fixed, counted, numberedFrom}
 use Rattle.model.specs.Sections.{flags, identifier, innerFunction, place}
 use Rattle.model.specs.Asking.{block, tellBlock, sheet as askedSheet}
 use Rattle.model.proofs.Limited.{not-over, few-not-over}
 use Rattle.model.proofs.Ahead.{Comes, same, neither, stopped}
 use Rattle.model.proofs.SheetAhead.{Asked, on, off, Related, sheet-ahead}
-use Rattle.reading.specs.Judging.{Told, telling, bump, withRelation, withMutation, withRender, withDiagnosis, withApply, tellRole, tellKind, noTotals, totalsOf, askTold, counting, blocksOf}
+use Rattle.reading.specs.Judging.{Told, telling, bump, withMutation, withRender, withDiagnosis, withApply, tellRole, tellKind, overTold, Tally, within, passed, standing, nothingYet, countKind, counting, blocksOf}
 use Rattle.reading.proofs.JudgeLaws.{result-case}
+use Rattle.reading.proofs.TallyLaws.{Matches, told-over, standing-within, asked-on, asked-off}
 use Rattle.reading.specs.Whole.{lengthOf, heading, placeLists, judgedSheet, tellSheet}
 
-asked-judged : (ws : List ℕ) (c : Position) → telling (askedSheet counting) tellSheet noTotals ws c ≡ judgedSheet ws c
+asked-judged : (ws : List ℕ) (c : Position) → telling (askedSheet counting) tellSheet nothingYet ws c ≡ judgedSheet ws c
 unfolding askedSheet judgedSheet heading placeLists lengthOf telling blocksOf
 asked-judged ws c =
     result-case (flags ws c)
@@ -33,7 +34,7 @@ asked-judged ws c =
     (λ cs d5 e5. result-case (fixed returnsCount ws d5)
     (λ k d6 e6. result-case (place (length ids) ws d6)
     (λ r d7 e7. result-case (count mostBlocks ws d7)
-    (λ b d8 e8. result-case (numberedFrom b [] (block counting (length ids) (length inner)) (tellBlock counting) noTotals ws d8)
+    (λ b d8 e8. result-case (numberedFrom b [] (block counting (length ids) (length inner)) (tellBlock counting) nothingYet ws d8)
     (λ bs d9 e9. rw (e1, e2, e3, e4, e5, e6, e7, e8, e9))
     (λ n e9. rw (e1, e2, e3, e4, e5, e6, e7, e8, e9)))
     (λ n e8. rw (e1, e2, e3, e4, e5, e6, e7, e8)))
@@ -46,63 +47,62 @@ asked-judged ws c =
     (λ n e1. rw e1)
 
 -- ---- the running totals are those of the definition, as long as none is over its limit
-abbrev Same : Told → Totals → Type 0
-Same t u = (totalsOf t ≡ u) × (over u ≡ false)
+abbrev Same : Tally → Totals → Type 0
+Same (within t) u = Matches t u × (over u ≡ false)
+Same passed u = ⊥
 
 -- one more, where no total was over its limit
-bumped : (most n : ℕ) → n ≤ most → bump (most + 1) n ≡ suc n
-bumped most n h = rw (lt-ltb n (most + 1) (omega (arith, h))) (omega arith)
+bumped : (most n k : ℕ) → n ≡ k → k ≤ most → bump (most + 1) n ≡ suc k
+bumped most n k e h = rw (e, lt-ltb k (most + 1) (omega (arith, h))) (omega arith)
 
-abbrev totalsBy : ℕ → ℕ → ℕ → Totals
-totalsBy r m k = record { relations = r; mutations = m; renders = k }
-
-relation-same : (t : Told) → over (totalsOf t) ≡ false → totalsOf (withRelation t) ≡ countRelation (totalsOf t)
-unfolding withRelation
-relation-same t o = ap (λ (r : ℕ). totalsBy r (t .mutations) (t .renders)) (bumped mostRelations (t .relations) (not-over (totalsOf t) o .0))
-
-role-same : (apply : Bool) (r : Role) (t : Told) → over (totalsOf t) ≡ false → totalsOf (tellRole apply r t) ≡ countRole r (totalsOf t)
+role-same : (apply : Bool) (r : Role) (t : Told) (u : Totals) → Matches t u → over u ≡ false → Matches (tellRole apply r t) (countRole r u)
 unfolding withMutation withRender withDiagnosis withApply
-role-same apply relation t o = relation-same t o
-role-same apply mutation t o = ap (λ (m : ℕ). totalsBy (t .relations) m (t .renders)) (bumped mostMutations (t .mutations) (not-over (totalsOf t) o .1))
-role-same apply render t o = ap (λ (k : ℕ). totalsBy (t .relations) (t .mutations) k) (bumped mostRenders (t .renders) (not-over (totalsOf t) o .2))
-role-same apply diagnosis t o = refl
-role-same true nothing t o = refl
-role-same false nothing t o = refl
+role-same apply relation t u e o = e
+role-same apply mutation t u e o = (bumped mostMutations (t .mutations) (u .mutations) (e .0) (not-over u o .0), e .1)
+role-same apply render t u e o = (e .0, bumped mostRenders (t .renders) (u .renders) (e .1) (not-over u o .1))
+role-same apply diagnosis t u e o = e
+role-same true nothing t u e o = e
+role-same false nothing t u e o = e
 
-kind-same : (terminal : Bool) (k : EffectKind) (t : Told) → over (totalsOf t) ≡ false → totalsOf (tellKind terminal k t) ≡ countKind terminal k (totalsOf t)
-unfolding tellKind countKind
-kind-same false k t o = role-same (isApply k) (rowOf k .role) t o
-kind-same true k t o = go (isAlias k)
+kind-same : (terminal : Bool) (k : EffectKind) (t : Told) (u : Totals) → Matches t u → over u ≡ false → Matches (tellKind terminal k t) (modelKind terminal k u)
+unfolding tellKind modelKind
+kind-same false k t u e o = role-same (isApply k) (rowOf k .role) t u e o
+kind-same true k t u e o = go (isAlias k)
   where
-    go : (b : Bool) → totalsOf (pick b (withRelation t) t) ≡ pick b (countRelation (totalsOf t)) (totalsOf t)
-    go true = relation-same t o
-    go false = refl
+    go : (b : Bool) → Matches t (pick b (withRelation u) u)
+    go true = e
+    go false = e
 
-asked-same : (t : Told) (u : Totals) → totalsOf t ≡ u → Asked counting modelCounting ⊥ Same (λ (u : Totals). ⊥) t u
+asked-same : (t : Told) (u : Totals) → Matches t u → Asked counting modelCounting ⊥ Same (λ (u : Totals). ⊥) (standing t) u
 asked-same t u e = go (over u) refl
   where
-    asks : (b : Bool) → over u ≡ b → (ws : List ℕ) (c : Position) → askTold t ws c ≡ pick b (refuse 8) (pure tt) ws c
-    asks b o ws c = ap (λ (x : Bool). pick x (refuse 8) (pure tt) ws c) (ap over e ∙ o)
+    go : (b : Bool) → over u ≡ b → Asked counting modelCounting ⊥ Same (λ (u : Totals). ⊥) (standing t) u
+    go true o = off (λ ws c. asked-off t ws c (told-over t u e ∙ o)) (λ ws c. ap (λ (x : Bool). pick x (refuse 8) (pure tt) ws c) o)
+    go false o =
+        let n : overTold t ≡ false = told-over t u e ∙ o in
+        on (λ ws c. asked-on t ws c n) (λ ws c. ap (λ (x : Bool). pick x (refuse 8) (pure tt) ws c) o) (subst (λ (y : Tally). Same y u) (sym (standing-within t n)) (e, o))
 
-    go : (b : Bool) → over u ≡ b → Asked counting modelCounting ⊥ Same (λ (u : Totals). ⊥) t u
-    go true o = off (asks true o) (λ ws c. ap (λ (x : Bool). pick x (refuse 8) (pure tt) ws c) o)
-    go false o = on (asks false o) (λ ws c. ap (λ (x : Bool). pick x (refuse 8) (pure tt) ws c) o) (e, o)
+effect-same : (terminal : Bool) (k : EffectKind) (t : Tally) (u : Totals) → Same t u → Asked counting modelCounting ⊥ Same (λ (u : Totals). ⊥) (countKind terminal k t) (modelKind terminal k u)
+unfolding countKind
+effect-same terminal k (within t) u r = asked-same (tellKind terminal k t) (modelKind terminal k u) (kind-same terminal k t u (r .0) (r .1))
+effect-same terminal k passed u r = absurd r
+
+-- the definition's question is answered as at the effect before
+relation-same : (t : Tally) (u : Totals) → Same t u → Asked counting modelCounting ⊥ Same (λ (u : Totals). ⊥) t (withRelation u)
+unfolding over
+relation-same (within t) u r = on (λ ws c. refl) (λ ws c. ap (λ (x : Bool). pick x (refuse 8) (pure tt) ws c) (r .1)) r
+relation-same passed u r = absurd r
 
 related : Related counting modelCounting ⊥ Same (λ (u : Totals). ⊥)
-related = record {
-  effect = λ terminal k t u r. asked-same _ _ (kind-same terminal k t (ap over (r .0) ∙ r .1) ∙ ap (countKind terminal k) (r .0));
-  relation = λ t u r. asked-same _ _ (relation-same t (ap over (r .0) ∙ r .1) ∙ ap (λ (x : Totals). countRelation x) (r .0));
-  worseEffect = λ terminal k u x. x;
-  worseRelation = λ u x. x;
-}
+related = record { effect = effect-same; relation = relation-same; worseEffect = λ terminal k u x. x; worseRelation = λ u x. x }
 
 -- so both readings are one
 asked-counted : (ws : List ℕ) (c : Position) → askedSheet counting ws c ≡ countedSheet ws c
 unfolding countedSheet
-asked-counted ws c = go (sheet-ahead counting modelCounting ⊥ Same (λ (u : Totals). ⊥) related refl (refl, few-not-over noModelTotals (omega arith) (omega arith) (omega arith)) ws c)
+asked-counted ws c = go (sheet-ahead counting modelCounting ⊥ Same (λ (u : Totals). ⊥) related refl ((refl, refl), few-not-over noModelTotals (omega arith) (omega arith)) ws c)
   where
-    first : Sheet → Told
-    first s = each (tellBlock counting) (s .blocks) noTotals
+    first : Sheet → Tally
+    first s = each (tellBlock counting) (s .blocks) nothingYet
 
     second : Sheet → Totals
     second s = each (tellBlock modelCounting) (s .blocks) noModelTotals
@@ -112,6 +112,6 @@ asked-counted ws c = go (sheet-ahead counting modelCounting ⊥ Same (λ (u : To
     go (neither k x y) = x ∙ sym y
     go (stopped m x l) = absurd m
 
-pub sheet-judged : (ws : List ℕ) (c : Position) → telling countedSheet tellSheet noTotals ws c ≡ judgedSheet ws c
+pub sheet-judged : (ws : List ℕ) (c : Position) → telling countedSheet tellSheet nothingYet ws c ≡ judgedSheet ws c
 unfolding telling
 sheet-judged ws c = rw (sym (asked-counted ws c)) (asked-judged ws c)

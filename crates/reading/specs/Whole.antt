@@ -5,14 +5,14 @@ use lib.ListN.{length}
 use lib.Dec.{ltb}
 use Rattle.model.specs.Limits.{mostIdentifiers, mostFunctions, mostParams, mostContext, returnsCount, mostOrder, mostLvalues, mostOperands}
 use Rattle.model.specs.Lists.{each, tally, oneIf}
-use Rattle.model.specs.Sheet.{Place, Block, Sheet}
+use Rattle.model.specs.Sheet.{Place, BlockId, Block, Sheet}
 use Rattle.model.specs.Effects.{isDiagnosis}
-use Rattle.model.specs.Reading.{Result, got, refused, Read, _>>=_, pure, fixed, atMost, counted, timesFrom}
+use Rattle.model.specs.Reading.{Result, got, refused, Read, _>>=_, pure, fixed, atMost, counted, timesFrom, numberedFrom}
 use Rattle.model.specs.Sections.{flags, identifier, innerFunction, place, instructionValue}
 use Rattle.model.specs.Asking.{tellBlock}
 use Rattle.model.specs.Totals.{withRole, totals}
 use Rattle.model.specs.Call.{applies}
-use Rattle.reading.specs.Judging.{mapResult, judge, Told, noTotals, counting, instructionEffects, blocksOf}
+use Rattle.reading.specs.Judging.{mapResult, judge, Told, Tally, nothingYet, counting, instructionEffects, blocksOf}
 
 module _ {A : Type 0} where
   -- a list of which only the length goes on
@@ -26,6 +26,10 @@ module _ {A : Type 0} where
   -- k of them
   abbrev pub passing : ℕ → Read A → Read (Unit {0})
   passing k f = judge (timesFrom k (λ u. f) skip) (each skip) tt
+
+  -- k of them, each after a number that is not among those used
+  abbrev pub passingNumbered : ℕ → List BlockId → (BlockId → Read A) → Read (Unit {0})
+  passingNumbered k used f = judge (numberedFrom k used (λ b u. f b) skip) (each skip) tt
 
 -- how many identifiers and inner functions there are
 pub record Heading : Type 0 where
@@ -58,21 +62,21 @@ uses n m = do
   pure tt
 
 -- an instruction, of which only its effects are told
-unfoldable pub judgedInstruction : ℕ → ℕ → Told → Read Told
+unfoldable pub judgedInstruction : ℕ → ℕ → Tally → Read Tally
 judgedInstruction n m t = do
   o ← atMost mostOrder
   u ← uses n m
   instructionEffects n m t
 
 -- the sections in their order, with what refusal 8 counts
-unfoldable pub judgedSheet : Read Told
+unfoldable pub judgedSheet : Read Tally
 judgedSheet = do
   h ← heading
   r ← placeLists (h .identifiers)
-  judge (blocksOf (h .identifiers) (h .functions)) (each (tellBlock counting)) noTotals
+  judge (blocksOf (h .identifiers) (h .functions)) (each (tellBlock counting)) nothingYet
 
 -- a sheet: its blocks
-abbrev pub tellSheet : Sheet → Told → Told
+abbrev pub tellSheet : Sheet → Tally → Tally
 tellSheet s t = each (tellBlock counting) (s .blocks) t
 
 -- how many effects of instructions have a kind from 14 to 16
@@ -81,7 +85,7 @@ diagnoses s = tally (λ (b : Block). withRole isDiagnosis (b .instructions)) (s 
 
 -- what is told of an accepted sheet: its totals, whether there is a diagnosis, and whether refusal 10 applies
 unfoldable pub told : Sheet → Told
-told s = record { relations = totals s .relations; mutations = totals s .mutations; renders = totals s .renders; diagnoses = oneIf (ltb 0 (diagnoses s)); applies = oneIf (applies s) }
+told s = record { mutations = totals s .mutations; renders = totals s .renders; diagnoses = oneIf (ltb 0 (diagnoses s)); applies = oneIf (applies s) }
 
 -- what is said of a sheet: a refusal's number, or what is told of it
 pub data Judgement : Type 0 where

@@ -4,8 +4,8 @@ ghost use Rattle.model.specs.Lists.{each};
 ghost use Rattle.model.specs.Reading.{countedFrom};
 ghost use Rattle.model.specs.Asking.{effect, effects, instruction, terminal, block, tellEffect, tellInstruction, tellTerminal, tellBlock};
 ghost use Rattle.model.specs.Limits.{mostCount};
-ghost use Rattle.reading.specs.Judging.{judge, counting, noTotals, judgedValue, instructionEffects, terminalEffects, blocksOf};
-ghost use Rattle.reading.specs.TotalsSays.{totalsAre, totalsSays};
+ghost use Rattle.reading.specs.Judging.{judge, counting, nothingYet, instructionEffects, terminalEffects, blocksOf};
+ghost use Rattle.reading.specs.TotalsSays.{soFar, totalsSays};
 ghost use Rattle.reading.specs.Says.{cursorSays};
 ghost use Rattle.reading.specs.Whole.{uses};
 use crate::CursorStep;
@@ -26,12 +26,10 @@ use hir::limits::MOST_COUNT;
 use hir::limits::MOST_KIND;
 use hir::limits::MOST_LVALUES;
 use hir::limits::MOST_OPERANDS;
-use hir::limits::MOST_TRAITS;
 use hir::limits::NO_OPERANDS;
 
-// The relation effects, mutations and renders so far, each no higher than one above its limit; 1 if an instruction had a diagnosis; 1 if one had an Apply.
+// The mutations and renders so far, each no higher than one above its limit; 1 if an instruction had a diagnosis; 1 if one had an Apply.
 pub struct Totals {
-    pub relations: u32,
     pub mutations: u32,
     pub renders: u32,
     pub diagnoses: u32,
@@ -44,9 +42,9 @@ pub enum TotalsStep {
     Refused(u32),
 }
 
-// An effect of an instruction or of a terminal: counted at its kind, where refusal 8 may come, before its places.
+// An effect: an instruction's is counted at its kind, where refusal 8 may come, before its places; a terminal's is asked with the totals as they were.
 fn effect(c: Cursor, s: &[u32], n: u32, m: u32, terminal: bool, totals: Totals) -> TotalsStep
-    ensures { λ r. ⌜ totalsSays r ≡ judge (effect counting terminal n m) (tellEffect counting terminal) (totalsAre totals) (now (s .entry)) (c .at) ⌝ }
+    ensures { λ r. ⌜ totalsSays r ≡ judge (effect counting terminal n m) (tellEffect counting terminal) (soFar totals) (now (s .entry)) (c .at) ⌝ }
 {
     match c.at_most(s, MOST_KIND) {
         WordStep::Got(number, c1) => {
@@ -67,7 +65,7 @@ fn effect(c: Cursor, s: &[u32], n: u32, m: u32, terminal: bool, totals: Totals) 
 
 // An effect count and the effects, of an instruction or of a terminal.
 fn effects(start: Cursor, s: &[u32], n: u32, m: u32, terminal: bool, totals: Totals) -> TotalsStep
-    ensures { λ r. ⌜ totalsSays r ≡ judge (effects counting terminal n m) (each (tellEffect counting terminal)) (totalsAre totals) (now (s .entry)) (start .at) ⌝ }
+    ensures { λ r. ⌜ totalsSays r ≡ judge (effects counting terminal n m) (each (tellEffect counting terminal)) (soFar totals) (now (s .entry)) (start .at) ⌝ }
 {
     let mut left: u32;
     let mut c: Cursor;
@@ -98,7 +96,7 @@ fn effects(start: Cursor, s: &[u32], n: u32, m: u32, terminal: bool, totals: Tot
 
 // An instruction's effects, of which the list may be absent.
 fn instruction_effects(c: Cursor, s: &[u32], n: u32, m: u32, totals: Totals) -> TotalsStep
-    ensures { λ r. ⌜ totalsSays r ≡ instructionEffects n m (totalsAre totals) (now (s .entry)) (c .at) ⌝ }
+    ensures { λ r. ⌜ totalsSays r ≡ instructionEffects n m (soFar totals) (now (s .entry)) (c .at) ⌝ }
 {
     match c.word(s) {
         WordStep::Got(count, d) => {
@@ -132,7 +130,7 @@ fn uses(c: Cursor, s: &[u32], n: u32, m: u32) -> CursorStep
 
 // An order, places and a value, an effect count and the effects.
 fn instruction(c: Cursor, s: &[u32], n: u32, m: u32, totals: Totals) -> TotalsStep
-    ensures { λ r. ⌜ totalsSays r ≡ judge (instruction counting n m) (tellInstruction counting) (totalsAre totals) (now (s .entry)) (c .at) ⌝ }
+    ensures { λ r. ⌜ totalsSays r ≡ judge (instruction counting n m) (tellInstruction counting) (soFar totals) (now (s .entry)) (c .at) ⌝ }
 {
     match c.order(s) {
         OrderStep::Got(_, c1) => match uses(c1, s, n, m) {
@@ -145,7 +143,7 @@ fn instruction(c: Cursor, s: &[u32], n: u32, m: u32, totals: Totals) -> TotalsSt
 
 // An instruction count and the instructions.
 fn instructions(start: Cursor, s: &[u32], n: u32, m: u32, totals: Totals) -> TotalsStep
-    ensures { λ r. ⌜ totalsSays r ≡ judge (countedFrom mostCount (instruction counting n m) (tellInstruction counting)) (each (tellInstruction counting)) (totalsAre totals) (now (s .entry)) (start .at) ⌝ }
+    ensures { λ r. ⌜ totalsSays r ≡ judge (countedFrom mostCount (instruction counting n m) (tellInstruction counting)) (each (tellInstruction counting)) (soFar totals) (now (s .entry)) (start .at) ⌝ }
 {
     let mut left: u32;
     let mut c: Cursor;
@@ -176,7 +174,7 @@ fn instructions(start: Cursor, s: &[u32], n: u32, m: u32, totals: Totals) -> Tot
 
 // The effects of a Return or a MaybeThrow, and the count of its operands, which is 0.
 fn terminal_effects(c: Cursor, s: &[u32], n: u32, m: u32, totals: Totals) -> TotalsStep
-    ensures { λ r. ⌜ totalsSays r ≡ terminalEffects n m (totalsAre totals) (now (s .entry)) (c .at) ⌝ }
+    ensures { λ r. ⌜ totalsSays r ≡ terminalEffects n m (soFar totals) (now (s .entry)) (c .at) ⌝ }
 {
     match effects(c, s, n, m, true, totals) {
         TotalsStep::Got(t, c1) => match c1.fixed(s, NO_OPERANDS) {
@@ -187,31 +185,9 @@ fn terminal_effects(c: Cursor, s: &[u32], n: u32, m: u32, totals: Totals) -> Tot
     }
 }
 
-// A Return value: counted at its identifier, where refusal 8 may come, before its traits.
-fn value(c: Cursor, s: &[u32], n: u32, totals: Totals) -> TotalsStep
-    ensures { λ r. ⌜ totalsSays r ≡ judgedValue n (totalsAre totals) (now (s .entry)) (c .at) ⌝ }
-{
-    match c.below(s, n) {
-        WordStep::Got(_, c1) => {
-            let t = totals.relation();
-            if t.over() {
-                return TotalsStep::Refused(8);
-            }
-            match c1.at_most(s, MOST_TRAITS) {
-                WordStep::Got(_, c2) => match c2.word(s) {
-                    WordStep::Got(_, c3) => TotalsStep::Got(t, c3),
-                    WordStep::Refused(k3) => TotalsStep::Refused(k3),
-                },
-                WordStep::Refused(k5) => TotalsStep::Refused(k5),
-            }
-        }
-        WordStep::Refused(k1) => TotalsStep::Refused(k1),
-    }
-}
-
 // Kind and order; of a Return its value; of a Return and a MaybeThrow the effects; the operands.
 fn terminal(c: Cursor, s: &[u32], n: u32, m: u32, totals: Totals) -> TotalsStep
-    ensures { λ r. ⌜ totalsSays r ≡ judge (terminal counting n m) (tellTerminal counting) (totalsAre totals) (now (s .entry)) (c .at) ⌝ }
+    ensures { λ r. ⌜ totalsSays r ≡ judge (terminal counting n m) (tellTerminal counting) (soFar totals) (now (s .entry)) (c .at) ⌝ }
 {
     let kind: TerminalKind;
     let c1: Cursor;
@@ -238,9 +214,9 @@ fn terminal(c: Cursor, s: &[u32], n: u32, m: u32, totals: Totals) -> TotalsStep
             WordStep::Got(_, c3) => TotalsStep::Got(totals, c3),
             WordStep::Refused(k3) => TotalsStep::Refused(k3),
         },
-        TerminalKind::Return => match value(c2, s, n, totals) {
-            TotalsStep::Got(t4, c4) => terminal_effects(c4, s, n, m, t4),
-            TotalsStep::Refused(k4) => TotalsStep::Refused(k4),
+        TerminalKind::Return => match c2.place(s, n) {
+            PlaceStep::Got(_, c4) => terminal_effects(c4, s, n, m, totals),
+            PlaceStep::Refused(k4) => TotalsStep::Refused(k4),
         },
         TerminalKind::MaybeThrow => terminal_effects(c2, s, n, m, totals),
     }
@@ -248,20 +224,20 @@ fn terminal(c: Cursor, s: &[u32], n: u32, m: u32, totals: Totals) -> TotalsStep
 
 // What follows a block's number.
 fn block(c: Cursor, s: &[u32], n: u32, m: u32, totals: Totals, number: u32) -> TotalsStep
-    ensures { λ r. ⌜ totalsSays r ≡ judge (block counting n m number) (tellBlock counting) (totalsAre totals) (now (s .entry)) (c .at) ⌝ }
+    ensures { λ r. ⌜ totalsSays r ≡ judge (block counting n m number) (tellBlock counting) (soFar totals) (now (s .entry)) (c .at) ⌝ }
 {
-    match crate::phis::phis(c, s, n, totals) {
-        TotalsStep::Got(t1, c1) => match instructions(c1, s, n, m, t1) {
+    match crate::sections::phis(c, s, n) {
+        WordStep::Got(_, c1) => match instructions(c1, s, n, m, totals) {
             TotalsStep::Got(t2, c2) => terminal(c2, s, n, m, t2),
             TotalsStep::Refused(k2) => TotalsStep::Refused(k2),
         },
-        TotalsStep::Refused(k1) => TotalsStep::Refused(k1),
+        WordStep::Refused(k1) => TotalsStep::Refused(k1),
     }
 }
 
 // A block count and the blocks, of which no two have one number.
 pub fn blocks(start: Cursor, s: &[u32], n: u32, m: u32) -> TotalsStep
-    ensures { λ r. ⌜ totalsSays r ≡ judge (blocksOf n m) (each (tellBlock counting)) noTotals (now (s .entry)) (start .at) ⌝ }
+    ensures { λ r. ⌜ totalsSays r ≡ judge (blocksOf n m) (each (tellBlock counting)) nothingYet (now (s .entry)) (start .at) ⌝ }
 {
     let mut left: u32;
     let mut c: Cursor;
@@ -275,7 +251,6 @@ pub fn blocks(start: Cursor, s: &[u32], n: u32, m: u32) -> TotalsStep
         }
     }
     let mut t = Totals {
-        relations: 0,
         mutations: 0,
         renders: 0,
         diagnoses: 0,

@@ -1,14 +1,12 @@
 // What refusal 8 counts, and whether there is a diagnosis or an Apply.
 ghost use mathlib.Core.Path.{_≡_};
 ghost use Rattle.hir.specs.Numbers.{kindSays};
-ghost use Rattle.reading.specs.Judging.{bump, withRelation, withMutation, withRender, withDiagnosis, withApply, tellKind, totalsOf};
-ghost use Rattle.model.specs.Totals.{over};
+ghost use Rattle.reading.specs.Judging.{bump, withMutation, withRender, withDiagnosis, withApply, tellKind, overTold};
 ghost use Rattle.reading.specs.TotalsSays.{totalsAre};
 use crate::blocks::Totals;
 use hir::EffectKind;
 use hir::effects::Role;
 use hir::limits::MOST_MUTATIONS;
-use hir::limits::MOST_RELATIONS;
 use hir::limits::MOST_RENDERS;
 
 // One more, but no more than `stop`.
@@ -22,13 +20,6 @@ pub fn bump(x: u32, stop: u32) -> u32
 }
 
 impl Totals {
-    pub fn relation(mut self) -> Totals
-        ensures { λ r. ⌜ totalsAre r ≡ withRelation (totalsAre self) ⌝ }
-    {
-        self.relations = bump(self.relations, MOST_RELATIONS + 1);
-        self
-    }
-
     pub fn mutation(mut self) -> Totals
         ensures { λ r. ⌜ totalsAre r ≡ withMutation (totalsAre self) ⌝ }
     {
@@ -59,25 +50,21 @@ impl Totals {
 
     // Whether refusal 8 applies.
     pub fn over(self) -> bool
-        ensures { λ r. ⌜ r ≡ over (totalsOf (totalsAre self)) ⌝ }
+        ensures { λ r. ⌜ r ≡ overTold (totalsAre self) ⌝ }
     {
-        (MOST_RELATIONS < self.relations)
-            | ((MOST_MUTATIONS < self.mutations) | (MOST_RENDERS < self.renders))
+        (MOST_MUTATIONS < self.mutations) | (MOST_RENDERS < self.renders)
     }
 
-    // An effect of this kind, of an instruction or of a terminal.
+    // An effect of this kind, of an instruction or of a terminal, whose effects count nothing.
     pub fn effect(self, kind: EffectKind, terminal: bool) -> Totals
         ensures { λ r. ⌜ totalsAre r ≡ tellKind terminal (kindSays kind) (totalsAre self) ⌝ }
     {
         if terminal {
-            if kind.is(EffectKind::Alias) {
-                return self.relation();
-            }
             return self;
         }
         let role = hir::effects::role_of(kind);
         match role {
-            Role::Relation => self.relation(),
+            Role::Relation => self,
             Role::Mutation => self.mutation(),
             Role::Render => self.render(),
             Role::Diagnosis => self.diagnosis(),

@@ -1,17 +1,16 @@
-// Phis, whose operands name no predecessor twice.
+// A phi, whose operands name no predecessor twice. Its words count nothing.
 ghost use mathlib.Core.Path.{_≡_};
 ghost use mathlib.Core.List.{[]};
 ghost use Prim.Native.Nat.{ℕ, _≤_, _<_};
 ghost use lib.ListN.{length, drop};
-ghost use Rattle.model.specs.Limits.{mostCount, mostBlockNumber};
-ghost use Rattle.model.specs.Lists.{each, among, Every};
-ghost use Rattle.model.specs.Reading.{numberedFrom, countedFrom};
-ghost use Rattle.model.specs.Asking.{operand, phi, tellOperand, tellPhi};
-ghost use Rattle.reading.specs.Judging.{judge, counting};
+ghost use Rattle.model.specs.Limits.{mostBlockNumber};
+ghost use Rattle.model.specs.Lists.{among, Every};
+ghost use Rattle.model.specs.Sections.{operand, phi};
+ghost use Rattle.reading.specs.Judging.{telling};
 ghost use Rattle.reading.specs.Operands.{Whole, predecessors};
-ghost use Rattle.reading.specs.TotalsSays.{totalsAre, totalsSays};
-use crate::blocks::Totals;
-use crate::blocks::TotalsStep;
+ghost use Rattle.reading.specs.Whole.{skip, passingNumbered};
+ghost use Rattle.reading.specs.Says.{cursorSays};
+use crate::CursorStep;
 use hir::BlockStep;
 use hir::Cursor;
 use hir::PlaceStep;
@@ -84,27 +83,12 @@ fn repeated_operand(s: &[u32], from: usize, to: usize, above: u32, number: u32) 
     }
 }
 
-// An operand after its number, which counts it: refusal 8 may come there, before the place.
-fn operand(c: Cursor, s: &[u32], n: u32, number: u32, totals: Totals) -> TotalsStep
-    ensures { λ r. ⌜ totalsSays r ≡ judge (operand counting n number) (tellOperand counting) (totalsAre totals) (now (s .entry)) (c .at) ⌝ }
-{
-    let t = totals.relation();
-    if t.over() {
-        return TotalsStep::Refused(8);
-    }
-    match c.place(s, n) {
-        PlaceStep::Got(_, c1) => TotalsStep::Got(t, c1),
-        PlaceStep::Refused(k1) => TotalsStep::Refused(k1),
-    }
-}
-
 // `count` operands: a predecessor's number that none before had, and a place.
-fn operands(start: Cursor, s: &[u32], n: u32, count: u32, totals: Totals) -> TotalsStep
-    ensures { λ r. ⌜ totalsSays r ≡ judge (numberedFrom count [] (operand counting n) (tellOperand counting)) (each (tellOperand counting)) (totalsAre totals) (now (s .entry)) (start .at) ⌝ }
+fn operands(start: Cursor, s: &[u32], n: u32, count: u32) -> CursorStep
+    ensures { λ r. ⌜ cursorSays r ≡ passingNumbered count [] (operand n) (now (s .entry)) (start .at) ⌝ }
 {
     let mut left = count;
     let mut c = start;
-    let mut t = totals;
     let mut above: u32 = 0;
     let from = start.at;
     while 0 < left {
@@ -116,67 +100,35 @@ fn operands(start: Cursor, s: &[u32], n: u32, count: u32, totals: Totals) -> Tot
                 c1 = d1;
             }
             BlockStep::Refused(k1) => {
-                return TotalsStep::Refused(k1);
+                return CursorStep::Refused(k1);
             }
         }
         if repeated_operand(s, from, c.at, above, number) {
-            return TotalsStep::Refused(6);
+            return CursorStep::Refused(6);
         }
         above = raised(above, number);
-        match operand(c1, s, n, number, t) {
-            TotalsStep::Got(u, d2) => {
-                t = u;
+        match c1.place(s, n) {
+            PlaceStep::Got(_, d2) => {
                 c = d2;
             }
-            TotalsStep::Refused(k2) => {
-                return TotalsStep::Refused(k2);
+            PlaceStep::Refused(k2) => {
+                return CursorStep::Refused(k2);
             }
         }
         left -= 1;
     }
-    TotalsStep::Got(t, c)
+    CursorStep::Got(c)
 }
 
 // A place, an operand count and the operands.
-pub fn phi(c: Cursor, s: &[u32], n: u32, totals: Totals) -> TotalsStep
-    ensures { λ r. ⌜ totalsSays r ≡ judge (phi counting n) (tellPhi counting) (totalsAre totals) (now (s .entry)) (c .at) ⌝ }
+pub fn phi(c: Cursor, s: &[u32], n: u32) -> CursorStep
+    ensures { λ r. ⌜ cursorSays r ≡ telling (phi n) skip tt (now (s .entry)) (c .at) ⌝ }
 {
     match c.place(s, n) {
         PlaceStep::Got(_, c1) => match c1.count(s, MOST_COUNT) {
-            WordStep::Got(count, c2) => operands(c2, s, n, count, totals),
-            WordStep::Refused(k2) => TotalsStep::Refused(k2),
+            WordStep::Got(count, c2) => operands(c2, s, n, count),
+            WordStep::Refused(k2) => CursorStep::Refused(k2),
         },
-        PlaceStep::Refused(k1) => TotalsStep::Refused(k1),
+        PlaceStep::Refused(k1) => CursorStep::Refused(k1),
     }
-}
-
-// A phi count and the phis.
-pub fn phis(start: Cursor, s: &[u32], n: u32, totals: Totals) -> TotalsStep
-    ensures { λ r. ⌜ totalsSays r ≡ judge (countedFrom mostCount (phi counting n) (tellPhi counting)) (each (tellPhi counting)) (totalsAre totals) (now (s .entry)) (start .at) ⌝ }
-{
-    let mut left: u32;
-    let mut c: Cursor;
-    match start.count(s, MOST_COUNT) {
-        WordStep::Got(count, d) => {
-            left = count;
-            c = d;
-        }
-        WordStep::Refused(k1) => {
-            return TotalsStep::Refused(k1);
-        }
-    }
-    let mut t = totals;
-    while 0 < left {
-        match phi(c, s, n, t) {
-            TotalsStep::Got(u, d2) => {
-                t = u;
-                c = d2;
-            }
-            TotalsStep::Refused(k2) => {
-                return TotalsStep::Refused(k2);
-            }
-        }
-        left -= 1;
-    }
-    TotalsStep::Got(t, c)
 }

@@ -1,8 +1,8 @@
-// The sections before the blocks, and every list of places, each after its count.
+// The sections before the blocks, every list of places, and the phis of a block, each after its count.
 ghost use mathlib.Core.Path.{_≡_};
-ghost use Rattle.model.specs.Limits.{mostIdentifiers, mostFunctions, mostInnerDiagnostics};
+ghost use Rattle.model.specs.Limits.{mostIdentifiers, mostFunctions, mostInnerDiagnostics, mostCount};
 ghost use Rattle.model.specs.Reading.{counted};
-ghost use Rattle.model.specs.Sections.{identifier, diagnostic, innerFunction, place};
+ghost use Rattle.model.specs.Sections.{identifier, diagnostic, innerFunction, place, phi};
 ghost use Rattle.hir.specs.Says.{wordSays};
 ghost use Rattle.reading.specs.Judging.{telling};
 ghost use Rattle.reading.specs.Parts.{partOf};
@@ -14,6 +14,7 @@ use hir::DiagnosticStep;
 use hir::IdentifierStep;
 use hir::PlaceStep;
 use hir::WordStep;
+use hir::limits::MOST_COUNT;
 use hir::limits::MOST_FUNCTIONS;
 use hir::limits::MOST_IDENTIFIERS;
 use hir::limits::MOST_INNER_CONTEXT;
@@ -24,9 +25,10 @@ enum Part {
     Identifier,
     Diagnostic,
     Place,
+    Phi,
 }
 
-// One part; only a place looks at `n`.
+// One part; only a place and a phi look at `n`.
 fn read_part(c: Cursor, s: &[u32], n: u32, what: Part) -> CursorStep
     ensures { λ r. ⌜ cursorSays r ≡ telling (partOf what n) skip tt (now (s .entry)) (c .at) ⌝ }
 {
@@ -43,6 +45,7 @@ fn read_part(c: Cursor, s: &[u32], n: u32, what: Part) -> CursorStep
             PlaceStep::Got(_, c3) => CursorStep::Got(c3),
             PlaceStep::Refused(k3) => CursorStep::Refused(k3),
         },
+        Part::Phi => crate::phis::phi(c, s, n),
     }
 }
 
@@ -95,6 +98,13 @@ pub fn places(start: Cursor, s: &[u32], n: u32, most: u32) -> WordStep
     ensures { λ r. ⌜ wordSays r ≡ lengthOf (counted most (place n)) (now (s .entry)) (start .at) ⌝ }
 {
     section(start, s, n, most, Part::Place)
+}
+
+// A phi count and the phis: how many there are.
+pub fn phis(start: Cursor, s: &[u32], n: u32) -> WordStep
+    ensures { λ r. ⌜ wordSays r ≡ lengthOf (counted mostCount (phi n)) (now (s .entry)) (start .at) ⌝ }
+{
+    section(start, s, n, MOST_COUNT, Part::Phi)
 }
 
 // Diagnostics, then context places.

@@ -330,10 +330,10 @@ fn next_part(run: Run, file: i32, workspace: &mut [u32], answer: &mut [u32]) -> 
     replay_part(run, &words[..count], workspace, answer)
 }
 
-// The parts of the file, up to 32.
+// The parts of the file, up to 48.
 fn parts(run: Run, file: i32, workspace: &mut [u32], answer: &mut [u32]) -> Run {
     let mut r = run;
-    let mut left: usize = 32;
+    let mut left: usize = 48;
     while 0 < left {
         r = next_part(r, file, workspace, answer);
         left -= 1;

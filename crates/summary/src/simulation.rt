@@ -1,7 +1,7 @@
 // The section of effects: those copied, the records of context and parameters, Create for returns, and what simulated walks find.
 ghost use mathlib.Core.Path.{_≡_};
 ghost use Prim.Native.Nat.{_+_, _≤_, _<_};
-ghost use Rattle.model.specs.Limits.{mostIdentifiers};
+ghost use Rattle.model.specs.Limits.{mostIdentifiers, mostIndex};
 ghost use lib.ListN.{length};
 ghost use Rattle.model.specs.Sheet.{Sheet};
 ghost use Rattle.model.specs.State.{simulated};
@@ -15,7 +15,6 @@ ghost use Rattle.aliasing.specs.Walks.{Callable};
 ghost use Rattle.writing.specs.Wrote.{farthest};
 ghost use Rattle.dataflow.specs.Function.{Limited};
 ghost use Rattle.summary.specs.Simulates.{mostFlows, mostEffects, Marked, Simulates, CopiedPut, Before, EffectsPut};
-ghost use Rattle.workspace.specs.Pending.{mostIndex};
 use crate::flows::put_flows;
 use crate::records::collect_effects;
 use crate::tracked::mark_tracked;

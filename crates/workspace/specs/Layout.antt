@@ -55,6 +55,10 @@ BENTRY = 6659
 abbrev pub QUEUE : ℕ
 QUEUE = 7683
 
+-- while building, in the words of the rows: which nodes have had a forward edge, 512 words
+abbrev pub MARKS : ℕ
+MARKS = 3073
+
 -- while building, in the queue's words: the log of forward edges, 1,024 words
 abbrev pub EDGES : ℕ
 EDGES = 7683
@@ -63,7 +67,7 @@ EDGES = 7683
 abbrev pub ENTRIES : ℕ
 ENTRIES = 8707
 
--- the phis that have operands, 2,048 words
+-- the phis that have operands, 4,096 words
 abbrev pub PHIS : ℕ
 PHIS = 9731
 
@@ -89,20 +93,20 @@ HANDED = 11780
 
 -- the mutations, three words each, up to 512
 abbrev pub MUTATIONS : ℕ
-MUTATIONS = 12292
+MUTATIONS = 13827
 
 -- the renders, up to 256
 abbrev pub RENDERS : ℕ
-RENDERS = 13828
+RENDERS = 15363
 
 -- the inner functions' places, 64 words
 abbrev pub FUNCTIONS : ℕ
-FUNCTIONS = 14084
+FUNCTIONS = 15619
 
 -- the simulated mutations, 129 words
 abbrev pub SIMULATED : ℕ
-SIMULATED = 14148
+SIMULATED = 15683
 
 -- the tracked places, parameters, context and the return, two words each, up to 129
 abbrev pub TRACKED : ℕ
-TRACKED = 14277
+TRACKED = 15812

@@ -3,14 +3,9 @@ use Prim.Native.Nat.{ℕ, zero, suc, _+_, _*_, _/_, _%_}
 use mathlib.Core.List.{List}
 use lib.ListN.{getD}
 use lib.Dec.{eqb}
-use Rattle.model.specs.Limits.{mostSheet, operandWidth}
 use Rattle.model.specs.Mutation.{Kind, conditional, definite, reasonOf, Mutation, RenderOf}
 use Rattle.workspace.specs.Layout.{MUTATIONS, RENDERS}
 use Rattle.workspace.specs.Graph.{tab}
-
--- whatever takes an index has at least the words of an operand: every index is below this
-abbrev pub mostIndex : ℕ
-mostIndex = mostSheet / operandWidth
 
 -- the kind by its level less 1
 abbrev pub kindOf : ℕ → Kind

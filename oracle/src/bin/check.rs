@@ -38,8 +38,8 @@ fn check(file: &str) -> Result<(), String> {
 fn check_drawing(text: &Text) -> Result<(), String> {
     let expected: String = text.drawing.iter().map(|line| format!("{line}\n")).collect();
     let plain = plain::dot::judge(&text.words).map_err(|r| format!("drawing: refused {r}"))?;
-    let (sheet, _) = plain::sheet::read_whole(&text.words).map_err(|r| format!("refused {r}"))?;
-    for (side, drawn) in [("plain reader", plain), ("original", drawing(&sheet))] {
+    let whole = plain::read_whole(&text.words).map_err(|r| format!("refused {r}"))?;
+    for (side, drawn) in [("plain reader", plain), ("original", drawing(&whole.sheet))] {
         if drawn != expected.as_bytes() {
             let lines = String::from_utf8_lossy(&drawn);
             return Err(format!("{side}:\n> {}", lines.trim_end().replace('\n', "\n> ")));

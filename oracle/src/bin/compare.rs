@@ -1,11 +1,12 @@
 //! compare --seed S --sheets N --damaged M --loads L --drawings D --certainty C --callers K
-//!         [--graphviz G]
+//!         [--recreated H] [--graphviz G]
 //!         [--threads T] [--program PATH --runs R] [--files F..]
 //!
 //! Makes N accepted sheets and M damaged calls from a seed and compares the
 //! original, the plain reader and, with the feature `service`, our own library on
 //! them, and on the fixed sheets: bench cases, ranges of words, totals, smallest/ and long
-//! walks. Then class loads: those at the corners of the bounds, arguments outside, and
+//! walks; and H sheets that create the same identifiers again and again, with H calls about what
+//! may be held together. Then class loads: those at the corners of the bounds, arguments outside, and
 //! L from the seed. Then drawings: of the fixed sheets, and of D sheets and D damaged calls
 //! from the seed; G texts of sheets from the seed are given to Graphviz. Then how sure the
 //! mutation of each parameter is: of the fixed sheets that order 8 speaks of, and of C such
@@ -25,10 +26,10 @@ use oracle::drawing::{self, Drawer, compare_drawing};
 use oracle::graphviz::compare_picture;
 use oracle::load::{self, Load, Loader, compare_load};
 use oracle::plain;
-use oracle::plain::sheet::WORKSPACE_WORDS;
+use oracle::plain::sheet::{Sheet, WORKSPACE_WORDS};
 use oracle::program::{self, compare_run, file_words};
 use oracle::random::Random;
-use oracle::{cases, dense, generate, text, totals};
+use oracle::{cases, damage, dense, generate, held, recreated, text, totals};
 
 const REPORT: &str = "difference.txt";
 
@@ -37,6 +38,7 @@ struct Arguments {
     seed: u64,
     sheets: u64,
     damaged: u64,
+    recreated: u64,
     loads: u64,
     drawings: u64,
     certainty: u64,
@@ -53,6 +55,7 @@ fn arguments() -> Result<Arguments, String> {
         seed: 1,
         sheets: 100_000,
         damaged: 100_000,
+        recreated: 0,
         loads: 1_000,
         drawings: 10_000,
         certainty: 10_000,
@@ -79,6 +82,7 @@ fn arguments() -> Result<Arguments, String> {
             "--seed" => arguments.seed = number,
             "--sheets" => arguments.sheets = number,
             "--damaged" => arguments.damaged = number,
+            "--recreated" => arguments.recreated = number,
             "--loads" => arguments.loads = number,
             "--drawings" => arguments.drawings = number,
             "--certainty" => arguments.certainty = number,
@@ -407,6 +411,7 @@ fn compare_fixed() -> Counts {
     let mut counts = Counts::default();
     let mut sheets = cases::sheets();
     sheets.extend(totals::all().into_iter().map(|sheet| sheet.words));
+    sheets.extend(held::all().into_iter().map(|sheet| sheet.words));
     sheets.extend(text::smallest().into_iter().map(|text| text.words));
     sheets.extend(dense::all().iter().map(|(_, sheet)| sheet.words()));
     for sheet in &sheets {
@@ -418,20 +423,37 @@ fn compare_fixed() -> Counts {
 
 /// The sheets and calls of which the number is `own` modulo the number of threads.
 fn compare_made(arguments: &Arguments, own: u64) -> Counts {
+    let numbers = (arguments.sheets, arguments.damaged);
+    compare_from(arguments, own, numbers, generate::sheet, damaged)
+}
+
+/// The same of sheets that create the same identifiers again and again.
+fn compare_recreated(arguments: &Arguments, own: u64) -> Counts {
+    let numbers = (arguments.recreated, arguments.recreated);
+    compare_from(arguments, own, numbers, recreated::sheet, damage::recreated)
+}
+
+fn compare_from(
+    arguments: &Arguments,
+    own: u64,
+    (sheets, calls): (u64, u64),
+    made: fn(&mut Random) -> Sheet,
+    damaged: fn(&mut Random) -> Call,
+) -> Counts {
     let start = Instant::now();
     let mut shown = start;
     let mut sides = sides();
     let mut counts = Counts::default();
     let mut random = Random::new(arguments.seed);
-    for i in 0..arguments.sheets + arguments.damaged {
+    for i in 0..sheets + calls {
         // Each call has random numbers of its own, so that it can be made again.
         let mut random = Random::new(random.word());
         if i % arguments.threads != own {
             continue;
         }
-        if i < arguments.sheets {
+        if i < sheets {
             counts.sheets += 1;
-            let sheet = generate::sheet(&mut random);
+            let sheet = made(&mut random);
             let refusal = counts.compare(Call::good(&sheet, &mut random), &mut sides);
             if refusal != 0 {
                 println!("a made sheet is refused with {refusal}: {:?}", sheet.words());
@@ -445,7 +467,7 @@ fn compare_made(arguments: &Arguments, own: u64) -> Counts {
         if own == 0 && shown.elapsed() > Duration::from_secs(5) {
             shown = Instant::now();
             let seconds = start.elapsed().as_secs();
-            eprintln!("{} of {} after {seconds} s", i + 1, arguments.sheets + arguments.damaged);
+            eprintln!("{} of {} after {seconds} s", i + 1, sheets + calls);
         }
     }
     counts
@@ -527,9 +549,9 @@ fn compare_pictures(arguments: &Arguments) -> Result<Counts, String> {
     let mut random = Random::new(arguments.seed);
     while counts.pictures.0 < arguments.graphviz {
         let call = drawing::made(&mut random);
-        let Ok((sheet, _)) = plain::sheet::read_whole(&call.sheet) else { continue };
+        let Ok(whole) = plain::read_whole(&call.sheet) else { continue };
         if plain::dot::judge(&call.sheet).is_ok_and(|text| text.len() <= LONGEST) {
-            let (nodes, edges) = compare_picture(&sheet)?;
+            let (nodes, edges) = compare_picture(&whole.sheet)?;
             counts.pictures.0 += 1;
             counts.pictures.1 += nodes as u64;
             counts.pictures.2 += edges as u64;
@@ -602,6 +624,7 @@ fn compare_all(arguments: &Arguments) -> Result<Counts, String> {
     }
     if arguments.files.is_empty() {
         counts.add(in_threads(arguments, compare_made));
+        counts.add(in_threads(arguments, compare_recreated));
         if arguments.loads > 0 {
             counts.add(in_threads(arguments, compare_loads));
         }

@@ -160,7 +160,7 @@ fn write_drawings(folder: &Path, count: usize) -> std::io::Result<()> {
 
 /// The words of a part, and how many parts the program reads.
 const PART: usize = 32_768;
-const MOST_PARTS: usize = 32;
+const MOST_PARTS: usize = 48;
 
 /// The records in parts: a record goes into the first that has room.
 fn parts(records: &[Recorded]) -> Vec<Vec<&Recorded>> {

@@ -1,6 +1,7 @@
-//! Building: the nodes, what is stored in them, the mutations and the renders.
+//! Building: the nodes, what is stored in them, the mutations and the renders. Refusal 8 for what is
+//! stored (document 02, order 10).
 
-use super::sheet::{Diagnostic, Effect, Place, Sheet, Terminal};
+use super::sheet::{Diagnostic, Effect, MAX_HELD, Place, Sheet, Terminal};
 
 #[derive(Debug, Clone, Copy, PartialEq, Eq)]
 pub enum Value {
@@ -81,6 +82,12 @@ impl Node {
         self.local.is_some() || self.transitive.is_some()
     }
 
+    /// What is stored at this node: its forward edges, and its entries in all four lists.
+    pub fn holds(&self) -> Held {
+        let lists = [&self.created_from, &self.captures, &self.aliases, &self.maybe_aliases];
+        Held { edges: self.edges.len(), entries: lists.iter().map(|list| list.len()).sum() }
+    }
+
     fn list(&mut self, relation: Relation) -> &mut Vec<Entry> {
         match relation {
             Relation::Capture => &mut self.captures,
@@ -107,17 +114,35 @@ pub struct Render {
     pub place: Place,
 }
 
+/// Forward edges and entries held together in the whole graph.
+#[derive(Debug, Clone, Copy, PartialEq, Eq, Default)]
+pub struct Held {
+    pub edges: usize,
+    pub entries: usize,
+}
+
+impl Held {
+    /// "The walk bound reads R as the larger of the two numbers after building."
+    pub fn larger(self) -> usize {
+        self.edges.max(self.entries)
+    }
+}
+
 /// What building leaves.
 #[derive(Debug, Clone)]
 pub struct Built {
     /// One for each identifier; none if it has no node.
     pub nodes: Vec<Option<Node>>,
+    pub held: Held,
     pub mutations: Vec<Mutation>,
     pub renders: Vec<Render>,
     pub next_index: u32,
     pub diagnostics: Vec<Diagnostic>,
     pub effects: Vec<Effect>,
 }
+
+/// Nothing, or refusal 8.
+type Stored = Result<(), u32>;
 
 /// A phi operand whose predecessor has not come yet.
 struct Waiting {
@@ -132,8 +157,14 @@ impl Built {
         self.nodes[identifier as usize].is_some()
     }
 
+    /// A node that is created again gives back the places of its own edges and entries. Edges of
+    /// others to it, and entries of others from it, stay.
     fn create(&mut self, identifier: u32, value: Value) {
-        self.nodes[identifier as usize] = Some(Node::new(value));
+        let node = self.nodes[identifier as usize].replace(Node::new(value));
+        if let Some(dropped) = node.map(|node| node.holds()) {
+            self.held.edges -= dropped.edges;
+            self.held.entries -= dropped.entries;
+        }
     }
 
     fn next(&mut self) -> u32 {
@@ -141,29 +172,40 @@ impl Built {
         self.next_index - 1
     }
 
-    fn store_edge(&mut self, index: u32, from: u32, into: u32, relation: Relation) {
+    fn store_edge(&mut self, index: u32, from: u32, into: u32, relation: Relation) -> Stored {
         if let Some(node) = &mut self.nodes[from as usize] {
+            if self.held.edges == MAX_HELD {
+                return Err(8);
+            }
+            self.held.edges += 1;
             node.edges.push(Edge { index, into, relation });
         }
+        Ok(())
     }
 
-    fn store_entry(&mut self, index: u32, from: u32, into: u32, relation: Relation) {
+    fn store_entry(&mut self, index: u32, from: u32, into: u32, relation: Relation) -> Stored {
         if let Some(node) = &mut self.nodes[into as usize] {
             let list = node.list(relation);
             if !list.iter().any(|e| e.from == from) {
+                if self.held.entries == MAX_HELD {
+                    return Err(8);
+                }
+                self.held.entries += 1;
                 list.push(Entry { from, index });
             }
         }
+        Ok(())
     }
 
-    fn store(&mut self, index: u32, from: u32, into: u32, relation: Relation) {
+    fn store(&mut self, index: u32, from: u32, into: u32, relation: Relation) -> Stored {
         if self.exists(from) && self.exists(into) {
-            self.store_edge(index, from, into, relation);
-            self.store_entry(index, from, into, relation);
+            self.store_edge(index, from, into, relation)?;
+            self.store_entry(index, from, into, relation)?;
         }
+        Ok(())
     }
 
-    fn instruction_effect(&mut self, effect: &Effect, order: u32, errors: bool) {
+    fn instruction_effect(&mut self, effect: &Effect, order: u32, errors: bool) -> Stored {
         let (first, second) = (effect.first.identifier, effect.second.identifier);
         match effect.kind {
             1..=4 => {
@@ -179,29 +221,29 @@ impl Built {
             }
             5 => {
                 let index = self.next();
-                self.store(index, first, second, Relation::Capture);
+                self.store(index, first, second, Relation::Capture)?;
             }
             6 => {
                 let index = self.next();
-                self.store(index, first, second, Relation::Alias);
+                self.store(index, first, second, Relation::Alias)?;
             }
             7 => {
                 let index = self.next();
-                self.store(index, first, second, Relation::MaybeAlias);
+                self.store(index, first, second, Relation::MaybeAlias)?;
             }
             8 => {
                 if !self.exists(second) {
                     self.create(second, Value::Object);
                 }
                 let index = self.next();
-                self.store(index, first, second, Relation::Alias);
+                self.store(index, first, second, Relation::Alias)?;
             }
             9 => self.create(first, Value::Object),
             10 => {
                 self.create(second, Value::Object);
                 let index = self.next();
-                self.store_edge(index, first, second, Relation::CreateFrom);
-                self.store_entry(index, first, second, Relation::CreateFrom);
+                self.store_edge(index, first, second, Relation::CreateFrom)?;
+                self.store_entry(index, first, second, Relation::CreateFrom)?;
             }
             13 => self.create(first, Value::Function(effect.extra)),
             14..=16 => {
@@ -217,6 +259,7 @@ impl Built {
             }
             _ => {}
         }
+        Ok(())
     }
 }
 
@@ -225,11 +268,14 @@ pub fn records_errors(sheet: &Sheet) -> bool {
     sheet.validations && !sheet.function_expression
 }
 
-pub fn build(sheet: &Sheet) -> Built {
+/// What building leaves, or refusal 8 if it would hold an edge or an entry too many, whatever is
+/// dropped later. An Apply changes nothing here.
+pub fn build(sheet: &Sheet) -> Result<Built, u32> {
     let errors = records_errors(sheet);
     let returns = sheet.returns.identifier;
     let mut built = Built {
         nodes: vec![None; sheet.identifiers.len()],
+        held: Held::default(),
         mutations: Vec::new(),
         renders: Vec::new(),
         next_index: 0,
@@ -249,7 +295,7 @@ pub fn build(sheet: &Sheet) -> Built {
             for (predecessor, place) in &phi.operands {
                 let (from, index) = (place.identifier, built.next());
                 if come.contains(predecessor) {
-                    built.store(index, from, into, Relation::Alias);
+                    built.store(index, from, into, Relation::Alias)?;
                 } else {
                     waiting.push(Waiting { predecessor: *predecessor, from, into, index });
                 }
@@ -259,21 +305,26 @@ pub fn build(sheet: &Sheet) -> Built {
 
         for instruction in &block.instructions {
             for effect in instruction.listed() {
-                built.instruction_effect(effect, instruction.order, errors);
+                built.instruction_effect(effect, instruction.order, errors)?;
             }
         }
 
         for w in waiting.iter().filter(|w| w.predecessor == block.number) {
-            built.store(w.index, w.from, w.into, Relation::Alias);
+            built.store(w.index, w.from, w.into, Relation::Alias)?;
         }
         if let Terminal::Return { value, .. } = &block.terminal {
             let index = built.next();
-            built.store(index, value.identifier, returns, Relation::Alias);
+            built.store(index, value.identifier, returns, Relation::Alias)?;
         }
         for effect in block.terminal.effects().iter().filter(|e| e.kind == 6) {
             let index = built.next();
-            built.store(index, effect.first.identifier, effect.second.identifier, Relation::Alias);
+            built.store(
+                index,
+                effect.first.identifier,
+                effect.second.identifier,
+                Relation::Alias,
+            )?;
         }
     }
-    built
+    Ok(built)
 }

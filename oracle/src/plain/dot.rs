@@ -1,7 +1,8 @@
 //! Drawing (document 02, order 6): the built graph as a DOT file.
 
-use super::building::{Built, Edge, Node, Relation, build};
-use super::sheet::{WORKSPACE_WORDS, read_whole};
+use super::building::{Built, Edge, Node, Relation};
+use super::read_whole;
+use super::sheet::WORKSPACE_WORDS;
 
 #[derive(Debug, Clone, PartialEq, Eq)]
 pub enum Drawn {
@@ -39,8 +40,7 @@ pub fn dot(built: &Built) -> Vec<u8> {
 
 /// What the sheet alone decides: the text, or refusals 2 to 8. The drawing "never gives 10".
 pub fn judge(sheet: &[u32]) -> Result<Vec<u8>, u32> {
-    let (sheet, _) = read_whole(sheet)?;
-    Ok(dot(&build(&sheet)))
+    Ok(dot(&read_whole(sheet)?.built))
 }
 
 /// What is then decided by the lengths of the lent buffers: "9 compares the lent bytes with this text's

@@ -7,14 +7,38 @@ pub mod operands;
 pub mod sheet;
 pub mod walks;
 
-use building::{Kind, Mutation, Node, build, records_errors};
+use building::{Built, Kind, Mutation, Node, build, records_errors};
 use operands::{CAPTURE, pass};
 use sheet::{
     Diagnostic, Effect, Place, Sheet, WORKSPACE_WORDS, put_diagnostic, put_effect, put_place,
+    read_words,
 };
 use walks::{render, trace, walk};
 
-pub use sheet::read;
+/// A sheet that is not refused 2 to 8.
+#[derive(Debug, Clone)]
+pub struct Whole {
+    pub sheet: Sheet,
+    /// The graph that building leaves.
+    pub built: Built,
+    /// 0, or 10 for an Apply among an instruction's effects.
+    pub verdict: u32,
+}
+
+/// The sheet with its graph and its verdict; or the refusal: 2 to 8 while reading, then 8 while
+/// building.
+pub fn read_whole(words: &[u32]) -> Result<Whole, u32> {
+    let sheet = read_words(words)?;
+    let built = build(&sheet)?;
+    let verdict = if sheet.applies() { 10 } else { 0 };
+    Ok(Whole { sheet, built, verdict })
+}
+
+/// The sheet's parts, or the refusal, 2 to 8 or 10.
+pub fn read(words: &[u32]) -> Result<Sheet, u32> {
+    let whole = read_whole(words)?;
+    if whole.verdict == 0 { Ok(whole.sheet) } else { Err(whole.verdict) }
+}
 
 #[derive(Debug, Clone, PartialEq, Eq)]
 pub enum Outcome {
@@ -113,8 +137,12 @@ fn marked(place: &Place, effect: u32) -> Place {
 
 /// The answer of an accepted sheet.
 pub fn answer(sheet: &Sheet) -> Answer {
+    answer_of(sheet, build(sheet).expect("the sheet is accepted"))
+}
+
+/// The answer of an accepted sheet whose graph is built.
+pub fn answer_of(sheet: &Sheet, built: Built) -> Answer {
     let errors = records_errors(sheet);
-    let built = build(sheet);
     let mut diagnostics = built.diagnostics.clone();
     let mut effects = built.effects.clone();
     let traced = trace(sheet, built);

@@ -1,4 +1,5 @@
-//! The sheet: its parts, its words, and the reading of words (refusals 2 to 8, and 10).
+//! The sheet: its parts, its words, and the reading of words (refusals 2 to 8; that of building is
+//! not among them).
 
 pub const SHEET_WORDS: usize = 16_384;
 pub const WORKSPACE_WORDS: usize = 16_384;
@@ -23,7 +24,8 @@ pub const MAX_KIND: u32 = 17;
 pub const MAX_TERMINAL: u32 = 2;
 pub const MAX_VALUE: u32 = 2;
 
-pub const MAX_RELATIONS: usize = 1_024;
+/// Forward edges held together, and likewise entries.
+pub const MAX_HELD: usize = 1_024;
 pub const MAX_MUTATIONS: usize = 512;
 pub const MAX_RENDERS: usize = 256;
 
@@ -473,19 +475,10 @@ impl Reader<'_> {
         Ok(InnerFunction { diagnostics, context })
     }
 
-    /// One more relation, at the word read last.
-    fn one_relation(&mut self) -> Read<()> {
-        self.totals.relations += 1;
-        if self.totals.relations > MAX_RELATIONS { Err(8) } else { Ok(()) }
-    }
-
-    /// The effect of the kind read last counts.
+    /// The effect of the kind read last counts, in an instruction.
     fn one_effect(&mut self, kind: u32, of: Of) -> Read<()> {
         if of == Of::Terminal {
-            return if kind == 6 { self.one_relation() } else { Ok(()) };
-        }
-        if is_relation(kind) {
-            self.one_relation()?;
+            return Ok(());
         }
         self.totals.mutations += is_mutation(kind) as usize;
         self.totals.renders += is_render(kind) as usize;
@@ -495,18 +488,6 @@ impl Reader<'_> {
 
     fn place(&mut self) -> Read<Place> {
         let identifier = self.below(self.identifiers)?;
-        self.place_of(identifier)
-    }
-
-    /// The value of a Return, which counts at its identifier.
-    fn returned(&mut self) -> Read<Place> {
-        let identifier = self.below(self.identifiers)?;
-        self.one_relation()?;
-        self.place_of(identifier)
-    }
-
-    /// The rest of a place.
-    fn place_of(&mut self, identifier: u32) -> Read<Place> {
         let traits = self.at_most(MAX_TRAITS)?;
         let span = self.word()?;
         Ok(Place { identifier, traits, span })
@@ -566,7 +547,6 @@ impl Reader<'_> {
         let operands = self.times(count, |r| {
             let predecessor = r.fresh_number(&predecessors)?;
             predecessors.push(predecessor);
-            r.one_relation()?;
             Ok((predecessor, r.place()?))
         })?;
         Ok(Phi { place, operands })
@@ -596,7 +576,7 @@ impl Reader<'_> {
         Ok(match kind {
             0 => Terminal::Other { order, operands: self.places()? },
             1 => {
-                let value = self.returned()?;
+                let value = self.place()?;
                 let effects = self.effects(Of::Terminal)?;
                 self.fixed_count(0)?;
                 Terminal::Return { order, value, effects }
@@ -650,25 +630,13 @@ impl Reader<'_> {
     }
 }
 
-/// The sheet's parts with its verdict, 0 or 10; or the refusal, 2 to 8.
-pub fn read_whole(words: &[u32]) -> Result<(Sheet, u32), u32> {
+/// The sheet's parts, or the refusal that its words give, 2 to 8.
+pub fn read_words(words: &[u32]) -> Result<Sheet, u32> {
     if words.len() > SHEET_WORDS {
         return Err(2);
     }
     let totals = Totals::default();
     let mut reader = Reader { words, at: 0, identifiers: 0, functions: 0, totals };
     let sheet = reader.sheet()?;
-    if reader.at < words.len() {
-        return Err(7);
-    }
-    let verdict = if sheet.applies() { 10 } else { 0 };
-    Ok((sheet, verdict))
-}
-
-/// The sheet's parts, or the refusal, 2 to 8 or 10.
-pub fn read(words: &[u32]) -> Result<Sheet, u32> {
-    match read_whole(words)? {
-        (sheet, 0) => Ok(sheet),
-        (_, refusal) => Err(refusal),
-    }
+    if reader.at < words.len() { Err(7) } else { Ok(sheet) }
 }

@@ -31,7 +31,7 @@ index-requires : tie.Need-index-requires
 index-requires c κs =
     let b21 = c .before .before .before .before .before .before .before .before .before .before .before .before .before .before .before .before .before .before .before .before .before in
     let p = b21 .pre .0 .1 in
-    (p .fewRelations, (p .pending .few, p .fewRenders))
+    p .indexes
 
 put-effects-requires : tie.Need-put-effects-requires
 put-effects-requires c κs =
@@ -42,7 +42,7 @@ put-effects-requires c κs =
     let p = b23 .pre .0 .1 in
     let m = b17 .process-mutations .ensures in
     let u = b7 .put-diagnostics .ensures .unmoved in
-    (p .limited, (next-indexed p m u, ((b23 .pre .0 .0, before-effects p m u (c .before .index .ensures)), (omega (arith, c .before .index .ensures, p .fewRelations, p .pending .few, p .fewRenders), omega (arith, b23 .pre .1, b12 .put-tracked .ensures .few, b7 .put-diagnostics .ensures .few)))))
+    (p .limited, (next-indexed p m u, ((b23 .pre .0 .0, before-effects p m u (c .before .index .ensures)), (omega (arith, c .before .index .ensures, p .indexes), omega (arith, b23 .pre .1, b12 .put-tracked .ensures .few, b7 .put-diagnostics .ensures .few)))))
 
 add-put-walks : tie.Need-add-put-walks
 add-put-walks c =

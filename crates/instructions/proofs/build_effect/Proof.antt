@@ -16,7 +16,7 @@ unfolding rowOf
 push-mutation-requires c κs =
     let b6 = c .before .before .before .before .before .before in
     let p = mutation-can (b6 .args .e) (c .before .enum-told .given .1) refl (b6 .pre) in
-    (p .0, (p .1 .0, (p .1 .1, (omega arith, (omega arith, reason-below (b6 .args .e) (c .before .enum-told .given .1) (b6 .pre .range))))))
+    (p .0, (p .1 .0, (p .1 .1 .0, (p .1 .1 .1, (omega arith, (omega arith, reason-below (b6 .args .e) (c .before .enum-told .given .1) (b6 .pre .range)))))))
 
 enum-told-2 : tie.Need-enum-told-2
 enum-told-2 c = search needs
@@ -26,7 +26,7 @@ unfolding rowOf
 push-mutation-requires-2 c κs =
     let b6 = c .before .before .before .before .before .before in
     let p = mutation-can (b6 .args .e) (c .before .enum-told2 .given .1) refl (b6 .pre) in
-    (p .0, (p .1 .0, (p .1 .1, (omega arith, (omega arith, omega arith)))))
+    (p .0, (p .1 .0, (p .1 .1 .0, (p .1 .1 .1, (omega arith, (omega arith, omega arith))))))
 
 enum-told-3 : tie.Need-enum-told-3
 enum-told-3 c = search needs
@@ -36,7 +36,7 @@ unfolding rowOf
 push-mutation-requires-3 c κs =
     let b6 = c .before .before .before .before .before .before in
     let p = mutation-can (b6 .args .e) (c .before .enum-told3 .given .1) refl (b6 .pre) in
-    (p .0, (p .1 .0, (p .1 .1, (omega arith, (omega arith, omega arith)))))
+    (p .0, (p .1 .0, (p .1 .1 .0, (p .1 .1 .1, (omega arith, (omega arith, omega arith))))))
 
 enum-told-4 : tie.Need-enum-told-4
 enum-told-4 c = search needs
@@ -46,7 +46,7 @@ unfolding rowOf
 push-mutation-requires-4 c κs =
     let b6 = c .before .before .before .before .before .before in
     let p = mutation-can (b6 .args .e) (c .before .enum-told4 .given .1) refl (b6 .pre) in
-    (p .0, (p .1 .0, (p .1 .1, (omega arith, (omega arith, omega arith)))))
+    (p .0, (p .1 .0, (p .1 .1 .0, (p .1 .1 .1, (omega arith, (omega arith, omega arith))))))
 
 enum-told-5 : tie.Need-enum-told-5
 enum-told-5 c = search needs

@@ -161,7 +161,7 @@ mod tests {
         let sheet = Sheet::read(&plain_sheet.words()).unwrap();
         let answer = service.infer(0, &sheet.words()).unwrap();
         let said = explain(&sheet, &answer).unwrap().certainty;
-        let built = plain::building::build(plain_sheet);
+        let built = plain::building::build(plain_sheet).unwrap();
         assert_eq!(!said.phi && !said.local, certainty::in_class(plain_sheet));
         let (mut reports, mut steps) = (0, 0);
         for listed in &said.places {

@@ -426,13 +426,13 @@ s  0..0 -> 0..6
         let mut random = Random::new(6);
         let mut service = Service::new();
         let (mut moved, mut passed, mut steps, mut longest) = (0, 0, 0, 0);
-        for _ in 0..3_000 {
+        for _ in 0..3_300 {
             let plain_sheet = generate::sheet(&mut random);
             let sheet = Sheet::read(&plain_sheet.words()).unwrap();
             let answer = service.infer(0, &sheet.words()).unwrap();
             let explained = explain(&sheet, &answer).unwrap();
             let all = &explained.ranges;
-            let built = plain::building::build(&plain_sheet);
+            let built = plain::building::build(&plain_sheet).unwrap();
             let graph = Graph::build(&sheet);
             let ends = plain::walks::trace(&plain_sheet, built.clone()).ends;
             for (id, m) in sheet.identifier_ids().zip(all) {
@@ -470,7 +470,7 @@ s  0..0 -> 0..6
         let mut random = Random::new(7);
         for _ in 0..3_000 {
             let plain_sheet = generate::sheet(&mut random);
-            let built = plain::building::build(&plain_sheet);
+            let built = plain::building::build(&plain_sheet).unwrap();
             let graph = Graph::build(&Sheet::read(&plain_sheet.words()).unwrap());
             let mutations = graph.mutations.iter().map(|m| (m.index, m.identifier.0, m.order.0));
             let plain_mutations = built.mutations.iter();

@@ -216,7 +216,7 @@ fn why(sheet: &Sheet, refusal: Refusal) -> String {
             vec![format!("{} words, at most {}", sheet.words().len(), limits::WORDS)]
         }
         Refusal::Totals => {
-            let over = sheet.totals().over();
+            let over = sheet.totals().over().chain(sheet.held().over());
             over.map(|(what, total, most)| format!("{total} {what}, at most {most}")).collect()
         }
         Refusal::Apply => {

@@ -11,7 +11,7 @@ index-requires c κs = search needs
 push-phi-requires : tie.Need-push-phi-requires
 push-phi-requires c κs =
     let b5 = c .before .before .before .before .before in
-    (b5 .pre .0 .0 .size, (omega (arith, b5 .pre .0 .0 .phis, b5 .pre .1 .0 .relations), (phi-short _ _ _ _ (b5 .pre .0 .0) (b5 .pre .0 .1) (b5 .pre .1 .0), omega (arith, c .before .index .ensures, b5 .pre .0 .0 .relations, b5 .pre .0 .0 .mutations, b5 .pre .0 .0 .renders))))
+    (b5 .pre .0 .0 .room .size, (omega (arith, b5 .pre .0 .0 .phis, b5 .pre .1 .0 .indexes, b5 .pre .1 .1), (phi-short _ _ _ _ (b5 .pre .0 .0) (b5 .pre .0 .1) (b5 .pre .1 .0), omega (arith, c .before .index .ensures, b5 .pre .1 .0 .indexes, b5 .pre .1 .1))))
 
 store-operands-requires : tie.Need-store-operands-requires
 store-operands-requires c κs =
@@ -23,12 +23,12 @@ store-operands-requires c κs =
 add-self : tie.Need-add-self
 add-self c =
     let b13 = c .before .before .before .before .before .before .before .before .before .before .before .before .before in
-    omega (arith, b13 .pre .0 .0 .phis, b13 .pre .0 .0 .relations)
+    omega (arith, b13 .pre .0 .0 .phis, b13 .pre .0 .0 .indexes)
 
 add-self-2 : tie.Need-add-self-2
 add-self-2 c =
     let b14 = c .before .before .before .before .before .before .before .before .before .before .before .before .before .before in
-    omega (arith, b14 .pre .1 .0 .relations, b14 .pre .1 .1 .0)
+    omega (arith, b14 .pre .1 .0 .indexes, b14 .pre .1 .1 .0)
 
 same-length : tie.Need-same-length
 same-length c =

@@ -21,7 +21,7 @@ returns c =
     let b3 = c .before .before .before in
     let b5 = b3 .before .before in
     let b7 = b5 .before .before in
-    mutated _ _ _ _ _ _ _ _ _ _ (b7 .pre .0) (b7 .pre .1 .0) (b5 .index .ensures) (b3 .push-mutation .ensures)
+    mutated _ _ _ _ _ _ _ _ _ _ (b7 .pre .0) (b7 .pre .1 .0) (b7 .pre .1 .1 .0) (b5 .index .ensures) (b3 .push-mutation .ensures)
 
 pub push-mutation-spec : {M : Type 1} → statement M
 push-mutation-spec =

@@ -21,7 +21,7 @@ returns c =
     let b3 = c .before .before .before in
     let b5 = b3 .before .before in
     let b7 = b5 .before .before in
-    rendered _ 0 _ _ _ _ (b7 .pre .0) (b7 .pre .1 .0) (b5 .index .ensures) (b3 .push-render .ensures)
+    rendered _ 0 _ _ _ _ (b7 .pre .0) (b7 .pre .1 .0) (b7 .pre .1 .1 .0) (b5 .index .ensures) (b3 .push-render .ensures)
 
 pub push-render-spec : {M : Type 1} → statement M
 push-render-spec =

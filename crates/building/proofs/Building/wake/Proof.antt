@@ -7,7 +7,7 @@ use Rattle.building.proofs.Building.wake.Tie as tie
 push-block-requires : tie.Need-push-block-requires
 push-block-requires c κs =
     let b4 = c .before .before .before .before in
-    (b4 .pre .0 .0 .size, b4 .pre .1)
+    (b4 .pre .0 .0 .room .size, b4 .pre .1)
 
 add-self : tie.Need-add-self
 add-self c =
@@ -18,7 +18,7 @@ has-come-requires : tie.Need-has-come-requires
 has-come-requires c κs =
     let b4 = c .before .before .before .before in
     let b9 = b4 .before .before .before .before .before in
-    (omega (arith, b9 .pre .0 .0 .size, b4 .push-block .ensures .kept .same), omega (arith, b9 .pre .0 .0 .come))
+    (omega (arith, b9 .pre .0 .0 .room .size, b4 .push-block .ensures .kept .same), omega (arith, b9 .pre .0 .0 .come))
 
 same-length : tie.Need-same-length
 same-length c =
@@ -35,7 +35,7 @@ wake-requires : tie.Need-wake-requires
 wake-requires c κs =
     let b7 = c .before .before .before .before .before .before .before in
     let b12 = b7 .before .before .before .before .before in
-    (wake-room _ _ _ _ (b12 .pre .0 .0) (b12 .pre .0 .1) (b12 .pre .1) _ (b7 .push-block .ensures) _ (c .before .before .has-come .ensures) (c .before .if1 .left), wake-known _ _ _ _ (b12 .pre .0 .0) (b12 .pre .0 .1) (b12 .pre .1) _ (b7 .push-block .ensures))
+    (wake-room _ _ _ _ (b12 .pre .0 .0) (b12 .pre .0 .1) (b12 .pre .1) _ (b7 .push-block .ensures), wake-known _ _ _ _ (b12 .pre .0 .0) (b12 .pre .0 .1) (b12 .pre .1) _ (b7 .push-block .ensures))
 
 same-length-2 : tie.Need-same-length-2
 same-length-2 c =

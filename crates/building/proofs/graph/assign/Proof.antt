@@ -1,5 +1,5 @@
 use native.Mathlib.Omega.{arith}
-use Rattle.building.proofs.Writes.{node-there, node-missing, room-then}
+use Rattle.building.proofs.Holds.{node-there, node-missing}
 use Rattle.building.proofs.Steps.{effect-creates, effect-assigns}
 use borrow.Author.Needs.{needs}
 use Rattle.building.proofs.graph.assign.Statement.{statement}
@@ -15,7 +15,7 @@ store-requires : tie.Need-store-requires
 store-requires c κs =
     let b3 = c .before .before .before in
     let b9 = b3 .before .before .before .before .before .before in
-    (room-then 1 1 (b9 .pre .0) (b3 .create .ensures), (b9 .pre .1 .0, (b9 .pre .1 .1 .0, (omega arith, b9 .pre .1 .1 .1))))
+    (b3 .create .ensures .room, (b9 .pre .1 .0, (b9 .pre .1 .1 .0, (omega arith, b9 .pre .1 .1 .1))))
 
 same-length : tie.Need-same-length
 same-length c = omega arith
@@ -26,7 +26,7 @@ returns c =
     let b8 = b6 .before .before in
     let b9 = b8 .before in
     let b12 = b9 .before .before .before in
-    effect-creates _ _ _ _ _ (node-missing _ _ _ (b12 .pre .1 .1 .0) _ (b9 .exists .ensures) (b8 .if1 .taken)) (b6 .create .ensures) (c .before .before .store .ensures)
+    effect-creates _ _ _ _ _ (node-missing _ _ _ (b12 .pre .1 .1 .0) _ (b9 .exists .ensures) (b8 .if1 .taken)) (b12 .pre .0) (b6 .create .ensures) (c .before .before .store .ensures)
 
 store-requires-2 : tie.Need-store-requires-2
 store-requires-2 c κs = search needs

@@ -36,11 +36,11 @@ returns c =
     let b3 = c .before .before .before in
     create-new _ _ _ _ (b3 .pre .0) (b3 .pre .1 .0) (b3 .pre .1 .1) (c .if1 .taken)
 
+leave-edges-requires : tie.Need-leave-edges-requires
+leave-edges-requires c κs = search needs
+
 leave-requires : tie.Need-leave-requires
 leave-requires c κs = search needs
-
-leave-requires-2 : tie.Need-leave-requires-2
-leave-requires-2 c κs = search needs
 
 add-ws-2 : tie.Need-add-ws-2
 add-ws-2 c = omega arith
@@ -55,13 +55,13 @@ same-length-2 : tie.Need-same-length-2
 same-length-2 c =
     let b6 = c .before .before .before .before .before .before in
     let b11 = b6 .before .before .before .before .before in
-    omega (arith, length-set (c .before .before .leave2 .last .0) (VALUE + b11 .args .x) (b11 .args .value), c .before .before .leave2 .kept .0, b6 .leave .kept .0)
+    omega (arith, length-set (c .before .before .leave .last .0) (VALUE + b11 .args .x) (b11 .args .value), c .before .before .leave .kept .0, b6 .leave-edges .kept .0)
 
 returns-2 : tie.Need-returns-2
 returns-2 c =
     let b6 = c .before .before .before .before .before .before in
     let b11 = b6 .before .before .before .before .before in
-    create-again _ _ _ _ (b11 .pre .0) (b11 .pre .1 .0) (b11 .pre .1 .1) _ _ (b6 .leave .ensures) _ _ (c .before .before .leave2 .ensures)
+    create-again _ _ _ _ (b11 .pre .0) (b11 .pre .1 .0) (b11 .pre .1 .1) _ _ (b6 .leave-edges .ensures) _ _ (c .before .before .leave .ensures)
 
 pub create-spec : {M : Type 1} → statement M
 create-spec =
@@ -75,8 +75,8 @@ create-spec =
     slice-write-ws
     same-length
     returns
+    leave-edges-requires
     leave-requires
-    leave-requires-2
     add-ws-2
     mul-ws-2
     slice-write-ws-2

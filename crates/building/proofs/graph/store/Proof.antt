@@ -1,5 +1,5 @@
 use native.Mathlib.Omega.{arith}
-use Rattle.building.proofs.Writes.{node-there, node-missing}
+use Rattle.building.proofs.Holds.{node-there, node-missing}
 use Rattle.building.proofs.Steps.{edge-ready, entry-ready, store-builds, store-no-from, store-no-into}
 use borrow.Author.Needs.{needs}
 use Rattle.building.proofs.graph.store.Statement.{statement}
@@ -46,7 +46,7 @@ add-entry-requires c κs =
     let b6 = b5 .before in
     let b7 = b6 .before in
     let b13 = b7 .before .before .before .before .before .before in
-    entry-ready _ _ _ _ _ (b13 .pre .1 .0) (b13 .pre .1 .1 .0) (b13 .pre .1 .1 .1 .0) (b5 .pack .ensures) _ _ (b13 .pre .0) (node-there _ _ _ (b13 .pre .1 .1 .0) _ (b7 .exists2 .ensures) (b6 .if2 .left)) (b3 .add-edge .ensures)
+    entry-ready _ _ _ _ _ (b13 .pre .1 .0) (b13 .pre .1 .1 .0) (b13 .pre .1 .1 .1 .0) (b5 .pack .ensures) _ _ (node-there _ _ _ (b13 .pre .1 .1 .0) _ (b7 .exists2 .ensures) (b6 .if2 .left)) (b3 .add-edge .ensures)
 
 same-length-3 : tie.Need-same-length-3
 same-length-3 c = omega arith

@@ -2,7 +2,7 @@ use native.Mathlib.Omega.{arith}
 use mathlib.Core.Path.{refl}
 use Rattle.hir.specs.Parts.{operandIs}
 use Rattle.building.specs.Phis.{from, waitingAt}
-use Rattle.building.proofs.Storing.{one-room, one-stored, one-passed}
+use Rattle.building.proofs.Storing.{one-stored, one-passed}
 use Rattle.building.proofs.phis.store_operand.Statement.{statement}
 use Rattle.building.proofs.phis.store_operand.Tie as tie
 
@@ -15,12 +15,12 @@ same-length c = refl
 returns : tie.Need-returns
 returns c =
     let b4 = c .before .before .before .before in
-    one-passed (from (b4 .args .first) (b4 .args .count) (b4 .args .ws .now)) (waitingAt (b4 .args .into) (b4 .args .index) (operandIs (b4 .args .o))) (b4 .pre .0) _ (c .before .has-come .ensures) (c .if1 .taken)
+    one-passed (from (b4 .args .first) (b4 .args .count) (b4 .args .ws .now)) (waitingAt (b4 .args .into) (b4 .args .index) (operandIs (b4 .args .o))) _ (c .before .has-come .ensures) (c .if1 .taken) (b4 .pre .0)
 
 store-requires : tie.Need-store-requires
 store-requires c κs =
     let b5 = c .before .before .before .before .before in
-    (one-room (from (b5 .args .first) (b5 .args .count) (b5 .args .ws .now)) (waitingAt (b5 .args .into) (b5 .args .index) (operandIs (b5 .args .o))) (b5 .pre .0) _ (c .before .before .has-come .ensures) (c .before .if1 .left), (b5 .pre .1 .0, (b5 .pre .1 .1 .0, (omega arith, b5 .pre .1 .1 .1 .0))))
+    (b5 .pre .0, (b5 .pre .1 .0, (b5 .pre .1 .1 .0, (omega arith, b5 .pre .1 .1 .1 .0))))
 
 same-length-2 : tie.Need-same-length-2
 same-length-2 c = c .before .before .store .ensures .same
@@ -30,7 +30,7 @@ returns-2 c =
     let b4 = c .before .before .before .before in
     let b5 = b4 .before in
     let b8 = b5 .before .before .before in
-    one-stored (from (b8 .args .first) (b8 .args .count) (b8 .args .ws .now)) (waitingAt (b8 .args .into) (b8 .args .index) (operandIs (b8 .args .o))) (b8 .pre .0) _ (b5 .has-come .ensures) (b4 .if1 .left) (c .before .before .store .ensures)
+    one-stored (from (b8 .args .first) (b8 .args .count) (b8 .args .ws .now)) (waitingAt (b8 .args .into) (b8 .args .index) (operandIs (b8 .args .o))) _ (b5 .has-come .ensures) (b4 .if1 .left) (c .before .before .store .ensures)
 
 pub store-operand-spec : {M : Type 1} → statement M
 store-operand-spec =

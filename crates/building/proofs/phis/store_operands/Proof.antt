@@ -1,7 +1,7 @@
 use native.Mathlib.Omega.{arith}
 use Rattle.hir.proofs.Widths.{phi-rises}
 use Rattle.building.specs.Phis.{operandsFrom}
-use Rattle.building.proofs.Storing.{Operands, operands-start, operands-done, operands-turn, operand-inside, operand-index, operand-below, operand-room}
+use Rattle.building.proofs.Storing.{Operands, operands-start, operands-done, operands-turn, operand-inside, operand-index, operand-below}
 use Rattle.building.proofs.phis.store_operands.Statement.{statement}
 use Rattle.building.proofs.phis.store_operands.Tie as tie
 
@@ -25,7 +25,7 @@ operand-at-requires c κs = operand-inside (c .before .loop .inv) (c .loop-test 
 store-operand-requires : tie.Need-store-operand-requires Inv-loop μ-loop
 store-operand-requires c κs =
     let b3 = c .before .before .before in
-    (operand-room (b3 .loop .inv) (c .before .before .loop-test .taken) (c .before .operand-at .ensures), (operand-below (b3 .loop .inv) (c .before .before .loop-test .taken) (c .before .operand-at .ensures), (b3 .loop .inv .known, (operand-index (b3 .loop .inv) (c .before .before .loop-test .taken), b3 .loop .inv .few))))
+    (b3 .loop .inv .storing .room, (operand-below (b3 .loop .inv) (c .before .before .loop-test .taken) (c .before .operand-at .ensures), (b3 .loop .inv .known, (operand-index (b3 .loop .inv) (c .before .before .loop-test .taken), b3 .loop .inv .few))))
 
 add-next : tie.Need-add-next Inv-loop μ-loop
 add-next c =

@@ -1,6 +1,6 @@
 use native.Mathlib.Omega.{arith}
 use Prim.Native.Nat.{_-_}
-use Rattle.building.proofs.Storing.{Waking, waking-start, waking-done, waking-turn, phi-room, phi-known}
+use Rattle.building.proofs.Storing.{Waking, waking-start, waking-done, waking-turn, phi-known}
 use Rattle.building.proofs.phis.wake.Statement.{statement}
 use Rattle.building.proofs.phis.wake.Tie as tie
 
@@ -40,7 +40,7 @@ div-store-operands c = omega arith
 store-operands-requires : tie.Need-store-operands-requires Inv-loop μ-loop
 store-operands-requires c κs =
     let b3 = c .before .before .before in
-    (phi-room (b3 .loop .inv) (c .before .before .loop-test .taken), (phi-known (b3 .loop .inv) (c .before .before .loop-test .taken), omega (arith, b3 .loop .inv .few .1)))
+    (b3 .loop .inv .storing .room, (phi-known (b3 .loop .inv) (c .before .before .loop-test .taken), omega (arith, b3 .loop .inv .few .1)))
 
 add-i : tie.Need-add-i Inv-loop μ-loop
 add-i c = omega arith

@@ -19,7 +19,7 @@ place-at-requires c κs = place-inside (c .before .loop .inv) (c .loop-test .tak
 track-requires : tie.Need-track-requires Inv-loop μ-loop
 track-requires c κs =
     let b3 = c .before .before .before in
-    ((omega (arith, number-room (b3 .loop .inv) (c .before .before .loop-test .taken)), b3 .loop .inv .ready .sound .size), place-below (b3 .loop .inv) (c .before .before .loop-test .taken) (c .before .place-at .ensures))
+    ((omega (arith, number-room (b3 .loop .inv) (c .before .before .loop-test .taken)), b3 .loop .inv .ready .sound .room .size), place-below (b3 .loop .inv) (c .before .before .loop-test .taken) (c .before .place-at .ensures))
 
 create-requires : tie.Need-create-requires Inv-loop μ-loop
 create-requires c κs =

@@ -68,7 +68,7 @@ track-requires c κs =
     let b13 = b10 .before .before .before in
     let b15 = b13 .before .before in
     let b18 = b15 .before .before .before in
-    ((few-places (b18 .pre .0) (b18 .pre .1 .0) (b15 .list-at .ensures) (b18 .pre .1 .1) (b13 .read-places .ensures) (b10 .list-at2 .ensures), b7 .read-places2 .ensures .places .sound .size), returns-below (b18 .pre .0) (b18 .pre .1 .0) (b15 .list-at .ensures) (b18 .pre .1 .1) (b13 .read-places .ensures) (b10 .list-at2 .ensures) (b7 .read-places2 .ensures) (b3 .place-at .ensures))
+    ((few-places (b18 .pre .0) (b18 .pre .1 .0) (b15 .list-at .ensures) (b18 .pre .1 .1) (b13 .read-places .ensures) (b10 .list-at2 .ensures), b7 .read-places2 .ensures .places .sound .room .size), returns-below (b18 .pre .0) (b18 .pre .1 .0) (b15 .list-at .ensures) (b18 .pre .1 .1) (b13 .read-places .ensures) (b10 .list-at2 .ensures) (b7 .read-places2 .ensures) (b3 .place-at .ensures))
 
 create-requires : tie.Need-create-requires
 create-requires c κs =

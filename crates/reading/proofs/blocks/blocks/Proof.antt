@@ -1,6 +1,6 @@
 use Rattle.reading.proofs.BlockLaws.{blocks-got, blocks-refused}
 use Rattle.reading.proofs.JudgeLaws.{numbered-next, numbered-refused, numbered-stop, numbered-done, new-got, new-used, new-refused, nothing-used, one-stored, below-none, below-stored}
-use Rattle.reading.specs.TotalsSays.{totalsAre, totalsSays}
+use Rattle.reading.specs.TotalsSays.{soFar, totalsSays}
 use Rattle.reading.specs.Judging.{judge, counting}
 use Rattle.hir.specs.Says.{wordSays, blockSays}
 use Rattle.model.proofs.ReadLaws.{count-reads, atMost-reads}
@@ -19,8 +19,8 @@ use Rattle.reading.proofs.blocks.blocks.Statement.{statement}
 use Rattle.reading.proofs.blocks.blocks.Tie as tie
 
 abbrev Inv-loop : tie.InvT-loop
-Inv-loop s n m left₀ c₀ t₀ used₀ free₀ above₀ left c t used free above = (judge (numberedFrom left₀ [] (block counting n m) (tellBlock counting)) (each (tellBlock counting)) (totalsAre t₀) s (c₀ .at)
-    ≡ judge (numberedFrom left (drop free used) (block counting n m) (tellBlock counting)) (each (tellBlock counting)) (totalsAre t) s (c .at)) × (left ≤ free) × (free ≤ mostBlocks) × (length used ≡ mostBlocks) × Every (λ (v : ℕ). v < above) (drop free used)
+Inv-loop s n m left₀ c₀ t₀ used₀ free₀ above₀ left c t used free above = (judge (numberedFrom left₀ [] (block counting n m) (tellBlock counting)) (each (tellBlock counting)) (soFar t₀) s (c₀ .at)
+    ≡ judge (numberedFrom left (drop free used) (block counting n m) (tellBlock counting)) (each (tellBlock counting)) (soFar t) s (c .at)) × (left ≤ free) × (free ≤ mostBlocks) × (length used ≡ mostBlocks) × Every (λ (v : ℕ). v < above) (drop free used)
 
 abbrev μ-loop : tie.MeasureT-loop
 μ-loop s n m left₀ c₀ t₀ used₀ free₀ above₀ left c t used free above = left

@@ -1,9 +1,8 @@
 use mathlib.Core.Path.{sym, ap, _∙_}
-use Rattle.model.specs.Totals.{over}
 use Rattle.hir.specs.Says.{wordSays, effectSays}
 use Rattle.hir.proofs.AtLaws.{row-kind, own-row}
 use Rattle.hir.proofs.Answers.{says}
-use Rattle.reading.specs.Judging.{Told, totalsOf}
+use Rattle.reading.specs.Judging.{Told, overTold}
 use Rattle.reading.proofs.BlockLaws.{effect-got, effect-refused, effect-8, effect-kind-refused}
 use borrow.Author.Needs.{needs}
 use Rattle.reading.proofs.blocks.effect.Statement.{statement}
@@ -31,7 +30,7 @@ returns c =
     let b5 = b3 .before .before in
     let b7 = b5 .before .before in
     sym (effect-8 _ _ _ _ _ _ _ _ (says wordSays (b5 .number .given .1) (b7 .at-most .ensures)) _ (row-kind _ (b3 .row-of .ensures))
-    (sym (ap (λ (u : Told). over (totalsOf u)) (b2 .effect .ensures)) ∙ sym (c .before .over .ensures) ∙ c .if1 .taken))
+    (sym (ap (λ (u : Told). overTold u) (b2 .effect .ensures)) ∙ sym (c .before .over .ensures) ∙ c .if1 .taken))
 
 effect-after-requires : tie.Need-effect-after-requires
 effect-after-requires c κs = own-row _ (c .before .before .before .row-of .ensures)
@@ -55,7 +54,7 @@ returns-2 c =
     let b11 = b9 .before .before in
     let w = says wordSays (b9 .number .given .1) (b11 .at-most .ensures) in
     let k = row-kind _ (b7 .row-of .ensures) in
-    let o = sym (ap (λ (u : Told). over (totalsOf u)) (b6 .effect .ensures)) ∙ sym (b4 .before .over .ensures) ∙ b4 .if1 .left in
+    let o = sym (ap (λ (u : Told). overTold u) (b6 .effect .ensures)) ∙ sym (b4 .before .over .ensures) ∙ b4 .if1 .left in
     rw (b6 .effect .ensures) (sym (effect-got _ _ _ _ _ _ _ _ w _ k _ _ o (says effectSays (c .before .c2 .given .1) (b3 .effect-after .ensures))))
 
 returns-3 : tie.Need-returns-3
@@ -68,7 +67,7 @@ returns-3 c =
     let b11 = b9 .before .before in
     let w = says wordSays (b9 .number .given .1) (b11 .at-most .ensures) in
     let k = row-kind _ (b7 .row-of .ensures) in
-    let o = sym (ap (λ (u : Told). over (totalsOf u)) (b6 .effect .ensures)) ∙ sym (b4 .before .over .ensures) ∙ b4 .if1 .left in
+    let o = sym (ap (λ (u : Told). overTold u) (b6 .effect .ensures)) ∙ sym (b4 .before .over .ensures) ∙ b4 .if1 .left in
     sym (effect-refused _ _ _ _ _ _ _ _ w _ k _ o (says effectSays (c .before .k2 .given .1) (b3 .effect-after .ensures)))
 
 returns-4 : tie.Need-returns-4

@@ -1,5 +1,5 @@
 use Rattle.reading.proofs.JudgeLaws.{times-next, section-stop, section-done, section-refused}
-use Rattle.reading.specs.TotalsSays.{totalsAre, totalsSays}
+use Rattle.reading.specs.TotalsSays.{soFar, totalsSays}
 use Rattle.reading.specs.Judging.{judge, counting}
 use Rattle.hir.specs.Says.{wordSays}
 use Rattle.model.specs.Asking.{effect, effects, tellEffect}
@@ -13,8 +13,8 @@ use Rattle.reading.proofs.blocks.effects.Statement.{statement}
 use Rattle.reading.proofs.blocks.effects.Tie as tie
 
 abbrev Inv-loop : tie.InvT-loop
-Inv-loop s n m terminal left₀ c₀ t₀ left c t = judge (timesFrom left₀ (effect counting terminal n m) (tellEffect counting terminal)) (each (tellEffect counting terminal)) (totalsAre t₀) s (c₀ .at)
-    ≡ judge (timesFrom left (effect counting terminal n m) (tellEffect counting terminal)) (each (tellEffect counting terminal)) (totalsAre t) s (c .at)
+Inv-loop s n m terminal left₀ c₀ t₀ left c t = judge (timesFrom left₀ (effect counting terminal n m) (tellEffect counting terminal)) (each (tellEffect counting terminal)) (soFar t₀) s (c₀ .at)
+    ≡ judge (timesFrom left (effect counting terminal n m) (tellEffect counting terminal)) (each (tellEffect counting terminal)) (soFar t) s (c .at)
 
 abbrev μ-loop : tie.MeasureT-loop
 μ-loop s n m terminal left₀ c₀ t₀ left c t = left

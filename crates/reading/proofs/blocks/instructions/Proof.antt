@@ -1,5 +1,5 @@
 use Rattle.reading.proofs.JudgeLaws.{times-next, section-stop, section-done, section-refused}
-use Rattle.reading.specs.TotalsSays.{totalsAre, totalsSays}
+use Rattle.reading.specs.TotalsSays.{soFar, totalsSays}
 use Rattle.reading.specs.Judging.{judge, counting}
 use Rattle.hir.specs.Says.{wordSays}
 use Rattle.model.specs.Asking.{instruction, tellInstruction}
@@ -13,8 +13,8 @@ use Rattle.reading.proofs.blocks.instructions.Statement.{statement}
 use Rattle.reading.proofs.blocks.instructions.Tie as tie
 
 abbrev Inv-loop : tie.InvT-loop
-Inv-loop s n m left₀ c₀ t₀ left c t = judge (timesFrom left₀ (instruction counting n m) (tellInstruction counting)) (each (tellInstruction counting)) (totalsAre t₀) s (c₀ .at)
-    ≡ judge (timesFrom left (instruction counting n m) (tellInstruction counting)) (each (tellInstruction counting)) (totalsAre t) s (c .at)
+Inv-loop s n m left₀ c₀ t₀ left c t = judge (timesFrom left₀ (instruction counting n m) (tellInstruction counting)) (each (tellInstruction counting)) (soFar t₀) s (c₀ .at)
+    ≡ judge (timesFrom left (instruction counting n m) (tellInstruction counting)) (each (tellInstruction counting)) (soFar t) s (c .at)
 
 abbrev μ-loop : tie.MeasureT-loop
 μ-loop s n m left₀ c₀ t₀ left c t = left

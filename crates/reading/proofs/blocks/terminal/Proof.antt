@@ -1,6 +1,5 @@
 use Rattle.reading.proofs.BlockLaws.{terminal-kind-refused, terminal-order-refused, other-judged, return-judged, throw-judged}
-use Rattle.hir.specs.Says.{wordSays, kindStepSays, orderSays}
-use Rattle.reading.specs.TotalsSays.{totalsSays}
+use Rattle.hir.specs.Says.{wordSays, kindStepSays, orderSays, placeSays}
 use mathlib.Core.Path.{sym}
 use Rattle.hir.proofs.Answers.{says}
 use borrow.Author.Needs.{needs}
@@ -48,11 +47,11 @@ enum-known-k3 c = search needs
 enum-told-2 : tie.Need-enum-told-2
 enum-told-2 c = search needs
 
-value-requires : tie.Need-value-requires
-value-requires c κs = search needs
+place-requires : tie.Need-place-requires
+place-requires c κs = search needs
 
-enum-known-t4 : tie.Need-enum-known-t4
-enum-known-t4 c = search needs
+enum-known-c4 : tie.Need-enum-known-c4
+enum-known-c4 c = search needs
 
 terminal-effects-requires : tie.Need-terminal-effects-requires
 terminal-effects-requires c κs = search needs
@@ -85,14 +84,14 @@ returns-5 c =
     let told = c .before .before .before .before .before in
     let b = told .before .before .before in
     let kind = says kindStepSays (b .before .before .before .before .t .given .1) (b .before .before .before .before .before .before .terminal-kind .ensures) in
-    rw (return-judged _ _ _ _ _ _ _ _ (says orderSays (b .d2 .given .1) (b .before .before .order .ensures)) (rw (told .enum-told2 .given .1) at kind), says totalsSays (c .before .before .t4 .given .1) (c .before .before .before .before .value .ensures)) (c .terminal-effects .ensures)
+    rw (return-judged _ _ _ _ _ _ _ _ (says orderSays (b .d2 .given .1) (b .before .before .order .ensures)) (rw (told .enum-told2 .given .1) at kind), says placeSays (c .before .before .c4 .given .1) (c .before .before .before .before .place .ensures)) (c .terminal-effects .ensures)
 
 returns-6 : tie.Need-returns-6
 returns-6 c =
     let told = c .before .before .before .before in
     let b = told .before .before .before in
     let kind = says kindStepSays (b .before .before .before .before .t .given .1) (b .before .before .before .before .before .before .terminal-kind .ensures) in
-    rw (return-judged _ _ _ _ _ _ _ _ (says orderSays (b .d2 .given .1) (b .before .before .order .ensures)) (rw (told .enum-told2 .given .1) at kind), says totalsSays (c .before .k4 .given .1) (c .before .before .before .value .ensures))
+    rw (return-judged _ _ _ _ _ _ _ _ (says orderSays (b .d2 .given .1) (b .before .before .order .ensures)) (rw (told .enum-told2 .given .1) at kind), says placeSays (c .before .k4 .given .1) (c .before .before .before .place .ensures))
 
 returns-7 : tie.Need-returns-7
 returns-7 c =
@@ -118,8 +117,8 @@ terminal-spec =
     enum-known-c3
     enum-known-k3
     enum-told-2
-    value-requires
-    enum-known-t4
+    place-requires
+    enum-known-c4
     terminal-effects-requires
     enum-known-k4
     enum-told-3

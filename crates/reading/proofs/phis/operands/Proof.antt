@@ -1,14 +1,12 @@
 use Rattle.model.proofs.ReadLaws.{atMost-reads}
-use Rattle.reading.proofs.BlockLaws.{operand-place}
+use Rattle.reading.proofs.BlockLaws.{operand-got, operand-refused}
 use Rattle.reading.proofs.JudgeLaws.{numbered-next, numbered-refused, numbered-stop, numbered-done, new-got, new-used, new-refused, used-as}
 use Rattle.reading.proofs.OperandLaws.{none-before, at-most-read, whole-next, one-read, below-read}
 use Rattle.reading.specs.Operands.{Whole, predecessors}
-use Rattle.reading.specs.TotalsSays.{totalsAre, totalsSays}
-use Rattle.reading.specs.Judging.{judge, counting}
-use Rattle.hir.specs.Says.{blockSays}
-use Rattle.model.specs.Asking.{operand, tellOperand}
-use Rattle.model.specs.Reading.{numberedFrom}
-use Rattle.model.specs.Lists.{each, Every}
+use Rattle.reading.specs.Whole.{passingNumbered}
+use Rattle.hir.specs.Says.{blockSays, placeSays}
+use Rattle.model.specs.Sections.{operand}
+use Rattle.model.specs.Lists.{Every}
 use mathlib.Core.List.{[]}
 use Prim.Native.Nat.{ℕ, _<_}
 use native.Mathlib.Omega.{arith}
@@ -20,11 +18,10 @@ use Rattle.reading.proofs.phis.operands.Statement.{statement}
 use Rattle.reading.proofs.phis.operands.Tie as tie
 
 abbrev Inv-loop : tie.InvT-loop
-Inv-loop s n count left₀ c₀ t₀ above₀ from left c t above = (judge (numberedFrom left₀ [] (operand counting n) (tellOperand counting)) (each (tellOperand counting)) (totalsAre t₀) s (c₀ .at)
-    ≡ judge (numberedFrom left (predecessors s from (c .at)) (operand counting n) (tellOperand counting)) (each (tellOperand counting)) (totalsAre t) s (c .at)) × Whole from (c .at) × Every (λ (v : ℕ). v < above) (predecessors s from (c .at))
+Inv-loop s n count left₀ c₀ above₀ from left c above = (passingNumbered left₀ [] (operand n) s (c₀ .at) ≡ passingNumbered left (predecessors s from (c .at)) (operand n) s (c .at)) × Whole from (c .at) × Every (λ (v : ℕ). v < above) (predecessors s from (c .at))
 
 abbrev μ-loop : tie.MeasureT-loop
-μ-loop s n count left₀ c₀ t₀ above₀ from left c t above = left
+μ-loop s n count left₀ c₀ above₀ from left c above = left
 
 loop-holds : tie.Need-loop-holds Inv-loop μ-loop
 loop-holds c =
@@ -72,11 +69,11 @@ raised-requires c κs =
     let b3 = c .before .before .before in
     atMost-reads mostBlockNumber _ _ _ _ (says blockSays (b3 .b .given .1) (b3 .before .before .block-number .ensures))
 
-operand-requires : tie.Need-operand-requires Inv-loop μ-loop
-operand-requires c κs = tt
+place-requires : tie.Need-place-requires Inv-loop μ-loop
+place-requires c κs = tt
 
-enum-known-u : tie.Need-enum-known-u Inv-loop μ-loop
-enum-known-u c = search needs
+enum-known-d2 : tie.Need-enum-known-d2 Inv-loop μ-loop
+enum-known-d2 c = search needs
 
 enum-known-k2 : tie.Need-enum-known-k2 Inv-loop μ-loop
 enum-known-k2 c = search needs
@@ -91,7 +88,7 @@ returns-3 c =
     let b11 = b10 .before in
     sym (b11 .before .loop .inv .0
     ∙ numbered-stop _ _ _ _ _ _ _ _ _ _ (b11 .loop-test .taken) (new-got _ _ _ _ _ (says blockSays (b8 .b .given .1) (b10 .block-number .ensures)) (sym (b6 .repeated-operand .ensures)
-    ∙ b5 .if1 .left)) (says totalsSays (c .before .k2 .given .1) (b3 .operand .ensures)))
+    ∙ b5 .if1 .left)) (operand-refused _ _ _ _ _ (says placeSays (c .before .k2 .given .1) (b3 .place .ensures))))
 
 sub-left : tie.Need-sub-left Inv-loop μ-loop
 sub-left c = omega arith
@@ -112,8 +109,8 @@ loop-again c =
     let l = b12 .loop in
     let a = b12 .before .before .args in
     let q = says blockSays (b8 .b .given .1) (b10 .block-number .ensures) in
-    let o = says totalsSays (c .before .u .given .1) (b3 .operand .ensures) in
-    operand-place _ _ _ _ _ _ _ o (λ p r. (l .inv .0 ∙ numbered-next _ _ _ _ _ _ _ _ _ _ _ (b11 .loop-test .taken) (new-got _ _ _ _ _ q (sym (b6 .repeated-operand .ensures) ∙ b5 .if1 .left)) o ∙ used-as _ _ _ _ _ _ _ _ (one-read (a .s .now) (a .start .at) (l .c .at) _ _ _ _ _ q r (l .inv .1)), whole-next (a .s .now) (a .start .at) (l .c .at) _ _ _ _ _ q r (l .inv .1), below-read (a .s .now) (a .start .at) (l .c .at) _ _ _ _ _ q r (l .inv .1) _ _ (l .inv .2) (b4 .raised .ensures)))
+    let r = says placeSays (c .before .d2 .given .1) (b3 .place .ensures) in
+    (l .inv .0 ∙ numbered-next _ _ _ _ _ _ _ _ _ _ _ (b11 .loop-test .taken) (new-got _ _ _ _ _ q (sym (b6 .repeated-operand .ensures) ∙ b5 .if1 .left)) (operand-got _ _ _ _ _ _ r) ∙ used-as _ _ _ _ _ _ _ _ (one-read (a .s .now) (a .start .at) (l .c .at) _ _ _ _ _ q r (l .inv .1)), whole-next (a .s .now) (a .start .at) (l .c .at) _ _ _ _ _ q r (l .inv .1), below-read (a .s .now) (a .start .at) (l .c .at) _ _ _ _ _ q r (l .inv .1) _ _ (l .inv .2) (b4 .raised .ensures))
 
 returns-4 : tie.Need-returns-4 Inv-loop μ-loop
 returns-4 c = sym (c .before .loop .inv .0 ∙ numbered-done _ _ _ _ _ _ _ (c .loop-test .left))
@@ -132,8 +129,8 @@ operands-spec =
     repeated-operand-requires
     returns-2
     raised-requires
-    operand-requires
-    enum-known-u
+    place-requires
+    enum-known-d2
     enum-known-k2
     returns-3
     sub-left

@@ -32,19 +32,19 @@ returns c =
     let b4 = c .before .before .before .before in
     let b6 = b4 .before .before in
     c .operands .ensures
-    ∙ sym (phi-got _ _ _ _ _ _ _ _ (says placeSays (b6 .c1 .given .1) (b6 .before .before .place .ensures)) (says wordSays (c .before .before .count2 .given .1) (b4 .count .ensures)))
+    ∙ sym (phi-got _ _ _ _ _ _ _ (says placeSays (b6 .c1 .given .1) (b6 .before .before .place .ensures)) (says wordSays (c .before .before .count2 .given .1) (b4 .count .ensures)))
 
 returns-2 : tie.Need-returns-2
 returns-2 c =
     let b3 = c .before .before .before in
     let b5 = b3 .before .before in
     let b7 = b5 .before .before in
-    sym (phi-count-refused _ _ _ _ _ _ _ (says placeSays (b5 .c1 .given .1) (b7 .place .ensures)) (says wordSays (c .before .k2 .given .1) (b3 .count .ensures)))
+    sym (phi-count-refused _ _ _ _ _ _ (says placeSays (b5 .c1 .given .1) (b7 .place .ensures)) (says wordSays (c .before .k2 .given .1) (b3 .count .ensures)))
 
 returns-3 : tie.Need-returns-3
 returns-3 c =
     let b3 = c .before .before .before in
-    sym (phi-place-refused _ _ _ _ _ (says placeSays (c .before .k1 .given .1) (b3 .place .ensures)))
+    sym (phi-place-refused _ _ _ _ (says placeSays (c .before .k1 .given .1) (b3 .place .ensures)))
 
 pub phi-spec : {M : Type 1} → statement M
 phi-spec =

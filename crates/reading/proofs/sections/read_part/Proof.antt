@@ -72,6 +72,15 @@ returns-6 c =
     let b3 = c .before .before .before in
     rw (b3 .before .enum-told3 .given .1) (sym (judge-refused _ _ _ _ _ _ (says placeSays (c .before .k3 .given .1) (b3 .place .ensures))))
 
+enum-told-4 : tie.Need-enum-told-4
+enum-told-4 c = search needs
+
+phi-requires : tie.Need-phi-requires
+phi-requires c κs = search needs
+
+returns-7 : tie.Need-returns-7
+returns-7 c = rw (c .before .enum-told4 .given .1) (c .phi .ensures)
+
 pub read-part-spec : {M : Type 1} → statement M
 read-part-spec =
     tie.close
@@ -88,9 +97,12 @@ read-part-spec =
     place-requires
     enum-known-c3
     enum-known-k3
+    enum-told-4
+    phi-requires
     returns
     returns-2
     returns-3
     returns-4
     returns-5
-    returns-6)
+    returns-6
+    returns-7)

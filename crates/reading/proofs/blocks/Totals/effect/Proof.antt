@@ -4,35 +4,15 @@ use borrow.Author.Needs.{needs}
 use Rattle.reading.proofs.blocks.Totals.effect.Statement.{statement}
 use Rattle.reading.proofs.blocks.Totals.effect.Tie as tie
 
-is-requires : tie.Need-is-requires
-is-requires c κs = search needs
-
-relation-requires : tie.Need-relation-requires
-relation-requires c κs = search needs
-
 returns : tie.Need-returns
 unfolding tellKind
-returns c =
-    let b3 = c .before .before .before in
-    rw (
-      b3 .if1 .taken,
-      number-same,
-      ← c .before .before .is .ensures,
-      c .before .if2 .taken,
-    ) (c .relation .ensures)
-
-returns-2 : tie.Need-returns-2
-unfolding tellKind
-returns-2 c = rw (c .before .before .if1 .taken, number-same, ← c .before .is .ensures, c .if2 .left)
+returns c = rw (c .if1 .taken)
 
 role-of-requires : tie.Need-role-of-requires
 role-of-requires c κs = search needs
 
 enum-told : tie.Need-enum-told
 enum-told c = search needs
-
-relation-requires-2 : tie.Need-relation-requires-2
-relation-requires-2 c κs = search needs
 
 enum-told-2 : tie.Need-enum-told-2
 enum-told-2 c = search needs
@@ -55,15 +35,15 @@ diagnosis-requires c κs = search needs
 enum-told-5 : tie.Need-enum-told-5
 enum-told-5 c = search needs
 
-is-requires-2 : tie.Need-is-requires-2
-is-requires-2 c κs = search needs
+is-requires : tie.Need-is-requires
+is-requires c κs = search needs
 
 apply-requires : tie.Need-apply-requires
 apply-requires c κs = search needs
 
-returns-3 : tie.Need-returns-3
+returns-2 : tie.Need-returns-2
 unfolding tellKind
-returns-3 c =
+returns-2 c =
     let b3 = c .before .before .before in
     let b5 = b3 .before .before in
     let b6 = b5 .before in
@@ -72,9 +52,15 @@ returns-3 c =
       ← b5 .role-of .ensures,
       b3 .enum-told5 .given .1,
       number-same,
-      ← c .before .before .is2 .ensures,
-      c .before .if3 .taken,
+      ← c .before .before .is .ensures,
+      c .before .if2 .taken,
     ) (c .apply .ensures)
+
+returns-3 : tie.Need-returns-3
+unfolding tellKind
+returns-3 c =
+    let b2 = c .before .before in
+    rw (b2 .before .if1 .left, ← b2 .role-of .ensures, c .enum-told .given .1)
 
 returns-4 : tie.Need-returns-4
 unfolding tellKind
@@ -84,8 +70,8 @@ returns-4 c =
     rw (
       b4 .if1 .left,
       ← b3 .role-of .ensures,
-      c .before .enum-told .given .1,
-    ) (c .relation2 .ensures)
+      c .before .enum-told2 .given .1,
+    ) (c .mutation .ensures)
 
 returns-5 : tie.Need-returns-5
 unfolding tellKind
@@ -95,8 +81,8 @@ returns-5 c =
     rw (
       b4 .if1 .left,
       ← b3 .role-of .ensures,
-      c .before .enum-told2 .given .1,
-    ) (c .mutation .ensures)
+      c .before .enum-told3 .given .1,
+    ) (c .render .ensures)
 
 returns-6 : tie.Need-returns-6
 unfolding tellKind
@@ -106,23 +92,12 @@ returns-6 c =
     rw (
       b4 .if1 .left,
       ← b3 .role-of .ensures,
-      c .before .enum-told3 .given .1,
-    ) (c .render .ensures)
+      c .before .enum-told4 .given .1,
+    ) (c .diagnosis .ensures)
 
 returns-7 : tie.Need-returns-7
 unfolding tellKind
 returns-7 c =
-    let b3 = c .before .before .before in
-    let b4 = b3 .before in
-    rw (
-      b4 .if1 .left,
-      ← b3 .role-of .ensures,
-      c .before .enum-told4 .given .1,
-    ) (c .diagnosis .ensures)
-
-returns-8 : tie.Need-returns-8
-unfolding tellKind
-returns-8 c =
     let b4 = c .before .before .before .before in
     let b5 = b4 .before in
     rw (
@@ -130,21 +105,17 @@ returns-8 c =
       ← b4 .role-of .ensures,
       c .before .before .enum-told5 .given .1,
       number-same,
-      ← c .before .is2 .ensures,
-      c .if3 .left,
+      ← c .before .is .ensures,
+      c .if2 .left,
     )
 
 pub effect-spec : {M : Type 1} → statement M
 effect-spec =
     tie.close
     (tie.spec
-    is-requires
-    relation-requires
     returns
-    returns-2
     role-of-requires
     enum-told
-    relation-requires-2
     enum-told-2
     mutation-requires
     enum-told-3
@@ -152,11 +123,11 @@ effect-spec =
     enum-told-4
     diagnosis-requires
     enum-told-5
-    is-requires-2
+    is-requires
     apply-requires
+    returns-2
     returns-3
     returns-4
     returns-5
     returns-6
-    returns-7
-    returns-8)
+    returns-7)

@@ -1,10 +1,10 @@
 use mathlib.Core.Path.{refl}
-use Rattle.model.specs.Totals.{over}
+use Rattle.reading.specs.Judging.{overTold}
 use Rattle.reading.proofs.blocks.Totals.over.Statement.{statement}
 use Rattle.reading.proofs.blocks.Totals.over.Tie as tie
 
 returns : tie.Need-returns
-unfolding over
+unfolding overTold
 returns c = refl
 
 pub over-spec : {M : Type 1} → statement M
