@@ -1,11 +1,11 @@
-/* boundary LOADS DRAWINGS BUNDLES ANSWERS..
+/* boundary LOADS DRAWINGS ANSWERS..
  *
  * Calls with known outcomes (the files of `oracle/run --sheets-to loads` and `--sheets-to drawings` and
- * those of `--sheets-to answers`, that of bundles first), each in buffers of exactly the words or bytes
- * that are lent, which are never written before the call, and for a caller among records of exactly their
- * length: the first, the last and those between in turns. Each call, and each for a class load, is made
- * for callers outside the records too. Run under valgrind, which sees every word that the library touches
- * outside, and every branch on a word never written. */
+ * those of `--sheets-to answers`), each in buffers of exactly the words or bytes that are lent, which
+ * are never written before the call, and for a caller among records of exactly their length: the first,
+ * the last and those between in turns. Each call, and each for a class load, is made for callers outside
+ * the records too. Run under valgrind, which sees every word that the library touches outside, and every
+ * branch on a word never written. */
 #include <stdio.h>
 #include <stdlib.h>
 #include <string.h>
@@ -47,21 +47,7 @@ enum { CALLERS = 4 };
 /* The records, and the serial that is counted here for each. */
 static struct Caller *callers;
 static uint32_t next[CALLERS];
-static unsigned long loads, loads_for, drawings, drawn;
-
-/* service_infer or components_infer. */
-typedef struct Reply Infer(struct Caller *, size_t, size_t, const uint32_t *, size_t, uint32_t *, size_t,
-                           uint32_t *, size_t);
-
-/* One of the two, and its calls: all for callers with a record, those of them accepted, and those for
- * callers outside the records. */
-struct Function {
-    Infer *infer;
-    unsigned long calls, accepted, outside;
-};
-
-static struct Function of_sheets = {service_infer, 0, 0, 0};
-static struct Function of_bundles = {components_infer, 0, 0, 0};
+static unsigned long calls, accepted, outside, loads, loads_for, drawings, drawn;
 
 /* Callers outside the records: one past the last, the largest position, one past those that are lent,
  * whose record is there all the same, and the first where no record is lent. */
@@ -85,8 +71,8 @@ static int counted(void) {
     return 1;
 }
 
-/* A call on a sheet or a bundle, with what its record says of it: that after its length, the words of
- * the workspace, the room for the result, the refusal, the result's length. */
+/* A call on a sheet, with what its record says of it: the sheet after its length, the words of the
+ * workspace, the room for the result, the refusal, the result's length. */
 struct Call {
     const uint32_t *recorded;
     uint32_t *sheet, *workspace;
@@ -135,50 +121,41 @@ static int refused_outside(struct Reply reply) {
 }
 
 /* The same call for a caller outside the records. */
-static void replay_outside(const uint32_t *at, struct Function *function) {
+static void replay_outside(const uint32_t *at) {
     struct Call call = begin(&at);
     /* Never written, as the workspace. */
     uint32_t *answer = malloc(call.room * 4);
-    size_t other = function->outside % OTHERS;
-    size_t count = others[other].count;
+    size_t count = others[outside % OTHERS].count;
     struct Reply reply =
-        function->infer(lent(count), count, others[other].position, call.sheet, call.sheet_words,
-                        call.workspace, call.workspace_words, answer, call.room);
+        service_infer(lent(count), count, others[outside % OTHERS].position, call.sheet,
+                      call.sheet_words, call.workspace, call.workspace_words, answer, call.room);
     int right = refused_outside(reply) && zeros(answer, call.room);
     free(answer);
-    expect(end(call) && right, "call outside the records", function->outside);
-    function->outside++;
+    expect(end(call) && right, "call outside the records", outside);
+    outside++;
 }
 
 /* A record of a call: its result is the words of the answer. Returns where the next one begins. */
-static const uint32_t *replay(const uint32_t *at, struct Function *function) {
-    replay_outside(at, function);
+static const uint32_t *replay(const uint32_t *at) {
+    replay_outside(at);
     struct Call call = begin(&at);
     /* Never written, as the workspace. */
     uint32_t *answer = malloc(call.room * 4);
-    size_t position = function->calls % CALLERS;
+    size_t position = calls % CALLERS;
     uint32_t before = next[position];
     struct Reply reply =
-        function->infer(callers, CALLERS, position, call.sheet, call.sheet_words, call.workspace,
-                        call.workspace_words, answer, call.room);
+        service_infer(callers, CALLERS, position, call.sheet, call.sheet_words, call.workspace,
+                      call.workspace_words, answer, call.room);
     next[position] += call.refusal == 0;
     int right = reply.refusal == call.refusal && reply.length == call.length &&
                 memcmp(answer, at, call.length * 4) == 0 &&
                 zeros(answer + call.length, call.room - call.length) &&
                 reply.serial == (call.refusal == 0 ? before : 0) && counted();
     free(answer);
-    expect(end(call) && right, "call", function->calls);
-    function->calls++;
-    function->accepted += call.refusal == 0;
+    expect(end(call) && right, "call", calls);
+    calls++;
+    accepted += call.refusal == 0;
     return at + call.length;
-}
-
-static const uint32_t *replay_sheet(const uint32_t *at) {
-    return replay(at, &of_sheets);
-}
-
-static const uint32_t *replay_bundle(const uint32_t *at) {
-    return replay(at, &of_bundles);
 }
 
 /* A record of a class load: seed, n, m, output room, refusal, sheet. */
@@ -239,11 +216,6 @@ static void replay_all(const char *name, const uint32_t *(*record)(const uint32_
     free(all);
 }
 
-static void tell(const char *what, struct Function function) {
-    printf("%lu calls %s as expected, %lu of them accepted; %lu more outside the records; ",
-           function.calls, what, function.accepted, function.outside);
-}
-
 int main(int count, char **names) {
     callers = malloc(CALLERS * sizeof *callers);
     for (size_t i = 0; i < CALLERS; i++) {
@@ -252,14 +224,12 @@ int main(int count, char **names) {
     }
     /* The last one wraps, the others do not. */
     callers[CALLERS - 1].next = next[CALLERS - 1] = UINT32_MAX - 100;
-    const uint32_t *(*first[])(const uint32_t *) = {replay_load, replay_drawing, replay_bundle};
     for (int i = 1; i < count; i++) {
-        replay_all(names[i], i <= 3 ? first[i - 1] : replay_sheet);
+        replay_all(names[i], i == 1 ? replay_load : i == 2 ? replay_drawing : replay);
     }
     free(callers);
-    tell("with sheets", of_sheets);
-    tell("with bundles", of_bundles);
-    printf("%lu for class loads, %lu more for callers; %lu for drawings, %lu of them drawn\n", loads,
-           loads_for, drawings, drawn);
+    printf("%lu calls as expected, %lu of them accepted; %lu more outside the records; %lu calls for "
+           "class loads, %lu more for callers; %lu for drawings, %lu of them drawn\n",
+           calls, accepted, outside, loads, loads_for, drawings, drawn);
     return 0;
 }

@@ -195,10 +195,6 @@ def answer(words):
     return answer_of_bytes(bytes_of(words))
 
 
-def words_of_lines(lines):
-    return [int(word) for line in lines for word in line.split()[1:]]
-
-
 def check(said, expected, what):
     if said != expected:
         sys.exit(f"format: {what}:\n  said     {said}\n  expected {expected}")
@@ -210,12 +206,6 @@ def check(said, expected, what):
 PROPS, THEME, LIST_, SHOWN, PICKED, LABEL, RESULT, CHANGED, ITEM, REST = range(10)
 # Inner functions, by position.
 F0, F1 = range(2)
-
-# Their diagnostics and their context.
-LISTS = [
-    ([[500, 31], [501, 30]], [place(LIST_, "Mutate", reactive=True, span=21), place(THEME, span=22)]),
-    ([[600, 0]], [place(PROPS, "Store", span=23)]),
-]
 
 EVERY_PART = sheet(
     flags=(0, 1),
@@ -231,7 +221,10 @@ EVERY_PART = sheet(
         (0, 0, "Other"),  # item
         (0, 1_000_000, "Other"),  # rest
     ],
-    functions=[inner(*lists) for lists in LISTS],
+    functions=[
+        inner([[500, 31], [501, 30]], [place(LIST_, "Mutate", reactive=True, span=21), place(THEME, span=22)]),
+        inner([[600, 0]], [place(PROPS, "Store", span=23)]),
+    ],
     params=[place(PROPS, "Read", reactive=True, span=11), place(REST, "Store", span=12)],
     context=[place(THEME, "ConditionallyMutate", span=13)],
     returns=place(RESULT, "Freeze", reactive=True, span=14),
@@ -428,17 +421,16 @@ def every_part():
 
 # ---- the page's own sheet
 
-def words_of_table(head):
-    column = (row[0].strip("`").split() for row in table(head))
-    return [int(word) for row in column for word in row]
-
-
 def page_example():
-    example = words_of_table("words of the sheet")
+    def words(head):
+        column = (row[0].strip("`").split() for row in table(head))
+        return [int(word) for row in column for word in row]
+
+    example = words("words of the sheet")
     with open(os.path.join(ROOT, "examples/case1.sheet"), "rb") as file:
         check(bytes_of(example), file.read(), "the page's sheet")
     said = answer(example)
-    check(words_of_lines(said), words_of_table("words of the answer"), "the page's answer")
+    check([int(w) for line in said for w in line.split()[1:]], words("words of the answer"), "the page's answer")
     # A cut last word, of which the bytes that are missing are 0; and one that ends with a flag 1.
     check(answer_of_bytes(bytes_of(example)[:-3]), said, "a cut last word")
     check(answer_of_bytes(b"\2\0\0\0\1"), answer([2, 1]), "a word of one byte")
@@ -650,7 +642,7 @@ def held():
 
 
 def refusals():
-    check([row[0] for row in table("refusal", "what is wrong")], [str(n) for n in range(1, 13)], "the refusals")
+    check([row[0] for row in table("refusal", "what is wrong")], [str(n) for n in range(1, 12)], "the refusals")
 
     def blocks(*all_):
         return sheet([(0, 0, "Other")], place(0), all_)
@@ -735,101 +727,6 @@ def longest():
     most = 10 + 2 * len(ids) + 3 * places + 2 * (effects + len(ids) * TOTAL["renders"] * FUNCTION_DIAGNOSTICS)
     most += 8 * (effects + 2 * places + 1 + places * places) + TOTAL["mutations"] + places + 1 + 3 * (16_384 // 3)
     check(f"No answer has more than {most:,} words" in TEXT, True, f"the longest answer is {most:,} words")
-
-
-# ---- bundles
-
-SHEETS = said_once(r"how many sheets, 1 to ([\d,]+) \|")
-
-
-def bundle(*sheets):
-    return [len(sheets)] + sum([[len(words)] + words for words in sheets], [])
-
-
-def answers(words):
-    """The ten lines of each sheet, or the refusal's number."""
-    done = run([TOOL, "answer", "--bundle", "-"], bytes_of(words))
-    if done.returncode:
-        return int(re.match(r"sheet: -: refused (\d+): ", done.stderr.decode())[1])
-    lines = done.stdout.decode().splitlines()
-    starts = range(0, len(lines), 11)
-    check([lines[at] for at in starts], [f"sheet s{i}" for i in range(len(starts))], "the lines that name sheets")
-    return [lines[at + 1:at + 11] for at in starts]
-
-
-def bundles():
-    other_, at = (0, 0, "Other"), place(0)
-
-    def small(*names, identifiers=1, context=()):
-        return sheet([other_] * identifiers, at, functions=[[name] for name in names], context=context)
-
-    def in_one(*effects, names=(), flags=(0, 1)):
-        lists = [instruction(1, *effects[i:i + LIST]) for i in range(0, len(effects), LIST)]
-        return sheet([other_], at, [block(0, [], lists, other(2))], [[name] for name in names], flags=flags)
-
-    page = words_of_table("words of the bundle")
-    check(page, bundle(sheet([other_], at, [block(0, [], [instruction(1, effect("Mutate", at))], other(0))], context=[at]), small(0)), "the page's bundle")
-    check(sum(map(words_of_lines, answers(page)), []), words_of_table("words of its answers"), "the page's answers")
-
-    # The sheet with every part, whose inner functions are callbacks with the same lists.
-    def callback(diagnostics, context):
-        effects = [diagnosis("MutateFrozen", at, *diagnostic) for diagnostic in diagnostics]
-        blocks = [block(0, [], [instruction(1, *effects)], other(2))]
-        return sheet([other_] * 10, at, blocks, context=context, flags=(1, 0))
-
-    before, lists = 3 + 1 + 3 * 10 + 1, sum(len(inner(*lists)) for lists in LISTS)
-    naming = EVERY_PART[:before] + [0, 1] + EVERY_PART[before + lists:]
-    said = answers(bundle(*[callback(*lists) for lists in LISTS], naming))
-    check(said[2], EVERY_PART_ANSWER, "the sheet with every part, with callbacks")
-    check(answers(bundle(small())), [answer(small())], "a sheet alone")
-
-    # The count, word counts, and what is behind.
-    one = answer(small())
-    check(answers([0]), 4, "no sheet")
-    check(answers(bundle(*[small()] * SHEETS)), [one] * SHEETS, "as many sheets as there may be")
-    check(answers(bundle(*[small()] * (SHEETS + 1))), 4, "a sheet more")
-    check(answers([1]), 3, "no word count")
-    check(answers([1, 16] + small()), 3, "a word count that runs past the bundle")
-    check(answers([1, 4_294_967_295] + small()), 3, "the largest word count")
-    check(answers([1, 16, 2, 2] + small()[2:]), 3, "and a flag 2")
-    check(answers([1, 14] + small()), 3, "a part that ends where a word is due")
-    check(answers([2, 16] + small() + [0, 900]), 7, "a part with a word behind its last block")
-    check(answers(bundle(small()) + [0]), 7, "a word behind the last sheet")
-    apply = in_one(effect("Apply"))
-    check(answers([2, len(apply)] + apply + [900]), 10, "the first refused sheet decides")
-    check(answers(bundle(apply) + [0]), 10, "10 of a sheet before 7 of the bundle")
-    check(answers(bundle(small(), in_one(*[effect("Render", at)] * 257), small(9))), 8, "a total before the next sheet")
-    full = in_one(*[effect("Freeze", at)] * 2_040)
-    check(isinstance(answers(bundle(full, small())), list), True, "a long bundle")
-    check(answers(bundle(full) + [0] * (16_384 - 2 - len(full))), 7, "16,384 words")
-    check(answers(bundle(full) + [0] * (16_385 - 2 - len(full))), 2, "16,385 words")
-
-    # The sheet that is named.
-    check(answers(bundle(small(), small(0)))[1], one, "the sheet before")
-    for position in (1, 2, 32, 4_294_967_295):
-        check(answers(bundle(small(), small(position), small())), 12, f"sheet 1 names {position}")
-    check(answers(bundle(small(0))), 12, "the first sheet names one")
-    check(answers(bundle(small(), small(*[0] * COUNT["inner functions"])))[1], one, "as many names as there may be")
-    check(answers(bundle(small(), small(*[0] * (COUNT["inner functions"] + 1)))), 4, "a name more")
-    outer = small(identifiers=2, context=[place(1)])
-    check(answers(bundle(outer, small(0))), 12, "a context with an identifier that is N")
-    check(answers(bundle(outer, small(0, identifiers=2)))[1][9], "inner 1 1 0 0", "the same below N")
-    check(answers(bundle(small(), small(7)[:9])), 12, "12 where the sheet ends behind it")
-    check(answers(bundle(small(), small(0)[:9])), 3, "a good name where the sheet ends behind it")
-
-    # What is handed over: the pairs of instructions, whatever the flags are.
-    pairs = [[i, 2 * i] for i in range(FUNCTION_DIAGNOSTICS + 36)]
-    kinds = ["MutateFrozen", "MutateGlobal", "Impure"]
-    listing = in_one(*[diagnosis(kinds[i % 3], at, *pair) for i, pair in enumerate(pairs)], flags=(1, 0))
-    render = in_one(effect("CreateFunction", at, extra=0), effect("Render", at), names=[0])
-    said = answers(bundle(listing, render))
-    check(said[0][3], "diagnostics 0", "a function expression records nothing")
-    check(words_of_lines(said[1][3:4]), counted(pairs), "its diagnostics, handed over")
-    check(answers(bundle(listing, render, in_one(effect("CreateFunction", at, extra=0), effect("Render", at), names=[1])))[2][3], "diagnostics 0", "those of an inner function are not handed on")
-    check(answers(bundle(listing, in_one(effect("CreateFunction", at, extra=1), names=[0]))), 5, "the number of an inner function")
-    # The longest answer, by counting.
-    most = max(2 * 256 * f * ((16_384 - 8 * 256 - 11 * f) // 8) for f in range(513))
-    check(170_565_632 < most < 290_000_000, True, f"the diagnostics of the longest answer, {most:,} words")
 
 
 # ---- class loads
@@ -946,6 +843,6 @@ if __name__ == "__main__":
     if len(sys.argv) not in (2, 3):
         sys.exit(__doc__)
     TOOL, RANGES = (sys.argv[1:] + [None])[:2]
-    for test in (page_example, every_part, names, limits, refusals, longest, bundles, loads, drawings):
+    for test in (page_example, every_part, names, limits, refusals, longest, loads, drawings):
         test()
     print(f"format: passed, with the tool{' and the program' if RANGES else ''}")

@@ -4,12 +4,12 @@
  *
  * A host keeps one record, struct Caller, for each of its callers. It lends the records, a workspace
  * and an answer buffer to every call, which names its caller by position, from 0; class loads and
- * drawings need no record. The library keeps nothing, allocates nothing and returns for every sheet
- * and every bundle, whatever its words are, and every position. Calls over different records and
- * buffers may run at once.
+ * drawings need no record. The library keeps nothing, allocates nothing and returns for every sheet,
+ * whatever its words are, and every position. Calls over different records and buffers may run at
+ * once.
  *
- * docs/FORMAT.md describes the words of a sheet, of a bundle and of an answer. Every macro and every
- * constant here begins with SERVICE_.
+ * docs/FORMAT.md describes the words of a sheet and of an answer. Every macro and every constant
+ * here begins with SERVICE_.
  */
 #ifndef SERVICE_MUTABLE_RANGES_H
 #define SERVICE_MUTABLE_RANGES_H
@@ -25,13 +25,9 @@ extern "C" {
  * and 100 times the second and the third; 100 is 0.1.0. */
 #define SERVICE_VERSION 100
 
-/* How many words a workspace has at least, and a sheet or a bundle at most. */
+/* How many words a workspace has at least, and a sheet at most. */
 #define SERVICE_LEAST_WORKSPACE 16384
 #define SERVICE_MOST_SHEET 16384
-
-/* How many sheets a bundle (components_infer) has. */
-#define SERVICE_LEAST_SHEETS 1
-#define SERVICE_MOST_SHEETS 32
 
 /* How many words an answer has at most, some 68 megabytes: with a buffer so long no call is refused
  * 9. 16,384 words are enough for nearly every sheet. Where they are not, lend more and call again,
@@ -39,11 +35,6 @@ extern "C" {
  * leaves nothing behind. Every word lent is cleared, so that a long buffer for every call would
  * cost time. A host that wants no answer so long takes 9 as the last word. */
 #define SERVICE_MOST_ANSWER 16949266
-
-/* How many words the joined answers of a bundle have at most, some 1.2 gigabytes. That is counted, not
- * proved: where a call is refused 9 all the same, lend more. The longest that was found has 170,565,632
- * words. Lend as above: 16,384 words are enough for nearly every bundle too. */
-#define SERVICE_MOST_COMPONENT_ANSWER 300000000
 
 /* The arguments of a class load (service_load), and how many words its sheet has at most. */
 #define SERVICE_LEAST_LOAD_IDENTIFIERS 2
@@ -57,26 +48,24 @@ extern "C" {
  * four digits. That is counted, not proved: where a call is refused 9 all the same, lend more. */
 #define SERVICE_MOST_DRAWING 44046
 
-/* Why a call was refused. 11 is checked first, then 1 and 2; 3 to 6, 8 for mutations and renders, and 12
+/* Why a call was refused. 11 is checked first, then 1 and 2; 3 to 6, and 8 for mutations and renders,
  * come from one reading from left to right, where the first faulty word decides, and for one word the
- * lower number; then come 7, 8 for the edges and entries that are held, 10 and 9. The sheets of a bundle
- * are checked one after another, each from 3 to 10; then come 7 for the bundle and 9 for the joined
- * answers. */
+ * lower number; then come 7, 8 for the edges and entries that are held, 10 and 9. */
 enum ServiceRefusal {
     SERVICE_ACCEPTED = 0,
     /* The workspace has fewer than 16,384 words. */
     SERVICE_REFUSED_SHORT_WORKSPACE = 1,
-    /* The sheet, or the bundle, has more than 16,384 words. */
+    /* The sheet has more than 16,384 words. */
     SERVICE_REFUSED_LONG_SHEET = 2,
-    /* The sheet, or the bundle, ends where a word is due. */
+    /* The sheet ends where a word is due. */
     SERVICE_REFUSED_SHEET_ENDS = 3,
-    /* A count is outside its limits, or differs from a fixed count. */
+    /* A count is above its limit, or differs from a fixed count. */
     SERVICE_REFUSED_COUNT = 4,
     /* A word is outside its range. */
     SERVICE_REFUSED_OUT_OF_RANGE = 5,
     /* A block number is used a second time, or a phi names one predecessor twice. */
     SERVICE_REFUSED_USED_TWICE = 6,
-    /* Words follow the last block, or the last sheet of a bundle. */
+    /* Words follow the last block. */
     SERVICE_REFUSED_WORDS_FOLLOW = 7,
     /* The sheet has over 512 mutations or 256 renders, or holds over 1,024 edges or entries. */
     SERVICE_REFUSED_TOTALS = 8,
@@ -85,9 +74,7 @@ enum ServiceRefusal {
     /* Apply is among an instruction's effects. */
     SERVICE_REFUSED_APPLY = 10,
     /* The caller's position is outside the records. */
-    SERVICE_REFUSED_OUTSIDE_RECORDS = 11,
-    /* A named position is not an earlier one, or that sheet's context has an identifier not below N. */
-    SERVICE_REFUSED_NAMED_SHEET = 12
+    SERVICE_REFUSED_OUTSIDE_RECORDS = 11
 };
 
 /* An identifier's type. */
@@ -197,8 +184,8 @@ struct Reply {
     /* The accepted call's serial: its caller's `next` as it was before. After 4,294,967,295 comes 0.
      * It is 0 for a refusal, and for a class load and a drawing, which have none. */
     uint32_t serial;
-    /* How many words the answer, the joined answers of a bundle or the class load has, or how many
-     * bytes the drawing; 0 for a refusal. */
+    /* How many words the answer, or the class load, has, or how many bytes the drawing; 0 for a
+     * refusal. */
     size_t length;
 };
 
@@ -220,25 +207,6 @@ struct Reply service_infer(struct Caller *callers, size_t count, size_t position
                            const uint32_t *sheet, size_t sheet_words,
                            uint32_t *workspace, size_t workspace_words,
                            uint32_t *answer, size_t answer_words);
-
-/* One call for a whole component: a function and its callbacks. Everything is as in service_infer, but
- * that the words are a bundle: a count of sheets, SERVICE_LEAST_SHEETS to SERVICE_MOST_SHEETS, then each
- * sheet after its word count, SERVICE_MOST_SHEET words in all at most.
- *
- * In a bundle an inner function is one word, the position, from 0, of an earlier sheet, and has no lists.
- * Its diagnostics are the effects of kinds 14 to 16 of that sheet's answer, in their order and as many as
- * there are; its context is that answer's context, whose identifiers are read as those of the sheet that
- * names it. Refused 12 is a position that is not an earlier one, or a context with an identifier that the
- * naming sheet does not have.
- *
- * The answer is those of the sheets in their order, with nothing between them: each has its ten sections.
- * `length` is that of all together. An accepted call takes one serial.
- *
- * Of the thread's stack the call takes some 72 KiB, 64 of them for the lists that sheets hand on. */
-struct Reply components_infer(struct Caller *callers, size_t count, size_t position,
-                              const uint32_t *bundle, size_t bundle_words,
-                              uint32_t *workspace, size_t workspace_words,
-                              uint32_t *answer, size_t answer_words);
 
 /* A class load: the sheet that a seed, a count of identifiers and a count of effects stand for, the
  * same on every machine. The seed is any number; the counts are from SERVICE_LEAST_LOAD_IDENTIFIERS

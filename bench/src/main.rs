@@ -7,19 +7,17 @@
 //! - same job: the original from the sheet's words to the answer's words, its HIR built on the way.
 //! - analysis: the original's pass alone, its HIR built before.
 //!
-//! A bundle is one call of ours; the original has each of its sheets, with the lists filled in.
-//!
 //! Class loads and drawings are timed alone: the original makes none.
 
 use std::time::{Duration, Instant};
 
 use bench::clock::time;
 use bench::shapes;
-use bench::sides::{Ours, analysis, compare, read, same_job};
+use bench::sides::{Ours, analysis, compare, same_job};
 use oracle::generate::{self, LIMITS};
 use oracle::load::Load;
 use oracle::original_side::carries;
-use oracle::plain::component::Input;
+use oracle::plain;
 use oracle::plain::dot::judge;
 use oracle::plain::sheet::Sheet;
 use oracle::random::Random;
@@ -60,35 +58,33 @@ struct Row {
     spread: f64,
 }
 
-/// The words of a sheet or of a bundle, its sheets, what is lent for the answer (what `Service` lends,
-/// or the answer's length), and the times of the sides: ours, same job, analysis.
+/// A sheet, what is lent for its answer (what `Service` lends, or the answer's length), and the
+/// times of the sides: ours, same job, analysis.
 struct Subject {
-    what: Input,
+    sheet: Sheet,
     words: Vec<u32>,
-    sheets: Vec<Sheet>,
     lent: usize,
     sides: [Times; 3],
 }
 
 impl Subject {
-    /// Fails if the two sides disagree on the answer.
-    fn new(ours: &mut Ours, what: Input, words: Vec<u32>) -> Subject {
-        let read = read(what, &words);
-        let answer = read.iter().map(|(_, answer)| answer.words().len()).sum();
+    /// Fails if the two sides disagree on the sheet.
+    fn new(ours: &mut Ours, sheet: &Sheet) -> Subject {
+        let words = sheet.words();
+        let answer = plain::answer(sheet).words().len();
         let lent = first_lent(words.len()).max(answer);
         ours.lend(lent);
-        compare(ours, what, &words, &read);
-        let sheets = read.into_iter().map(|(sheet, _)| sheet).collect();
-        Subject { what, words, sheets, lent, sides: Default::default() }
+        compare(ours, &words);
+        Subject { sheet: sheet.clone(), words, lent, sides: Default::default() }
     }
 
     /// One call of each side.
     fn turn(&mut self, ours: &mut Ours) {
         ours.lend(self.lent);
         let taken = [
-            time(|| ours.call(self.what, &self.words)).0,
-            time(|| same_job(self.what, &self.words)).0,
-            analysis(&self.sheets),
+            time(|| ours.call(&self.words)).0,
+            time(|| same_job(&self.words)).0,
+            analysis(&self.sheet),
         ];
         for (times, taken) in self.sides.iter_mut().zip(taken) {
             times.0.push(taken);
@@ -112,13 +108,9 @@ struct Bench {
 }
 
 impl Bench {
-    fn measure(&mut self, sheet: &Sheet, rounds: usize) -> Row {
-        self.measure_words(Input::Sheet, sheet.words(), rounds)
-    }
-
     /// The sides one after the other, for at most three seconds but at least five rounds.
-    fn measure_words(&mut self, what: Input, words: Vec<u32>, rounds: usize) -> Row {
-        let mut subject = Subject::new(&mut self.ours, what, words);
+    fn measure(&mut self, sheet: &Sheet, rounds: usize) -> Row {
+        let mut subject = Subject::new(&mut self.ours, sheet);
         let start = Instant::now();
         for round in 0..rounds {
             if round >= 5 && start.elapsed() > Duration::from_secs(3) {
@@ -222,22 +214,25 @@ fn corpora(bench: &mut Bench, asked: &mut Vec<String>) {
     ));
 }
 
-/// A line for each shape; the ratios of the same job to ours, with the shapes' names.
-fn shapes_table(
-    bench: &mut Bench,
-    what: Input,
-    shapes: impl Iterator<Item = (String, Vec<u32>)>,
-) -> Vec<(f64, String)> {
+fn worst(bench: &mut Bench, asked: &mut Vec<String>) {
+    let mut sheets = shapes::worst();
+    let mut random = Random::new(3);
+    sheets.extend(
+        LIMITS
+            .into_iter()
+            .map(|limit| (format!("limit: {limit:?}"), generate::at_limit(&mut random, limit))),
+    );
+    println!("## Worst shapes and limits\n");
     println!(
         "| shape | words | ours µs | same job µs | analysis µs | spread | same job / ours | analysis / ours |"
     );
     println!("|---|---|---|---|---|---|---|---|");
     let mut all = Vec::new();
-    for (name, words) in shapes {
-        let count = words.len();
-        let row = bench.measure_words(what, words, bench.rounds);
+    for (name, sheet) in sheets {
+        let row = bench.measure(&sheet, bench.rounds);
         println!(
-            "| {name} | {count} | {} | {} | {} | {:.0}% | {} | {} |",
+            "| {name} | {} | {} | {} | {} | {:.0}% | {} | {} |",
+            sheet.words().len(),
             micro(row.ours),
             micro(row.job),
             micro(row.analysis),
@@ -248,27 +243,6 @@ fn shapes_table(
         all.push((row.job / row.ours, name));
     }
     println!();
-    all
-}
-
-/// Bundles, each one call of ours, beside the original sheet by sheet.
-fn bundles(bench: &mut Bench) {
-    println!("## Bundles\n");
-    let bundles = shapes::bundles().into_iter().map(|(name, bundle)| (name, bundle.words()));
-    shapes_table(bench, Input::Bundle, bundles);
-}
-
-fn worst(bench: &mut Bench, asked: &mut Vec<String>) {
-    let mut sheets = shapes::worst();
-    let mut random = Random::new(3);
-    sheets.extend(
-        LIMITS
-            .into_iter()
-            .map(|limit| (format!("limit: {limit:?}"), generate::at_limit(&mut random, limit))),
-    );
-    println!("## Worst shapes and limits\n");
-    let sheets = sheets.into_iter().map(|(name, sheet)| (name, sheet.words()));
-    let mut all = shapes_table(bench, Input::Sheet, sheets);
     all.sort_by(|(a, _), (b, _)| a.total_cmp(b));
     let slower = all.iter().take_while(|(r, _)| *r < 1.0).count();
     asked.push(format!(
@@ -376,7 +350,6 @@ fn main() {
     println!("{}", load("begins"));
     corpora(&mut bench, &mut asked);
     worst(&mut bench, &mut asked);
-    bundles(&mut bench);
     doublings(&mut bench);
     class_loads(rounds);
     drawings(rounds);

@@ -1,6 +1,5 @@
-//! Sheets: panels as they are written, the limits, and the worst for each side; and bundles.
+//! Sheets: panels as they are written, the limits, and the worst for each side.
 
-use oracle::bundles::{Bundle, Part};
 use oracle::dense::{block, place, sheet, two};
 use oracle::plain::sheet::{
     Block, Diagnostic, Effect, InnerFunction, Instruction, Phi, Place, Sheet, Terminal, Value,
@@ -26,22 +25,11 @@ pub fn smallest() -> Sheet {
 /// about a third change one, and every few instructions a branch joins in a phi. With 400
 /// identifiers it is nearly as long as a sheet may be.
 pub fn panel(random: &mut Random, identifiers: usize) -> Sheet {
-    let captured = (0..=panel_context(identifiers)).map(place).collect();
-    panel_with(random, identifiers, vec![function(7, 2, captured), function(9, 1, vec![place(0)])])
-}
-
-/// How many context variables such a panel has.
-fn panel_context(identifiers: usize) -> usize {
-    (identifiers / 10).min(8).min(identifiers - 2)
-}
-
-/// The same with these inner functions.
-fn panel_with(random: &mut Random, identifiers: usize, functions: Vec<InnerFunction>) -> Sheet {
     let mut sheet = sheet(identifiers, Vec::new());
-    let context = panel_context(identifiers);
+    let context = (identifiers / 10).min(8).min(identifiers - 2);
     sheet.context = (1..=context).map(place).collect();
-    sheet.functions = functions;
-    let functions = sheet.functions.len();
+    let captured = (0..=context).map(place).collect();
+    sheet.functions = vec![function(7, 2, captured), function(9, 1, vec![place(0)])];
     let mut made = context + 1;
     let mut order = 0;
     let mut number = 0;
@@ -66,8 +54,7 @@ fn panel_with(random: &mut Random, identifiers: usize, functions: Vec<InnerFunct
                 0..4 => vec![one(9, made)],
                 4..6 => vec![two(10, from(random), made)],
                 6..8 => vec![two(8, from(random), made)],
-                _ if functions == 0 => vec![one(9, made)],
-                _ => vec![Effect { extra: random.below(functions) as u32, ..one(13, made) }],
+                _ => vec![Effect { extra: random.below(2) as u32, ..one(13, made) }],
             };
             let made_function = (effects[0].kind == 13).then_some(effects[0].extra);
             for _ in 0..random.below(3) {
@@ -102,40 +89,6 @@ fn panel_with(random: &mut Random, identifiers: usize, functions: Vec<InnerFunct
         last.terminal = Terminal::Return { order, value, effects: Vec::new() };
     }
     sheet
-}
-
-/// A panel as a sheet of a bundle, with these inner functions and two diagnostics of its own in every
-/// block.
-fn part(random: &mut Random, identifiers: usize, names: Vec<u32>) -> Part {
-    let functions = vec![InnerFunction::default(); names.len()];
-    let mut sheet = panel_with(random, identifiers, functions);
-    let diagnostic = |kind, extra| Effect { extra, ..one(kind, 0) };
-    for block in &mut sheet.blocks {
-        let effects = block.instructions.first_mut().and_then(|first| first.effects.as_mut());
-        effects.into_iter().for_each(|effects| {
-            effects.extend([diagnostic(14, block.number), diagnostic(16, block.number)]);
-        });
-    }
-    Part::new(names, sheet)
-}
-
-/// Bundles of panels, each with its name: a component with three handlers, all of 35 identifiers, the
-/// median of the small panels; and as many sheets as there may be, of 10 identifiers, each of which
-/// names one or two before it.
-pub fn bundles() -> Vec<(String, Bundle)> {
-    let mut random = Random::new(11);
-    let mut component: Vec<Part> = (0..3).map(|_| part(&mut random, 35, Vec::new())).collect();
-    component.push(part(&mut random, 35, vec![0, 1, 2]));
-    let names = |position: u32| match position {
-        0 => Vec::new(),
-        1 => vec![0],
-        _ => vec![position - 1, position / 2],
-    };
-    let small = (0..32).map(|position| part(&mut random, 10, names(position))).collect();
-    vec![
-        ("a component with three handlers".to_string(), Bundle { parts: component }),
-        ("32 small sheets".to_string(), Bundle { parts: small }),
-    ]
 }
 
 /// A chain of so many aliases, and a mutation of each value.

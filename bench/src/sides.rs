@@ -1,9 +1,7 @@
 //! One call of each side, and its time.
 
 use oracle::original_side;
-use oracle::plain::component::{self, Input, next_part, offers};
-use oracle::plain::sheet::{Sheet, read_naming};
-use oracle::plain::{self, Answer};
+use oracle::plain::{self, sheet::Sheet};
 use oxc_allocator::Allocator;
 use service_host::ffi::{self, Caller, Reply};
 
@@ -33,13 +31,9 @@ impl Ours {
         self.answer.resize(words.max(self.answer.len()), 0);
     }
 
-    pub fn call(&mut self, what: Input, words: &[u32]) -> Reply {
+    pub fn call(&mut self, sheet: &[u32]) -> Reply {
         let answer = &mut self.answer[..self.lent];
-        let infer = match what {
-            Input::Sheet => ffi::infer,
-            Input::Bundle => ffi::infer_component,
-        };
-        infer(&mut self.caller, 0, words, &mut self.workspace, answer)
+        ffi::infer(&mut self.caller, 0, sheet, &mut self.workspace, answer)
     }
 
     pub fn answer(&self, reply: Reply) -> &[u32] {
@@ -53,62 +47,27 @@ impl Default for Ours {
     }
 }
 
-const ACCEPTED: &str = "the sheets and bundles of the benchmark are accepted";
+const ACCEPTED: &str = "the sheets of the benchmark are accepted";
 
-/// The original's same job: the sheet's words read, its HIR built, the pass, the answer's words; of a
-/// bundle sheet by sheet, each with what the answers before it hand over.
-pub fn same_job(what: Input, words: &[u32]) -> Vec<u32> {
-    let answer = |sheet: &Sheet| original_side::answer(sheet).expect(ACCEPTED).answer;
-    if what == Input::Sheet {
-        return answer(&plain::read(words).expect(ACCEPTED)).words();
-    }
-    let (mut rest, mut earlier, mut joined) = (&words[1..], Vec::new(), Vec::new());
-    while !rest.is_empty() {
-        let (part, after) = next_part(rest).expect(ACCEPTED);
-        let answer = answer(&read_naming(part, &earlier).expect(ACCEPTED).0);
-        earlier.push(offers(&answer));
-        joined.extend(answer.words());
-        rest = after;
-    }
-    joined
+/// The original's same job: the sheet's words read, its HIR built, the pass, the answer's words.
+pub fn same_job(words: &[u32]) -> Vec<u32> {
+    let sheet = plain::read(words).expect(ACCEPTED);
+    original_side::answer(&sheet).expect(ACCEPTED).answer.words()
 }
 
-/// The sheets of what is given, those of a bundle with their lists filled in, and the plain reader's
-/// answers.
-pub fn read(what: Input, words: &[u32]) -> Vec<(Sheet, Answer)> {
-    match what {
-        Input::Sheet => {
-            let sheet = plain::read(words).expect(ACCEPTED);
-            let answer = plain::answer(&sheet);
-            vec![(sheet, answer)]
-        }
-        Input::Bundle => {
-            let (components, refusal) = component::read(words);
-            assert_eq!(refusal, 0, "{ACCEPTED}");
-            components.into_iter().map(|component| (component.sheet, component.answer)).collect()
-        }
-    }
-}
-
-/// The time of the original's pass alone, with the HIR of each sheet built before.
-pub fn analysis(sheets: &[Sheet]) -> f64 {
-    sheets.iter().map(pass).sum()
-}
-
-fn pass(sheet: &Sheet) -> f64 {
+/// The time of the original's pass alone, with its HIR built before.
+pub fn analysis(sheet: &Sheet) -> f64 {
     let allocator = Allocator::new();
     let mut prepared = original_side::prepare(sheet, &allocator);
     time(|| original_side::call(&mut prepared)).0
 }
 
-/// Fails if the two sides disagree on what both have: all but the walks. The answers are the plain
-/// reader's.
-pub fn compare(ours: &mut Ours, what: Input, words: &[u32], read: &[(Sheet, Answer)]) {
-    let reply = ours.call(what, words);
+/// Fails if the two sides disagree on what both have: all but the walks.
+pub fn compare(ours: &mut Ours, words: &[u32]) {
+    let reply = ours.call(words);
     assert_eq!(reply.refusal, 0);
-    let original = read.iter().flat_map(|(sheet, answer)| {
-        let original = original_side::answer(sheet).expect(ACCEPTED);
-        original.filled(answer).words()
-    });
-    assert!(original.eq(ours.answer(reply).iter().copied()), "the two sides disagree");
+    let sheet = plain::read(words).expect(ACCEPTED);
+    let original = original_side::answer(&sheet).expect(ACCEPTED);
+    let original = original.filled(&plain::answer(&sheet)).words();
+    assert_eq!(ours.answer(reply), original, "the two sides disagree");
 }

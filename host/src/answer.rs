@@ -1,4 +1,4 @@
-//! The answer of an accepted call, for a sheet or for the sheets of a component.
+//! The answer of an accepted call.
 
 use std::fmt;
 
@@ -37,13 +37,6 @@ pub struct Answer<'s> {
 impl<'s> Answer<'s> {
     /// The answer of these words, which are whole sections.
     pub(crate) fn new(serial: u32, words: &'s [u32]) -> Answer<'s> {
-        let (answer, rest) = Answer::first(serial, words);
-        assert!(rest.is_empty(), "{PROMISED}");
-        answer
-    }
-
-    /// The answer that these words begin with, and those behind it.
-    fn first(serial: u32, words: &'s [u32]) -> (Answer<'s>, &'s [u32]) {
         let mut rest = words;
         let sections = SECTIONS.map(|(_, size)| {
             let (count, after) = rest.split_first().expect(PROMISED);
@@ -51,8 +44,8 @@ impl<'s> Answer<'s> {
             rest = after;
             section
         });
-        let words = &words[..words.len() - rest.len()];
-        (Answer { serial, words, sections }, rest)
+        assert!(rest.is_empty(), "{PROMISED}");
+        Answer { serial, words, sections }
     }
 
     /// The number of this accepted call, from 0; after 4,294,967,295 comes 0.
@@ -125,43 +118,6 @@ impl<'s> Answer<'s> {
     /// instruction makes have the effects that the pass over operands gives them.
     pub fn inner(&self) -> impl ExactSizeIterator<Item = Place> + use<'s> {
         places(self.sections[9])
-    }
-
-    /// The words as the library wrote them.
-    pub fn words(&self) -> &'s [u32] {
-        self.words
-    }
-}
-
-/// The answers of a component's sheets, in the service's buffer until the next call. They have one serial
-/// together.
-#[derive(Debug, Clone)]
-pub struct ComponentAnswer<'s> {
-    serial: u32,
-    words: &'s [u32],
-    answers: Vec<Answer<'s>>,
-}
-
-impl<'s> ComponentAnswer<'s> {
-    /// The answers that stand in these words one behind the other.
-    pub(crate) fn new(serial: u32, words: &'s [u32]) -> ComponentAnswer<'s> {
-        let (mut answers, mut rest) = (Vec::new(), words);
-        while !rest.is_empty() {
-            let (answer, behind) = Answer::first(serial, rest);
-            answers.push(answer);
-            rest = behind;
-        }
-        ComponentAnswer { serial, words, answers }
-    }
-
-    /// The number of this accepted call, from 0; after 4,294,967,295 comes 0.
-    pub fn serial(&self) -> u32 {
-        self.serial
-    }
-
-    /// One for each sheet, in order.
-    pub fn answers(&self) -> &[Answer<'s>] {
-        &self.answers
     }
 
     /// The words as the library wrote them.

@@ -2,7 +2,6 @@
 
 use std::fmt;
 
-use crate::component::Callback;
 use crate::limits;
 use crate::parts::{
     AliasingDiagnostic, AliasingEffect, BlockId, EvaluationOrder, FunctionId, Identifier,
@@ -44,22 +43,6 @@ pub enum PartError {
         /// How many the sheet has so far.
         count: usize,
     },
-    /// The component has no such sheet so far.
-    NoSheet {
-        /// The position that is named.
-        position: usize,
-        /// How many the component has so far.
-        count: usize,
-    },
-    /// A named sheet has an identifier in its context that the naming sheet does not have so far.
-    NoIdentifierOfContext {
-        /// The position of the named sheet.
-        position: usize,
-        /// The largest identifier in its context.
-        identifier: IdentifierId,
-        /// How many identifiers the naming sheet has so far.
-        count: usize,
-    },
     /// The number was given to a block before.
     BlockAgain(BlockId),
     /// The phi names this predecessor already.
@@ -88,15 +71,6 @@ impl fmt::Display for PartError {
             PartError::NoFunction { function, count } => {
                 write!(f, "inner function {} is not one of the sheet's {count}", function.0)
             }
-            PartError::NoSheet { position, count } => {
-                write!(f, "the component has no sheet at position {position}, but {count} so far")
-            }
-            PartError::NoIdentifierOfContext { position, identifier, count } => write!(
-                f,
-                "the context of the sheet at position {position} has identifier {}, which is not one \
-                 of the naming sheet's {count}",
-                identifier.0
-            ),
             PartError::BlockAgain(number) => {
                 write!(f, "block number {} is used a second time", number.0)
             }
@@ -133,17 +107,13 @@ enum Open {
 /// so that no sheet made here is refused 3 to 7. Refusals 2, 8 and 10 are about the whole sheet
 /// and are left to the service; [`Sheet::refusal`] tells them before.
 ///
-/// An inner function is added with its lists ([`SheetBuilder::function`]). In a sheet of a
-/// [`Component`](crate::Component), made from [`SheetBuilder::naming`], it names an earlier sheet
-/// ([`SheetBuilder::callback`]).
-///
 /// Identifiers and inner functions are added before the parts that name them. In a block, phis
 /// (each followed by its operands) come before instructions (each followed by its lvalues,
 /// operands, value and effects), and the terminal, followed by its effects or operands, comes
 /// last.
 #[derive(Debug, Clone)]
-pub struct SheetBuilder<F = InnerFunction> {
-    sheet: Sheet<F>,
+pub struct SheetBuilder {
+    sheet: Sheet,
     open: Open,
 }
 
@@ -165,51 +135,17 @@ pub(crate) fn within_limits(diagnostic: &AliasingDiagnostic) -> Taken {
 impl SheetBuilder {
     /// No parts yet, and both flags unset.
     pub fn new() -> SheetBuilder {
-        SheetBuilder::default()
-    }
-
-    /// Adds an inner function with its diagnostics and context places, and gives its number.
-    pub fn function(
-        &mut self,
-        diagnostics: &[AliasingDiagnostic],
-        context: &[Place],
-    ) -> Taken<FunctionId> {
-        let most = limits::FUNCTION_DIAGNOSTICS;
-        if diagnostics.len() > most {
-            return Err(PartError::TooMany { what: "diagnostics of an inner function", most });
-        }
-        let most = limits::PLACES;
-        if context.len() > most {
-            return Err(PartError::TooMany { what: "context places of an inner function", most });
-        }
-        diagnostics.iter().try_for_each(within_limits)?;
-        context.iter().try_for_each(|place| self.known(place))?;
-        self.add_function(InnerFunction {
-            diagnostics: diagnostics.to_vec(),
-            context: context.to_vec(),
-        })
-    }
-}
-
-impl SheetBuilder<Callback> {
-    /// No parts yet, and both flags unset: for a sheet of a component.
-    pub fn naming() -> SheetBuilder<Callback> {
-        SheetBuilder::default()
-    }
-
-    /// Adds an inner function, which is an earlier sheet of the component, and gives its number.
-    pub fn callback(&mut self, callback: Callback) -> Taken<FunctionId> {
-        callback.within(self.sheet.identifiers.len())?;
-        self.add_function(callback)
-    }
-}
-
-impl<F> SheetBuilder<F> {
-    fn add_function(&mut self, function: F) -> Taken<FunctionId> {
-        let functions = &mut self.sheet.functions;
-        room(functions, "inner functions", limits::FUNCTIONS)?;
-        functions.push(function);
-        Ok(FunctionId(functions.len() as u32 - 1))
+        let sheet = Sheet {
+            function_expression: false,
+            validations: false,
+            identifiers: Vec::new(),
+            functions: Vec::new(),
+            params: Vec::new(),
+            context: Vec::new(),
+            returns: Place::of(IdentifierId(0)),
+            blocks: Vec::new(),
+        };
+        SheetBuilder { sheet, open: Open::Nothing }
     }
 
     /// Whether the function is a function expression, whose errors are not recorded.
@@ -230,6 +166,29 @@ impl<F> SheetBuilder<F> {
         at_most("a range's end", identifier.range.end.0, limits::RANGE)?;
         sheet.identifiers.push(identifier);
         Ok(IdentifierId(sheet.identifiers.len() as u32 - 1))
+    }
+
+    /// Adds an inner function with its diagnostics and context places, and gives its number.
+    pub fn function(
+        &mut self,
+        diagnostics: &[AliasingDiagnostic],
+        context: &[Place],
+    ) -> Taken<FunctionId> {
+        room(&self.sheet.functions, "inner functions", limits::FUNCTIONS)?;
+        let most = limits::FUNCTION_DIAGNOSTICS;
+        if diagnostics.len() > most {
+            return Err(PartError::TooMany { what: "diagnostics of an inner function", most });
+        }
+        let most = limits::PLACES;
+        if context.len() > most {
+            return Err(PartError::TooMany { what: "context places of an inner function", most });
+        }
+        diagnostics.iter().try_for_each(within_limits)?;
+        context.iter().try_for_each(|place| self.known(place))?;
+        let function =
+            InnerFunction { diagnostics: diagnostics.to_vec(), context: context.to_vec() };
+        self.sheet.functions.push(function);
+        Ok(FunctionId(self.sheet.functions.len() as u32 - 1))
     }
 
     /// Adds a parameter. A spread parameter is its place.
@@ -412,7 +371,7 @@ impl<F> SheetBuilder<F> {
     }
 
     /// The sheet, with the place that its function returns.
-    pub fn finish(mut self, returns: Place) -> Taken<Sheet<F>> {
+    pub fn finish(mut self, returns: Place) -> Taken<Sheet> {
         self.ended()?;
         self.known(&returns)?;
         self.sheet.returns = returns;
@@ -490,18 +449,8 @@ impl<F> SheetBuilder<F> {
     }
 }
 
-impl<F> Default for SheetBuilder<F> {
-    fn default() -> SheetBuilder<F> {
-        let sheet = Sheet {
-            function_expression: false,
-            validations: false,
-            identifiers: Vec::new(),
-            functions: Vec::new(),
-            params: Vec::new(),
-            context: Vec::new(),
-            returns: Place::of(IdentifierId(0)),
-            blocks: Vec::new(),
-        };
-        SheetBuilder { sheet, open: Open::Nothing }
+impl Default for SheetBuilder {
+    fn default() -> SheetBuilder {
+        SheetBuilder::new()
     }
 }

@@ -19,8 +19,8 @@ pub struct Reply {
     pub refusal: u32,
     /// The serial of an accepted call, else 0; a class load and a drawing have none.
     pub serial: u32,
-    /// How many words the answer, the joined answers of a component or the class load has, from the
-    /// first word of its buffer on; how many bytes a drawing has.
+    /// How many words the answer, or the class load, has, from the first word of its buffer on; how
+    /// many bytes a drawing has.
     pub length: usize,
 }
 
@@ -41,17 +41,6 @@ unsafe extern "C" {
         position: usize,
         sheet: *const u32,
         sheet_words: usize,
-        workspace: *mut u32,
-        workspace_words: usize,
-        answer: *mut u32,
-        answer_words: usize,
-    ) -> Reply;
-    fn components_infer(
-        callers: *mut Caller,
-        count: usize,
-        position: usize,
-        bundle: *const u32,
-        bundle_words: usize,
         workspace: *mut u32,
         workspace_words: usize,
         answer: *mut u32,
@@ -87,45 +76,6 @@ unsafe extern "C" {
     safe fn service_most_sheet() -> usize;
 }
 
-/// `service_infer` or `components_infer`.
-type Infer = unsafe extern "C" fn(
-    *mut Caller,
-    usize,
-    usize,
-    *const u32,
-    usize,
-    *mut u32,
-    usize,
-    *mut u32,
-    usize,
-) -> Reply;
-
-/// A call of one of the two.
-fn call(
-    function: Infer,
-    callers: &mut [Caller],
-    position: usize,
-    words: &[u32],
-    workspace: &mut [u32],
-    answer: &mut [u32],
-) -> Reply {
-    // SAFETY: each pointer is that of a live slice with the length beside it; those that are
-    // written are borrowed mutably, so that no two overlap. The function asks nothing more.
-    unsafe {
-        function(
-            callers.as_mut_ptr(),
-            callers.len(),
-            position,
-            words.as_ptr(),
-            words.len(),
-            workspace.as_mut_ptr(),
-            workspace.len(),
-            answer.as_mut_ptr(),
-            answer.len(),
-        )
-    }
-}
-
 /// One call on lent buffers, for the caller whose record is at a position. After it the whole workspace
 /// is 0, and so is the answer buffer from `length` on; that record has moved by one if the call was
 /// accepted, and every other one is as it was. A position outside the records is refused 11.
@@ -136,19 +86,21 @@ pub fn infer(
     workspace: &mut [u32],
     answer: &mut [u32],
 ) -> Reply {
-    call(service_infer, callers, position, sheet, workspace, answer)
-}
-
-/// The same for a component: the words are a bundle, and the answers of its sheets stand one behind the
-/// other. It takes one serial.
-pub fn infer_component(
-    callers: &mut [Caller],
-    position: usize,
-    bundle: &[u32],
-    workspace: &mut [u32],
-    answer: &mut [u32],
-) -> Reply {
-    call(components_infer, callers, position, bundle, workspace, answer)
+    // SAFETY: each pointer is that of a live slice with the length beside it; those that are
+    // written are borrowed mutably, so that no two overlap. The function asks nothing more.
+    unsafe {
+        service_infer(
+            callers.as_mut_ptr(),
+            callers.len(),
+            position,
+            sheet.as_ptr(),
+            sheet.len(),
+            workspace.as_mut_ptr(),
+            workspace.len(),
+            answer.as_mut_ptr(),
+            answer.len(),
+        )
+    }
 }
 
 /// A class load into a lent buffer. After it the buffer is 0 from `length` on.
@@ -211,7 +163,7 @@ pub fn least_workspace() -> usize {
     service_least_workspace()
 }
 
-/// How many words a sheet or a bundle has at most; with more a call is refused 2.
+/// How many words a sheet has at most; with more a call is refused 2.
 pub fn most_sheet() -> usize {
     service_most_sheet()
 }

@@ -113,7 +113,7 @@ impl Graph {
 }
 
 /// The most that is held, as if there were no limit.
-pub(crate) fn held<F>(sheet: &Sheet<F>) -> Held {
+pub(crate) fn held(sheet: &Sheet) -> Held {
     let nodes = vec![None; sheet.identifiers().len()];
     let mut graph = Graph { nodes, now: Held::default(), most: Held::default() };
     let returns = sheet.returns();

@@ -2,7 +2,7 @@
 //! for hosts in Rust.
 //!
 //! A [`Service`] takes a sheet, the words that describe one function, for one of its callers, and gives
-//! an [`Answer`] or one of twelve [`Refusal`]s. It never panics and never runs without end, whatever
+//! an [`Answer`] or one of eleven [`Refusal`]s. It never panics and never runs without end, whatever
 //! the words are: that is proved of the library behind it. Nothing is proved of this wrapper, which is
 //! kept thin.
 //!
@@ -37,8 +37,7 @@
 //! ```
 //!
 //! - [`Sheet`] and [`SheetBuilder`]: a sheet as typed parts, to and from words.
-//! - [`Component`]: several sheets, a component with its callbacks, of which later ones name earlier ones.
-//! - [`text`]: a sheet or a component as text that people read and write.
+//! - [`text`]: a sheet as text that people read and write.
 //! - [`ClassLoad`]: a sheet from a seed, the same everywhere.
 //! - [`Service::dot`]: a sheet's graph as a DOT file, for Graphviz.
 //! - [`ffi`]: the library's functions as they are, for hosts that lend their own buffers.
@@ -48,7 +47,6 @@
 mod answer;
 mod builder;
 mod class_load;
-mod component;
 pub mod ffi;
 mod held;
 pub mod limits;
@@ -60,10 +58,9 @@ mod sheet;
 mod spelling;
 pub mod text;
 
-pub use answer::{Answer, ComponentAnswer};
+pub use answer::Answer;
 pub use builder::{PartError, SheetBuilder};
 pub use class_load::ClassLoad;
-pub use component::{Callback, Component};
 pub use held::Held;
 pub use parts::{
     AliasingDiagnostic, AliasingEffect, BlockId, DiagnosticId, DiagnosticInstanceId, Effect,

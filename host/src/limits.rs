@@ -1,19 +1,16 @@
-//! The limits of a sheet, of a component, of an answer, of a class load and of a drawing.
-//! `docs/FORMAT.md` of the repository has them all.
+//! The limits of a sheet, of an answer, of a class load and of a drawing. `docs/FORMAT.md` of the
+//! repository has them all.
 
 use std::ops::RangeInclusive;
 
-/// Of words of a sheet, and of a bundle.
+/// Of words of a sheet.
 pub const WORDS: usize = 16_384;
-/// Of sheets of a component, which has at least 1.
-pub const SHEETS: usize = 32;
 
 /// Of identifiers.
 pub const IDENTIFIERS: usize = 512;
 /// Of inner functions.
 pub const FUNCTIONS: usize = 64;
-/// Of diagnostics of an inner function with lists of its own; a callback has as many as its sheet's
-/// answer.
+/// Of diagnostics of an inner function.
 pub const FUNCTION_DIAGNOSTICS: usize = 64;
 /// Of parameters, of context variables, of context places of an inner function, and of value
 /// lvalues and operands of an instruction and operands of a terminal.
@@ -64,11 +61,6 @@ pub const ANSWER: usize = 10
     + 8 * (EFFECTS + 2 * TRACKED + 1 + TRACKED * TRACKED)
     + (MUTATIONS + TRACKED + 1)
     + 3 * (WORDS / 3);
-
-/// Of words of the joined answers of a component, some 1.2 gigabytes. That is counted, not proved: a
-/// list of D diagnostics is handed over by up to 256 renders for each of F functions, which takes
-/// 8 D + 11 F + 8 × 256 words of the bundle at least. The longest found has 170,565,632 words.
-pub const COMPONENT_ANSWER: usize = 300_000_000;
 
 /// Of parameters and context variables together.
 const TRACKED: usize = 2 * PLACES;

@@ -1,9 +1,7 @@
-//! Reading a sheet or a component from words: what the library does in its first pass, with faults in
-//! words.
+//! Reading a sheet from words: what the library does in its first pass, with faults in words.
 
 use std::fmt;
 
-use crate::component::{Callback, Component};
 use crate::limits;
 use crate::parts::{
     AliasingDiagnostic, AliasingEffect, BlockId, EffectKind, EvaluationOrder, FunctionId,
@@ -12,7 +10,7 @@ use crate::parts::{
 use crate::refusal::Refusal;
 use crate::sheet::{Block, InnerFunction, Instruction, Operand, Phi, Sheet, Terminal, Totals};
 
-/// The first fault in the words of a sheet or of a bundle.
+/// The first fault in a sheet's words.
 #[derive(Debug, Clone, PartialEq, Eq)]
 pub struct ReadError {
     refusal: Refusal,
@@ -50,11 +48,8 @@ impl std::error::Error for ReadError {}
 type Read<T> = Result<T, ReadError>;
 
 struct Reader<'s> {
-    /// Up to the end of what is read.
     words: &'s [u32],
     at: usize,
-    /// What ends with the words.
-    what: &'static str,
     /// Number of identifiers and of inner functions, once read.
     identifiers: u32,
     functions: u32,
@@ -67,12 +62,7 @@ struct Reader<'s> {
 /// What an effect adds to the totals.
 type Adds = fn(&mut Totals, EffectKind);
 
-impl<'s> Reader<'s> {
-    fn new(words: &'s [u32], at: usize, what: &'static str, counting: bool) -> Reader<'s> {
-        let totals = Totals::default();
-        Reader { words, at, what, identifiers: 0, functions: 0, totals, counting }
-    }
-
+impl Reader<'_> {
     /// A fault of the word read last.
     fn fault<T>(&self, refusal: Refusal, fault: String) -> Read<T> {
         Err(ReadError { refusal, at: self.at - 1, around: Vec::new(), fault })
@@ -83,31 +73,9 @@ impl<'s> Reader<'s> {
         match self.words.get(self.at - 1) {
             Some(&word) => Ok(word),
             None => {
-                let fault = format!("expected {what}, but the {} ends here", self.what);
-                self.fault(Refusal::SheetEnds, fault)
+                self.fault(Refusal::SheetEnds, format!("expected {what}, but the sheet ends here"))
             }
         }
-    }
-
-    /// Fails if there are too many words.
-    fn short(&mut self) -> Read<()> {
-        let (words, what) = (self.words.len(), self.what);
-        if words <= limits::WORDS {
-            return Ok(());
-        }
-        self.at = limits::WORDS + 1;
-        let fault = format!("a {what} has at most {} words, this one {words}", limits::WORDS);
-        self.fault(Refusal::LongSheet, fault)
-    }
-
-    /// Fails if there are words behind the last part.
-    fn ended(&mut self, part: &str) -> Read<()> {
-        let more = self.words.len() - self.at;
-        if more == 0 {
-            return Ok(());
-        }
-        self.at += 1;
-        self.fault(Refusal::WordsFollow, format!("{more} words follow the last {part}"))
     }
 
     fn count(&mut self, what: &str, most: usize) -> Read<usize> {
@@ -193,24 +161,6 @@ impl<'s> Reader<'s> {
         let diagnostics = self.times("diagnostic", count, Self::diagnostic)?;
         let context = self.places("an inner function's context places", "context place")?;
         Ok(InnerFunction { diagnostics, context })
-    }
-
-    /// One of the sheets before.
-    fn callback(&mut self, component: &Component) -> Read<Callback> {
-        let what = "the position of an earlier sheet";
-        let position = self.word(what)?;
-        let Some(callback) = component.callback(position as usize) else {
-            let count = component.sheets().len();
-            let fault = format!("expected {what}, found {position}, but there are {count} of them");
-            return self.fault(Refusal::NamedSheet, fault);
-        };
-        match callback.within(self.identifiers as usize) {
-            Ok(()) => Ok(callback),
-            Err(error) => {
-                let fault = format!("expected {what} whose context fits, but {error}");
-                self.fault(Refusal::NamedSheet, fault)
-            }
-        }
     }
 
     fn place(&mut self) -> Read<Place> {
@@ -360,8 +310,7 @@ impl<'s> Reader<'s> {
         Ok(Block { number, phis, instructions, terminal, terminal_effects, terminal_operands })
     }
 
-    /// A sheet, whose inner functions are read so.
-    fn sheet<F>(&mut self, function: impl Fn(&mut Self) -> Read<F>) -> Read<Sheet<F>> {
+    fn sheet(&mut self) -> Read<Sheet> {
         self.fixed_count("flags", 2)?;
         let function_expression = self.at_most("the flag of a function expression", 1)? == 1;
         let validations = self.at_most("the flag of validations", 1)? == 1;
@@ -370,7 +319,7 @@ impl<'s> Reader<'s> {
         let identifiers = self.times("identifier", count, Self::identifier)?;
         let count = self.count("inner functions", limits::FUNCTIONS)?;
         self.functions = count as u32;
-        let functions = self.times("inner function", count, function)?;
+        let functions = self.times("inner function", count, Self::function)?;
         let params = self.places("parameters", "parameter")?;
         let context = self.places("context places", "context place")?;
         self.fixed_count("returns", 1)?;
@@ -391,90 +340,32 @@ impl<'s> Reader<'s> {
     }
 }
 
-/// The sheet that these words are from a position to their end, and the word that passes a total. That
-/// is no fault, unless there is another behind it.
-fn to_end<'s, F>(
-    words: &'s [u32],
-    at: usize,
-    function: impl Fn(&mut Reader<'s>) -> Read<F>,
-) -> Read<(Sheet<F>, Option<ReadError>)> {
-    let read = |counting| -> Read<Sheet<F>> {
-        let mut reader = Reader::new(words, at, "sheet", counting);
-        let sheet = reader.sheet(&function)?;
-        reader.ended("block")?;
-        Ok(sheet)
-    };
-    match read(true) {
-        Err(passed) if passed.refusal == Refusal::Totals => match read(false) {
-            Ok(sheet) => Ok((sheet, Some(passed))),
-            Err(_) => Err(passed),
-        },
-        read => read.map(|sheet| (sheet, None)),
-    }
-}
-
+/// A sheet whose one fault is a total above its limit is read all the same. If there is another
+/// fault behind, the word that passes the total comes first.
 pub(crate) fn read(words: &[u32]) -> Read<Sheet> {
-    Reader::new(words, 0, "sheet", true).short()?;
-    to_end(words, 0, Reader::function).map(|(sheet, _)| sheet)
-}
-
-/// What is refused of a sheet once it is read, said of its first word.
-fn refused_once_read<F>(sheet: &Sheet<F>, at: usize) -> Option<ReadError> {
-    let refusal = sheet.refusal_once_read()?;
-    let fault = match (sheet.held().over().next(), sheet.applies().next()) {
-        (Some((what, held, most)), _) => {
-            format!("expected a sheet of at most {most} {what}, found one of {held}")
+    match read_words(words, true) {
+        Err(passed) if passed.refusal == Refusal::Totals => {
+            read_words(words, false).map_err(|_| passed)
         }
-        (None, Some((block, order))) => format!(
-            "expected a sheet without Apply, found it in the instruction at {} in block {}",
-            order.0, block.0
-        ),
-        (None, None) => unreachable!("a total is said of the word that passes it"),
-    };
-    Some(ReadError { refusal, at, around: Vec::new(), fault })
+        read => read,
+    }
 }
 
-/// The next sheet of a bundle, after its word count, and what it is refused with once it is read.
-fn next_sheet(
-    reader: &mut Reader,
-    component: &Component,
-) -> Read<(Sheet<Callback>, Option<ReadError>)> {
-    let count = reader.word("a sheet's word count")? as usize;
-    let (at, left) = (reader.at, reader.words.len() - reader.at);
-    if count > left {
+fn read_words(words: &[u32], counting: bool) -> Read<Sheet> {
+    let totals = Totals::default();
+    let mut reader = Reader { words, at: 0, identifiers: 0, functions: 0, totals, counting };
+    if words.len() > limits::WORDS {
+        reader.at = limits::WORDS + 1;
         let fault =
-            format!("expected the words of a sheet, {count}, but the bundle has {left} left");
-        return reader.fault(Refusal::SheetEnds, fault);
+            format!("a sheet has at most {} words, this one {}", limits::WORDS, words.len());
+        return reader.fault(Refusal::LongSheet, fault);
     }
-    reader.at += count;
-    let words = &reader.words[..reader.at];
-    let (sheet, passed) = to_end(words, at, |reader| reader.callback(component))?;
-    let refused = passed.or_else(|| refused_once_read(&sheet, at));
-    Ok((sheet, refused))
-}
-
-pub(crate) fn read_component(words: &[u32]) -> Read<Component> {
-    let mut reader = Reader::new(words, 0, "bundle", true);
-    reader.short()?;
-    let count = reader.word("a count of sheets")?;
-    if !(1..=limits::SHEETS as u32).contains(&count) {
-        let fault = format!("expected a count of sheets, 1 to {}, found {count}", limits::SHEETS);
-        return reader.fault(Refusal::Count, fault);
+    let sheet = reader.sheet()?;
+    let more = words.len() - reader.at;
+    if more > 0 {
+        reader.at += 1;
+        let fault = format!("{more} words follow the last block");
+        return reader.fault(Refusal::WordsFollow, fault);
     }
-    let mut component = Component::new();
-    // Of the first sheet that is refused once it is read: it decides, if there is a fault behind it.
-    let mut first = None;
-    let count = count as usize;
-    let sheets = reader.times("sheet", count, |reader| {
-        let (sheet, refused) = next_sheet(reader, &component)?;
-        let position = component.sheets().len();
-        let refused = refused.map(|refused| refused.within("sheet", position, count));
-        first = first.take().or(refused);
-        component.add(sheet).expect("whom it names was looked up");
-        Ok(())
-    });
-    match sheets.and_then(|_| reader.ended("sheet")) {
-        Ok(()) => Ok(component),
-        Err(fault) => Err(first.unwrap_or(fault)),
-    }
+    Ok(sheet)
 }

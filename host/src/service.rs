@@ -1,6 +1,6 @@
 //! The service: the callers' records and the buffers that are lent for each call.
 
-use crate::answer::{Answer, ComponentAnswer};
+use crate::answer::Answer;
 use crate::class_load::{self, ClassLoad};
 use crate::ffi::{self, Caller, Reply};
 use crate::limits;
@@ -12,13 +12,10 @@ const KEPT_ANSWER: usize = 1 << 16;
 /// Bytes of text that are lent first for a drawing.
 const FIRST_TEXT: usize = 1 << 12;
 
-/// How many words of answer are lent first for a sheet or a bundle of so many words.
-pub fn first_lent(words: usize) -> usize {
-    words.clamp(1 << 11, limits::WORDS)
+/// How many words of answer are lent first for a sheet of so many words.
+pub fn first_lent(sheet_words: usize) -> usize {
+    sheet_words.clamp(1 << 11, limits::WORDS)
 }
-
-/// [`ffi::infer`] or [`ffi::infer_component`].
-type Infer = fn(&mut [Caller], usize, &[u32], &mut [u32], &mut [u32]) -> Reply;
 
 /// Owns the callers' records and the buffers of the library's call.
 ///
@@ -54,8 +51,7 @@ pub struct Service {
     callers: Vec<Caller>,
     workspace: Box<[u32]>,
     answer: Vec<u32>,
-    /// None where the limits decide.
-    most_answer: Option<usize>,
+    most_answer: usize,
 }
 
 impl Service {
@@ -76,15 +72,14 @@ impl Service {
             callers: next_serials.into_iter().map(|next| Caller { next }).collect(),
             workspace: vec![0; ffi::least_workspace()].into(),
             answer: Vec::new(),
-            most_answer: None,
+            most_answer: limits::ANSWER,
         }
     }
 
-    /// Answers of more words than this, and joined answers of a component, are refused 9. Without it
-    /// every answer is given: at most some 68 megabytes for a sheet, and for a component up to
-    /// [`limits::COMPONENT_ANSWER`].
+    /// Answers of more words than this are refused 9. Without it every answer is given, at most
+    /// some 68 megabytes.
     pub fn most_answer(mut self, words: usize) -> Service {
-        self.most_answer = Some(words);
+        self.most_answer = words.min(limits::ANSWER);
         self
     }
 
@@ -97,20 +92,19 @@ impl Service {
     /// its caller's next one. A caller that the service does not have is refused
     /// [`Refusal::OutsideRecords`].
     pub fn infer(&mut self, caller: usize, sheet: &[u32]) -> Result<Answer<'_>, Refusal> {
-        let (serial, words) = self.answered(ffi::infer, limits::ANSWER, caller, sheet)?;
-        Ok(Answer::new(serial, words))
-    }
-
-    /// The answers for a component's words, its bundle, or why there are none: see
-    /// [`Component`](crate::Component). It takes one serial, as a sheet does.
-    pub fn infer_component(
-        &mut self,
-        caller: usize,
-        bundle: &[u32],
-    ) -> Result<ComponentAnswer<'_>, Refusal> {
-        let most = limits::COMPONENT_ANSWER;
-        let (serial, words) = self.answered(ffi::infer_component, most, caller, bundle)?;
-        Ok(ComponentAnswer::new(serial, words))
+        if self.answer.len() > KEPT_ANSWER {
+            self.answer = Vec::new();
+        }
+        let mut lent = first_lent(sheet.len()).min(self.most_answer);
+        let mut reply = self.attempt(caller, sheet, lent);
+        while reply.refusal == Refusal::ShortAnswer.number() && lent < self.most_answer {
+            lent = (16 * lent).min(self.most_answer);
+            reply = self.attempt(caller, sheet, lent);
+        }
+        match reply.refusal {
+            0 => Ok(Answer::new(reply.serial, &self.answer[..reply.length])),
+            number => Err(Refusal::of_library(number)),
+        }
     }
 
     /// The graph of a sheet as a DOT file, which Graphviz draws: a line for each node, then one for
@@ -154,37 +148,13 @@ impl Service {
         })
     }
 
-    /// The serial and the words of an answer, which has at most so many.
-    fn answered(
-        &mut self,
-        infer: Infer,
-        most: usize,
-        caller: usize,
-        words: &[u32],
-    ) -> Result<(u32, &[u32]), Refusal> {
-        if self.answer.len() > KEPT_ANSWER {
-            self.answer = Vec::new();
-        }
-        let most = self.most_answer.map_or(most, |words| words.min(most));
-        let mut lent = first_lent(words.len()).min(most);
-        let mut reply = self.attempt(infer, caller, words, lent);
-        while reply.refusal == Refusal::ShortAnswer.number() && lent < most {
-            lent = (16 * lent).min(most);
-            reply = self.attempt(infer, caller, words, lent);
-        }
-        match reply.refusal {
-            0 => Ok((reply.serial, &self.answer[..reply.length])),
-            number => Err(Refusal::of_library(number)),
-        }
-    }
-
     /// A call with so many words of the answer buffer.
-    fn attempt(&mut self, infer: Infer, caller: usize, words: &[u32], lent: usize) -> Reply {
+    fn attempt(&mut self, caller: usize, sheet: &[u32], lent: usize) -> Reply {
         if self.answer.len() < lent {
             self.answer = vec![0; lent];
         }
         let answer = &mut self.answer[..lent];
-        infer(&mut self.callers, caller, words, &mut self.workspace, answer)
+        ffi::infer(&mut self.callers, caller, sheet, &mut self.workspace, answer)
     }
 }
 

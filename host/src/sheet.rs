@@ -1,6 +1,5 @@
 //! A sheet as typed parts, and its words.
 
-use crate::answer::Answer;
 use crate::held::{self, Held};
 use crate::parts::{
     AliasingDiagnostic, AliasingEffect, BlockId, EffectKind, EvaluationOrder, Identifier,
@@ -11,16 +10,12 @@ use crate::{limits, refusal::Refusal};
 
 /// One function, as the service takes it. Made by a [`SheetBuilder`](crate::SheetBuilder), or
 /// read from words or text; its words are never refused 3 to 7.
-///
-/// An inner function is an [`InnerFunction`] with lists of its own. In a sheet of a
-/// [`Component`](crate::Component), a `Sheet<Callback>`, it is an earlier sheet that is named. Only
-/// [`Component::filled`](crate::Component::filled) makes lists that may be too long for a sheet's words.
 #[derive(Debug, Clone, PartialEq, Eq)]
-pub struct Sheet<F = InnerFunction> {
+pub struct Sheet {
     pub(crate) function_expression: bool,
     pub(crate) validations: bool,
     pub(crate) identifiers: Vec<Identifier>,
-    pub(crate) functions: Vec<F>,
+    pub(crate) functions: Vec<InnerFunction>,
     pub(crate) params: Vec<Place>,
     pub(crate) context: Vec<Place>,
     pub(crate) returns: Place,
@@ -34,17 +29,6 @@ pub struct InnerFunction {
     pub diagnostics: Vec<AliasingDiagnostic>,
     /// What it uses from around it.
     pub context: Vec<Place>,
-}
-
-impl From<&Answer<'_>> for InnerFunction {
-    /// The inner function that a sheet is where a later sheet of its component names it: it would
-    /// report the diagnostics among its answer's effects, and uses its answer's context.
-    fn from(answer: &Answer) -> InnerFunction {
-        InnerFunction {
-            diagnostics: answer.effects().filter_map(|effect| effect.diagnostic()).collect(),
-            context: answer.context().collect(),
-        }
-    }
 }
 
 /// A block: what is done one after another, and how it ends.
@@ -181,25 +165,6 @@ impl Sheet {
         reading::read(words)
     }
 
-    /// Refusal 2, 8 or 10, if the service will give it: they are about the sheet as a whole.
-    pub fn refusal(&self) -> Option<Refusal> {
-        if self.words().len() > limits::WORDS {
-            return Some(Refusal::LongSheet);
-        }
-        self.refusal_once_read()
-    }
-
-    /// The words that the service takes.
-    pub fn words(&self) -> Vec<u32> {
-        self.words_with(|words, function| {
-            words.push(function.diagnostics.len() as u32);
-            words.extend(function.diagnostics.iter().flat_map(|d| d.words()));
-            put_places(words, &function.context);
-        })
-    }
-}
-
-impl<F> Sheet<F> {
     /// Whether the function is a function expression, whose errors are not recorded.
     pub fn function_expression(&self) -> bool {
         self.function_expression
@@ -216,7 +181,7 @@ impl<F> Sheet<F> {
     }
 
     /// The inner functions; the position is the number.
-    pub fn functions(&self) -> &[F] {
+    pub fn functions(&self) -> &[InnerFunction] {
         &self.functions
     }
 
@@ -271,15 +236,17 @@ impl<F> Sheet<F> {
         })
     }
 
-    /// Refusal 8 or 10, if the service will give it: they are about a sheet that is read to its end,
-    /// alone or in a component.
-    pub fn refusal_once_read(&self) -> Option<Refusal> {
+    /// Refusal 2, 8 or 10, if the service will give it: they are about the sheet as a whole.
+    pub fn refusal(&self) -> Option<Refusal> {
+        if self.words().len() > limits::WORDS {
+            return Some(Refusal::LongSheet);
+        }
         let over = self.totals().over().chain(self.held().over()).next().map(|_| Refusal::Totals);
         over.or_else(|| self.applies().next().map(|_| Refusal::Apply))
     }
 
-    /// The words, with what an inner function puts into them.
-    pub(crate) fn words_with(&self, put_function: impl Fn(&mut Vec<u32>, &F)) -> Vec<u32> {
+    /// The words that the service takes.
+    pub fn words(&self) -> Vec<u32> {
         let mut words = vec![2, self.function_expression as u32, self.validations as u32];
         words.push(self.identifiers.len() as u32);
         for identifier in &self.identifiers {
@@ -287,7 +254,11 @@ impl<F> Sheet<F> {
             words.extend([range.start.0, range.end.0, identifier.type_.number()]);
         }
         words.push(self.functions.len() as u32);
-        self.functions.iter().for_each(|function| put_function(&mut words, function));
+        for function in &self.functions {
+            words.push(function.diagnostics.len() as u32);
+            words.extend(function.diagnostics.iter().flat_map(|d| d.words()));
+            put_places(&mut words, &function.context);
+        }
         for places in [&self.params[..], &self.context, &[self.returns]] {
             put_places(&mut words, places);
         }
@@ -296,20 +267,6 @@ impl<F> Sheet<F> {
             put_block(&mut words, block);
         }
         words
-    }
-
-    /// The same sheet with other inner functions.
-    pub(crate) fn with_functions<G>(&self, other: impl Fn(&F) -> G) -> Sheet<G> {
-        Sheet {
-            function_expression: self.function_expression,
-            validations: self.validations,
-            identifiers: self.identifiers.clone(),
-            functions: self.functions.iter().map(other).collect(),
-            params: self.params.clone(),
-            context: self.context.clone(),
-            returns: self.returns,
-            blocks: self.blocks.clone(),
-        }
     }
 }
 

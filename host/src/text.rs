@@ -1,4 +1,4 @@
-//! A sheet, or the sheets of a component, as text: a line for each part, for people to read and write.
+//! A sheet as text: a line for each part, for people to read and write.
 //!
 //! ```text
 //! # A parameter is captured by a new list, and the list is changed.
@@ -17,21 +17,19 @@
 //!   terminal Return list at 3
 //! ```
 //!
-//! What a line leaves out is 0 in the sheet's words. In a component a line `sheet NAME` stands before
-//! each sheet, also the first, and `function NAME sheet NAME` is an inner function that is a sheet above.
-//! The repository's docs/TEXT.md describes every line.
+//! What a line leaves out is 0 in the sheet's words. The repository's docs/TEXT.md describes every
+//! line.
 
 use std::collections::HashMap;
 use std::fmt::{self, Write};
 
 use crate::builder::{SheetBuilder, within_limits};
-use crate::component::{Callback, Component};
 use crate::parts::{
     AliasingDiagnostic, AliasingEffect, BlockId, Effect, EffectKind, EvaluationOrder, FunctionId,
     Identifier, IdentifierId, InstructionValue, MutableRange, MutationReason, Place, Type,
     ValueKind, ValueReason,
 };
-use crate::sheet::{InnerFunction, Instruction, Sheet, Terminal};
+use crate::sheet::{Instruction, Sheet, Terminal};
 use crate::spelling::nearest;
 
 /// The names that a text gives to identifiers and inner functions. A sheet's words have none.
@@ -43,7 +41,7 @@ pub struct Names {
 
 impl Names {
     /// x0, x1, .. and f0, f1, ..
-    pub fn numbered<F>(sheet: &Sheet<F>) -> Names {
+    pub fn numbered(sheet: &Sheet) -> Names {
         let names = |letter: char, count: usize| (0..count).map(move |i| format!("{letter}{i}"));
         Names {
             identifiers: names('x', sheet.identifiers().len()).collect(),
@@ -113,78 +111,18 @@ impl Names {
     }
 }
 
-/// The names that a text gives to the sheets of a component, and to what is in each.
-#[derive(Debug, Clone, PartialEq, Eq, Default)]
-pub struct ComponentNames {
-    sheets: Vec<(String, Names)>,
-}
-
-impl ComponentNames {
-    /// s0, s1, .. with [`Names::numbered`] for each.
-    pub fn numbered(component: &Component) -> ComponentNames {
-        let sheets = component.sheets().iter().enumerate();
-        let numbered =
-            |(i, sheet): (usize, &Sheet<Callback>)| (format!("s{i}"), Names::numbered(sheet));
-        ComponentNames { sheets: sheets.map(numbered).collect() }
-    }
-
-    /// The name of the sheet at a position; the component that the names belong to has it.
-    pub fn sheet(&self, position: usize) -> &str {
-        &self.sheets[position].0
-    }
-
-    /// The names in the sheet at a position; the component that the names belong to has it.
-    pub fn names(&self, position: usize) -> &Names {
-        &self.sheets[position].1
-    }
-}
-
 // =============================================================================
 // Writing
 // =============================================================================
 
-const TAKES: &str = "a string takes every line";
-
 /// The sheet as text. With [`Names::numbered`] for a sheet that has no names.
 pub fn write(sheet: &Sheet, names: &Names) -> String {
     let mut text = String::new();
-    put_sheet(&mut text, sheet, names, |function| lists(function, names)).expect(TAKES);
+    put_sheet(&mut text, sheet, names).expect("a string takes every line");
     text
 }
 
-/// The component as text. With [`ComponentNames::numbered`] for one that has no names.
-pub fn write_component(component: &Component, names: &ComponentNames) -> String {
-    let mut text = String::new();
-    let named = |callback: &Callback| format!(" sheet {}", names.sheet(callback.position()));
-    for (sheet, (name, own)) in component.sheets().iter().zip(&names.sheets) {
-        writeln!(text, "sheet {name}").expect(TAKES);
-        put_sheet(&mut text, sheet, own, named).expect(TAKES);
-    }
-    text
-}
-
-/// What stands behind the name of an inner function with lists of its own.
-fn lists(function: &InnerFunction, names: &Names) -> String {
-    let mut text = String::new();
-    if !function.diagnostics.is_empty() {
-        text += " diagnostics";
-    }
-    for diagnostic in &function.diagnostics {
-        text += &format!(" {diagnostic}");
-    }
-    for place in &function.context {
-        text += &format!(" context {}", names.place(place));
-    }
-    text
-}
-
-/// The lines of a sheet, with what stands behind the name of an inner function.
-fn put_sheet<F>(
-    text: &mut String,
-    sheet: &Sheet<F>,
-    names: &Names,
-    behind: impl Fn(&F) -> String,
-) -> fmt::Result {
+fn put_sheet(text: &mut String, sheet: &Sheet, names: &Names) -> fmt::Result {
     writeln!(
         text,
         "flags{}{}{}",
@@ -204,7 +142,17 @@ fn put_sheet<F>(
         writeln!(text)?;
     }
     for (function, name) in sheet.functions().iter().zip(&names.functions) {
-        writeln!(text, "function {name}{}", behind(function))?;
+        write!(text, "function {name}")?;
+        if !function.diagnostics.is_empty() {
+            write!(text, " diagnostics")?;
+        }
+        for diagnostic in &function.diagnostics {
+            write!(text, " {diagnostic}")?;
+        }
+        for place in &function.context {
+            write!(text, " context {}", names.place(place))?;
+        }
+        writeln!(text)?;
     }
     for place in sheet.params() {
         writeln!(text, "param {}", names.place(place))?;
@@ -273,7 +221,7 @@ fn put_effects(text: &mut String, effects: &[AliasingEffect], names: &Names) -> 
 // Parsing
 // =============================================================================
 
-/// Why a text is no sheet, or no component.
+/// Why a text is no sheet.
 #[derive(Debug, Clone, PartialEq, Eq)]
 pub struct TextError {
     line: usize,
@@ -295,89 +243,19 @@ impl fmt::Display for TextError {
 
 impl std::error::Error for TextError {}
 
-/// A line of a text that says something, and its number from 1.
-type Line<'t> = (usize, Words<'t>);
-
-fn lines(text: &str) -> impl Iterator<Item = Line<'_>> {
-    (1..).zip(text.lines()).filter_map(|(number, line)| {
-        let code = line.split('#').next().unwrap_or_default();
-        let mut words = Words { rest: code.split_whitespace().peekable() };
-        words.rest.peek().is_some().then_some((number, words))
-    })
-}
-
-/// What stands behind the last line of a sheet, and the number of the line where that is.
-type End = (usize, &'static str);
-
-fn end_of(text: &str) -> End {
-    (text.lines().count().max(1), "the end of the text")
-}
-
-/// Whether the line begins a sheet of a component.
-fn begins_sheet((_, words): &Line) -> bool {
-    words.clone().take("sheet")
-}
-
-/// Whether a text is that of a component: its first line says `sheet`.
-pub fn is_component(text: &str) -> bool {
-    lines(text).next().is_some_and(|line| begins_sheet(&line))
-}
-
 /// The sheet that a text describes, and the names that it uses.
 pub fn parse(text: &str) -> Result<(Sheet, Names), TextError> {
-    parse_lines(lines(text), end_of(text), &|parser, words| parser.lists(words))
-}
-
-/// The component that a text describes, and the names that it uses.
-pub fn parse_component(text: &str) -> Result<(Component, ComponentNames), TextError> {
-    let lines: Vec<Line> = lines(text).collect();
-    let mut parts = lines.chunk_by(|_, next| !begins_sheet(next)).peekable();
-    if parts.peek().is_none() {
-        let (line, found) = end_of(text);
-        return Err(TextError { line, message: format!("expected `sheet NAME`, found {found}") });
-    }
-    let (mut component, mut names) = (Component::new(), ComponentNames::default());
-    // The sheets above, by their names.
-    let mut above: Vec<(String, Callback)> = Vec::new();
-    while let Some(part) = parts.next() {
-        let (line, mut head) = part[0].clone();
-        let say = |message| TextError { line, message };
-        let name = new_sheet(&mut head, &above).map_err(say)?;
-        let end = parts.peek().map_or(end_of(text), |next| (next[0].0, "the next sheet"));
-        let lines = part[1..].iter().cloned();
-        let (sheet, own) =
-            parse_lines(lines, end, &|parser, words| parser.callback(words, &above))?;
-        let callback = component.add(sheet).map_err(|error| say(error.to_string()))?;
-        above.push((name.clone(), callback));
-        names.sheets.push((name, own));
-    }
-    Ok((component, names))
-}
-
-/// The name on a line `sheet`, which no sheet above has.
-fn new_sheet(words: &mut Words, above: &[(String, Callback)]) -> Parsed<String> {
-    words.keyword("sheet")?;
-    let name = words.name("a sheet's name")?;
-    words.end()?;
-    if above.iter().any(|(other, _)| *other == name) {
-        return Err(format!("expected a new sheet's name, found `{name}` again"));
-    }
-    Ok(name)
-}
-
-/// The lines of one sheet, with what reads an inner function behind its name.
-fn parse_lines<'t, F>(
-    lines: impl Iterator<Item = Line<'t>>,
-    (last, found): End,
-    function: &FunctionLine<F>,
-) -> Result<(Sheet<F>, Names), TextError> {
-    let mut parser = Parser::new(function);
-    for (line, mut words) in lines {
-        parser.line(&mut words).map_err(|message| TextError { line, message })?;
+    let mut parser = Parser::default();
+    let mut last = 1;
+    for (number, line) in (1..).zip(text.lines()) {
+        last = number;
+        let code = line.split('#').next().unwrap_or_default();
+        let mut words = Words { rest: code.split_whitespace().peekable() };
+        parser.line(&mut words).map_err(|message| TextError { line: number, message })?;
     }
     let names = parser.names;
     let sheet = match parser.returns {
-        None => Err(format!("expected a line `returns PLACE`, found {found}")),
+        None => Err("expected a line `returns PLACE`, found the end of the text".to_string()),
         Some(returns) => parser.builder.finish(returns).map_err(|e| e.to_string()),
     };
     let sheet = sheet.map_err(|message| TextError { line: last, message })?;
@@ -387,7 +265,6 @@ fn parse_lines<'t, F>(
 type Parsed<T = ()> = Result<T, String>;
 
 /// The words of one line.
-#[derive(Clone)]
 struct Words<'t> {
     rest: std::iter::Peekable<std::str::SplitWhitespace<'t>>,
 }
@@ -422,13 +299,6 @@ impl<'t> Words<'t> {
 
     fn keyword(&mut self, word: &str) -> Parsed {
         if self.take(word) { Ok(()) } else { self.expected(&format!("`{word}`")) }
-    }
-
-    fn name(&mut self, what: &str) -> Parsed<String> {
-        match self.rest.next_if(|word| is_name(word)) {
-            Some(name) => Ok(name.to_string()),
-            None => self.expected(&format!("{what} (letters, digits, _ $ . -)")),
-        }
     }
 
     fn number(&mut self, what: &str) -> Parsed<u32> {
@@ -550,12 +420,9 @@ const LINES: [&str; 13] = [
     "terminal",
 ];
 
-/// Reads what stands behind an inner function's name, and adds the function.
-type FunctionLine<'f, F> = dyn Fn(&mut Parser<F>, &mut Words) -> Parsed<FunctionId> + 'f;
-
-struct Parser<'f, F> {
-    builder: SheetBuilder<F>,
-    function: &'f FunctionLine<'f, F>,
+#[derive(Default)]
+struct Parser {
+    builder: SheetBuilder,
     names: Names,
     identifiers: HashMap<String, IdentifierId>,
     functions: HashMap<String, FunctionId>,
@@ -563,57 +430,7 @@ struct Parser<'f, F> {
     returns: Option<Place>,
 }
 
-impl Parser<'_, InnerFunction> {
-    /// An inner function with lists of its own.
-    fn lists(&mut self, words: &mut Words) -> Parsed<FunctionId> {
-        let mut diagnostics = Vec::new();
-        if words.take("diagnostics") {
-            while words.rest.peek().is_some_and(|word| *word != "context") {
-                diagnostics.push(words.diagnostic()?);
-            }
-        }
-        let mut context = Vec::new();
-        while words.take("context") {
-            context.push(self.place(words)?);
-        }
-        if context.is_empty() {
-            words.end_or(&["diagnostics IDENTITY/INSTANCE ..", "context PLACE"])?;
-        }
-        words.end_of_place(&["context PLACE"])?;
-        self.builder.function(&diagnostics, &context).map_err(|e| e.to_string())
-    }
-}
-
-impl Parser<'_, Callback> {
-    /// An inner function that is one of the sheets above.
-    fn callback(&mut self, words: &mut Words, above: &[(String, Callback)]) -> Parsed<FunctionId> {
-        if !words.take("sheet") {
-            return words.expected_name("`sheet NAME`", ["sheet"]);
-        }
-        let named = words.rest.peek().and_then(|word| above.iter().find(|(name, _)| name == word));
-        let Some(&(_, callback)) = named else {
-            let names = above.iter().map(|(name, _)| name.as_str());
-            return words.expected_name("the name of a sheet above this one", names);
-        };
-        words.rest.next();
-        words.end()?;
-        self.builder.callback(callback).map_err(|e| e.to_string())
-    }
-}
-
-impl<'f, F> Parser<'f, F> {
-    fn new(function: &'f FunctionLine<'f, F>) -> Parser<'f, F> {
-        Parser {
-            builder: SheetBuilder::default(),
-            function,
-            names: Names::default(),
-            identifiers: HashMap::new(),
-            functions: HashMap::new(),
-            flags: false,
-            returns: None,
-        }
-    }
-
+impl Parser {
     fn line(&mut self, words: &mut Words) -> Parsed {
         let Some(&first) = words.rest.peek() else { return Ok(()) };
         if let Some(kind) = EffectKind::from_name(first) {
@@ -622,24 +439,19 @@ impl<'f, F> Parser<'f, F> {
             return self.builder.effect(effect).map_err(|e| e.to_string());
         }
         let part = match first {
-            "flags" => Self::flags,
-            "identifier" => Self::identifier,
-            "function" => Self::function,
-            "param" => Self::param,
-            "context" => Self::context,
-            "returns" => Self::returns,
-            "block" => Self::block,
-            "phi" => Self::phi,
-            "operand" => Self::operand,
-            "instruction" => Self::instruction,
-            "lvalue" => Self::lvalue,
-            "no" => Self::no_effects,
-            "terminal" => Self::terminal,
-            "sheet" => {
-                let what =
-                    "a line of this one sheet (a component has `sheet` before its first too)";
-                return words.expected(what);
-            }
+            "flags" => Parser::flags,
+            "identifier" => Parser::identifier,
+            "function" => Parser::function,
+            "param" => Parser::param,
+            "context" => Parser::context,
+            "returns" => Parser::returns,
+            "block" => Parser::block,
+            "phi" => Parser::phi,
+            "operand" => Parser::operand,
+            "instruction" => Parser::instruction,
+            "lvalue" => Parser::lvalue,
+            "no" => Parser::no_effects,
+            "terminal" => Parser::terminal,
             _ => {
                 let (lines, effects) = (LINES.join(", "), EffectKind::NAMES.join(", "));
                 let names = LINES.iter().chain(EffectKind::NAMES).copied();
@@ -666,8 +478,15 @@ impl<'f, F> Parser<'f, F> {
         words.end_or(&["function-expression", "validations", "none"])
     }
 
+    fn name(&self, words: &mut Words, what: &str) -> Parsed<String> {
+        match words.rest.next_if(|word| is_name(word)) {
+            Some(name) => Ok(name.to_string()),
+            None => words.expected(&format!("{what} (letters, digits, _ $ . -)")),
+        }
+    }
+
     fn identifier(&mut self, words: &mut Words) -> Parsed {
-        let name = words.name("an identifier's name")?;
+        let name = self.name(words, "an identifier's name")?;
         if self.identifiers.contains_key(&name) {
             return Err(format!("expected a new identifier's name, found `{name}` again"));
         }
@@ -688,11 +507,25 @@ impl<'f, F> Parser<'f, F> {
     }
 
     fn function(&mut self, words: &mut Words) -> Parsed {
-        let name = words.name("an inner function's name")?;
+        let name = self.name(words, "an inner function's name")?;
         if self.functions.contains_key(&name) {
             return Err(format!("expected a new inner function's name, found `{name}` again"));
         }
-        let id = (self.function)(self, words)?;
+        let mut diagnostics = Vec::new();
+        if words.take("diagnostics") {
+            while words.rest.peek().is_some_and(|word| *word != "context") {
+                diagnostics.push(words.diagnostic()?);
+            }
+        }
+        let mut context = Vec::new();
+        while words.take("context") {
+            context.push(self.place(words)?);
+        }
+        if context.is_empty() {
+            words.end_or(&["diagnostics IDENTITY/INSTANCE ..", "context PLACE"])?;
+        }
+        words.end_of_place(&["context PLACE"])?;
+        let id = self.builder.function(&diagnostics, &context).map_err(|e| e.to_string())?;
         self.names.functions.push(name.clone());
         self.functions.insert(name, id);
         Ok(())

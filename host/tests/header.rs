@@ -77,9 +77,6 @@ fn limits_and_version() {
     assert_eq!(defined("SERVICE_MOST_SHEET"), ffi::most_sheet());
     assert_eq!(defined("SERVICE_MOST_SHEET"), limits::WORDS);
     assert_eq!(defined("SERVICE_MOST_ANSWER"), limits::ANSWER);
-    assert_eq!(defined("SERVICE_LEAST_SHEETS"), 1);
-    assert_eq!(defined("SERVICE_MOST_SHEETS"), limits::SHEETS);
-    assert_eq!(defined("SERVICE_MOST_COMPONENT_ANSWER"), limits::COMPONENT_ANSWER);
     let bounds = |what| {
         [
             defined(&format!("SERVICE_LEAST_LOAD_{what}")),
@@ -98,19 +95,6 @@ fn limits_and_version() {
     let parts = env!("CARGO_PKG_VERSION").split('.').map(|part| part.parse::<usize>().unwrap());
     let version = parts.fold(0, |version, part| 100 * version + part);
     assert_eq!(defined("SERVICE_VERSION"), version);
-}
-
-/// `components_infer` takes what `service_infer` takes, with a bundle for a sheet.
-#[test]
-fn both_calls() {
-    let parameters = |name: &str| -> String {
-        let (_, rest) = HEADER.split_once(&format!("struct Reply {name}(")).unwrap();
-        let (parameters, _) = rest.split_once(");").unwrap();
-        parameters.split_whitespace().collect::<Vec<_>>().join(" ")
-    };
-    let service = parameters("service_infer");
-    assert!(service.starts_with("struct Caller *callers, size_t count, size_t position, "));
-    assert_eq!(parameters("components_infer"), service.replace("sheet", "bundle"));
 }
 
 /// Nothing that the preprocessor sees is named otherwise.

@@ -1,18 +1,15 @@
 //! Sheets as parts, as words and as text: each becomes each other one and back.
 
-mod rebuilt;
-
 use oracle::damage::damaged;
 use oracle::generate;
 use oracle::plain::building;
 use oracle::random::Random;
 use oracle::{held, recreated, totals};
-use rebuilt::rebuilt;
 use service_host::text::{self, Names};
 use service_host::{
     AliasingDiagnostic, AliasingEffect, BlockId, Effect, EvaluationOrder, FunctionId, Held,
-    Identifier, IdentifierId, InnerFunction, InstructionValue, MutableRange, PartError, Place,
-    Refusal, Service, Sheet, SheetBuilder, Terminal, limits,
+    Identifier, IdentifierId, InstructionValue, MutableRange, PartError, Place, Refusal, Service,
+    Sheet, SheetBuilder, Terminal, limits,
 };
 
 /// The generator's sheets, as words.
@@ -21,16 +18,64 @@ fn generated(seed: u64, count: usize) -> impl Iterator<Item = Vec<u32>> {
     (0..count).map(move |_| generate::sheet(&mut random).words())
 }
 
+/// The same sheet, made part by part.
+fn rebuilt(sheet: &Sheet) -> Result<Sheet, PartError> {
+    let mut builder = SheetBuilder::new();
+    builder.function_expression(sheet.function_expression());
+    builder.validations(sheet.validations());
+    for identifier in sheet.identifiers() {
+        builder.identifier(*identifier)?;
+    }
+    for function in sheet.functions() {
+        builder.function(&function.diagnostics, &function.context)?;
+    }
+    for place in sheet.params() {
+        builder.param(*place)?;
+    }
+    for place in sheet.context() {
+        builder.context(*place)?;
+    }
+    for block in sheet.blocks() {
+        builder.block(block.number)?;
+        for phi in &block.phis {
+            builder.phi(phi.place)?;
+            for operand in &phi.operands {
+                builder.operand(operand.predecessor, operand.place)?;
+            }
+        }
+        for instruction in &block.instructions {
+            builder.instruction(instruction.order)?;
+            builder.lvalue(instruction.lvalue)?;
+            for place in &instruction.lvalues {
+                builder.value_lvalue(*place)?;
+            }
+            for place in &instruction.operands {
+                builder.value_operand(*place)?;
+            }
+            builder.value(instruction.value)?;
+            match &instruction.effects {
+                Some(effects) => effects.iter().try_for_each(|effect| builder.effect(*effect))?,
+                None => builder.no_effects()?,
+            }
+        }
+        builder.terminal(block.terminal)?;
+        for place in &block.terminal_operands {
+            builder.value_operand(*place)?;
+        }
+        for effect in &block.terminal_effects {
+            builder.effect(*effect)?;
+        }
+    }
+    builder.finish(sheet.returns())
+}
+
 #[test]
 fn words_parts_and_text_are_the_same() {
     for words in generated(1, 3_000) {
         let sheet = Sheet::read(&words).unwrap();
         assert_eq!(sheet.words(), words);
         assert_eq!(sheet.refusal(), None);
-        let function = |builder: &mut SheetBuilder, function: &InnerFunction| {
-            builder.function(&function.diagnostics, &function.context)
-        };
-        assert_eq!(rebuilt(&sheet, function).unwrap(), sheet);
+        assert_eq!(rebuilt(&sheet).unwrap(), sheet);
         let names = Names::numbered(&sheet);
         let text = text::write(&sheet, &names);
         assert_eq!(text::parse(&text).unwrap(), (sheet, names), "{text}");

@@ -5,7 +5,6 @@
 use crate::boundaries;
 use crate::callers;
 use crate::compare::{compare, roomy};
-use crate::component_cases;
 use crate::damage::{Call, Room};
 use crate::generate::{self, LIMITS, Limit, PASSABLE};
 use crate::held;
@@ -362,14 +361,13 @@ pub fn sheets() -> Vec<Vec<u32>> {
 
 type Case = fn() -> Result<(), String>;
 
-pub const FURTHER: [(&str, Case); 7] = [
+pub const FURTHER: [(&str, Case); 6] = [
     ("limits", limits),
     ("refusal order", refusal_order),
     ("words in range", words_in_range),
     ("totals", totals_passed),
     ("held", relations_held),
     ("callers", callers::cases),
-    ("components", component_cases::cases),
 ];
 
 pub const CASES: [Case; 9] =

@@ -47,15 +47,6 @@ pub fn lines(outcome: &Outcome) -> Vec<String> {
 
 /// The sections of an answer's words; words that make no section come last.
 fn words_in_lines(words: &[u32]) -> Vec<String> {
-    let (mut lines, rest) = first_in_lines(words);
-    if !rest.is_empty() {
-        lines.push(format!("more {rest:?}"));
-    }
-    lines
-}
-
-/// The sections of the first of some answers, one after another, and the words after it.
-pub fn first_in_lines(words: &[u32]) -> (Vec<String>, &[u32]) {
     let sections = [
         ("ranges", 2),
         ("params", 3),
@@ -77,7 +68,10 @@ pub fn first_in_lines(words: &[u32]) -> (Vec<String>, &[u32]) {
         lines.push(format!("{name} {count}{words}"));
         rest = &after[length..];
     }
-    (lines, rest)
+    if !rest.is_empty() {
+        lines.push(format!("more {rest:?}"));
+    }
+    lines
 }
 
 /// The original's lines, all but the walks, or why there are none. Where it has nothing of its own
@@ -97,7 +91,7 @@ pub fn without_walks(answer: &plain::Answer) -> Vec<String> {
 }
 
 /// What the original leaves, none if it meets an Apply; or its panic.
-pub fn original_answer(sheet: &sheet::Sheet) -> Result<Option<Answered>, String> {
+fn original_answer(sheet: &sheet::Sheet) -> Result<Option<Answered>, String> {
     or_panic(|| original_side::answer(sheet))
 }
 
@@ -113,9 +107,12 @@ pub fn or_panic<T>(asked: impl FnOnce() -> T) -> Result<T, String> {
     })
 }
 
-/// The plain reader's answer held to the original's and to the bound of a walk. The original's has
-/// been filled from the plain reader's where it has nothing of its own to say.
-pub fn compare_answers(
+/// The plain reader's answer held to the original's, to the bound of a walk, and its reading of
+/// the sheet to the sheet's words. The original's has been filled from the plain reader's where
+/// it has nothing of its own to say.
+fn compare_answers(
+    words: &[u32],
+    sheet: &sheet::Sheet,
     held: Held,
     plain: &plain::Answer,
     original: &Result<plain::Answer, String>,
@@ -131,14 +128,11 @@ pub fn compare_answers(
     if plain.walks.iter().any(|&w| w > bound) {
         return difference("bound of a walk", vec![format!("at most {bound}")], plain.lines());
     }
+    if sheet.words() != words {
+        let (read, given) = (format!("{:?}", sheet.words()), format!("{words:?}"));
+        return difference("words of the sheet as read", vec![given], vec![read]);
+    }
     None
-}
-
-/// The plain reader's reading of a sheet, written again, held to the words that were given.
-pub fn compare_words(given: &[u32], read: &[u32]) -> Option<Difference> {
-    let told = |words: &[u32]| vec![format!("{words:?}")];
-    let side = "words of the sheet as read";
-    (given != read).then(|| Difference { side, expected: told(given), got: told(read) })
 }
 
 /// How many entries the longest walk of a render takes.
@@ -159,7 +153,7 @@ fn render_bound(held: Held, most: u32) -> Option<Difference> {
 }
 
 /// The original ends with an error on a sheet with an Apply.
-pub fn compare_apply(sheet: &sheet::Sheet) -> Option<Difference> {
+fn compare_apply(sheet: &sheet::Sheet) -> Option<Difference> {
     let got = match original_answer(sheet) {
         Ok(None) => return None,
         Ok(Some(original)) => without_walks(&original.answer),
@@ -245,8 +239,7 @@ pub fn compare(call: &Call, sides: &mut [Box<dyn Side>]) -> (u32, Option<Differe
                 let answered = answered.ok_or("an Apply is met")?;
                 Ok(answered.filled(&plain))
             });
-            difference = compare_answers(held, &plain, &original);
-            difference = difference.or_else(|| compare_words(&call.sheet, &sheet.words()));
+            difference = compare_answers(&call.sheet, &sheet, held, &plain, &original);
             difference = difference.or_else(|| render_bound(held, rendered));
             original_words = original.ok().map(|answer| answer.words());
             Ok(plain.words())
@@ -280,7 +273,7 @@ pub fn compare(call: &Call, sides: &mut [Box<dyn Side>]) -> (u32, Option<Differe
 // =============================================================================
 
 /// Smaller variants of a sheet's parts, largest steps first.
-pub fn smaller(sheet: &sheet::Sheet) -> Vec<sheet::Sheet> {
+fn smaller(sheet: &sheet::Sheet) -> Vec<sheet::Sheet> {
     use sheet::Terminal;
     let mut all = Vec::new();
     let mut with = |change: &dyn Fn(&mut sheet::Sheet)| {
@@ -372,7 +365,7 @@ pub fn smaller(sheet: &sheet::Sheet) -> Vec<sheet::Sheet> {
 }
 
 /// Variants of words: parts taken out, single words set to 0 or halved.
-pub fn smaller_words(words: &[u32]) -> Vec<Vec<u32>> {
+fn smaller_words(words: &[u32]) -> Vec<Vec<u32>> {
     let mut all = Vec::new();
     let mut length = words.len() / 2;
     while length > 0 {

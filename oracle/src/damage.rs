@@ -106,14 +106,13 @@ pub fn change<const N: usize>(words: &mut [u32], random: &mut Random, others: [C
     };
 }
 
-/// Changes one word, at times to another word of the list or to a limit.
-pub fn change_word(words: &mut [u32], random: &mut Random) {
+fn change_word(words: &mut [u32], random: &mut Random) {
     let another: Change = |words, _, random| words[random.below(words.len())];
     change(words, random, [another, |_, _, random| random.choose(&EDGES)]);
 }
 
 /// Use a block number, or one predecessor of a phi, a second time.
-pub fn repeat_number(sheet: &mut Sheet, random: &mut Random) {
+fn repeat_number(sheet: &mut Sheet, random: &mut Random) {
     let phis: Vec<(usize, usize)> = sheet
         .blocks
         .iter()
@@ -134,7 +133,7 @@ pub fn repeat_number(sheet: &mut Sheet, random: &mut Random) {
     }
 }
 
-pub fn pick<T>(mut list: Vec<T>, random: &mut Random) -> Option<T> {
+fn pick<T>(mut list: Vec<T>, random: &mut Random) -> Option<T> {
     if list.is_empty() {
         return None;
     }
@@ -143,7 +142,7 @@ pub fn pick<T>(mut list: Vec<T>, random: &mut Random) -> Option<T> {
 }
 
 /// Set one word to the end of its range, or to one past it.
-pub fn to_edge(sheet: &mut Sheet, random: &mut Random) {
+fn to_edge(sheet: &mut Sheet, random: &mut Random) {
     let past = random.percent(60) as u32;
     let count = sheet.identifiers.len() as u32;
     let inner = sheet.functions.len() as u32;

@@ -150,7 +150,7 @@ pub fn compare_drawing(call: &Call, drawers: &mut [Box<dyn Drawer>]) -> Seen {
 #[cfg(test)]
 mod tests {
     use super::*;
-    use crate::plain::building::{Built, Relation};
+    use crate::plain::building::{Built, Relation, build};
     use crate::plain::dot::dot;
 
     /// The sheets of drawings/ with their texts, from the plain implementation and the original.

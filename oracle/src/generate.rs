@@ -402,7 +402,7 @@ impl Generator<'_> {
         }
     }
 
-    pub fn diagnostic(&mut self) -> Diagnostic {
+    fn diagnostic(&mut self) -> Diagnostic {
         Diagnostic { identity: self.diagnostic_word(), instance: self.diagnostic_word() }
     }
 
@@ -581,52 +581,6 @@ pub fn sheet(random: &mut Random) -> Sheet {
 /// A tiny accepted sheet.
 pub fn tiny(random: &mut Random) -> Sheet {
     sized(random, &TINY)
-}
-
-// =============================================================================
-// Sheets of a bundle
-// =============================================================================
-
-/// What a sheet of a bundle is to have.
-#[derive(Debug, Clone, Copy)]
-pub struct Ask {
-    pub identifiers: usize,
-    pub functions: usize,
-    pub context: usize,
-    /// About as many as it may have.
-    pub words: usize,
-    /// Small, rather than tiny.
-    pub small: bool,
-}
-
-impl Ask {
-    /// The words without blocks, with some for what is drawn.
-    pub fn least(&self) -> usize {
-        120 + 3 * (self.identifiers + self.context) + 20 * self.functions
-    }
-}
-
-/// An accepted sheet for a bundle, but for its inner functions, which are empty and still to be named.
-/// It mutates what is in its context, has diagnostics of its own, and hands over those of others.
-pub fn part(random: &mut Random, ask: Ask) -> Sheet {
-    let mut g = generator(random, ask.identifiers, ask.functions);
-    g.left.words = ask.words.max(ask.least());
-    if g.random.percent(50) {
-        g.hot = g.identifiers;
-    }
-    if ask.functions > 0 && g.random.percent(30) {
-        g.weights = render_weights(g.random);
-    }
-    let diagnosed = g.random.choose(&[0, 1, 4, 12]);
-    (14..=16).for_each(|kind| g.weights[kind] += diagnosed);
-    let size = if ask.small { &SMALL } else { &TINY };
-    let mut sheet = g.sheet(size);
-    sheet.functions = vec![InnerFunction::default(); ask.functions];
-    sheet.context = (0..ask.context).map(|_| g.place()).collect();
-    if ask.functions > 0 && g.random.percent(60) {
-        (sheet.function_expression, sheet.validations) = (false, true);
-    }
-    fitted(sheet)
 }
 
 // =============================================================================

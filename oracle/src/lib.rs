@@ -3,13 +3,10 @@
 //! restate), and sheets to hold them against each other.
 
 pub mod boundaries;
-pub mod bundles;
 pub mod callers;
 pub mod cases;
 pub mod certainty;
 pub mod compare;
-pub mod component_cases;
-pub mod components;
 pub mod damage;
 pub mod dense;
 pub mod drawing;

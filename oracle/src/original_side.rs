@@ -454,23 +454,7 @@ impl Answered {
 /// The original's sections, or none if it meets an Apply.
 pub fn answer(sheet: &sheet::Sheet) -> Option<Answered> {
     let allocator = Allocator::new();
-    answered(prepare(sheet, &allocator))
-}
-
-/// The same with inner functions that have these effects, of all kinds, as the original leaves them on a
-/// function that it has come through.
-pub fn answer_nested(sheet: &sheet::Sheet, inner: &[&[sheet::Effect]]) -> Option<Answered> {
-    let allocator = Allocator::new();
     let mut prepared = prepare(sheet, &allocator);
-    let Prepared { env, .. } = &mut prepared;
-    for (number, list) in inner.iter().enumerate() {
-        let left = effects(list, env);
-        env.functions[FunctionId::from_usize(number)].aliasing_effects = Some(left);
-    }
-    answered(prepared)
-}
-
-fn answered(mut prepared: Prepared) -> Option<Answered> {
     let effects = call(&mut prepared)?;
     let Prepared { func, env, carried, .. } = &mut prepared;
     let params = func.params.iter().map(|param| match param {

@@ -4,13 +4,12 @@
 //! Before a call the workspace, the answer buffer and some words around them and around the callers'
 //! records hold rubbish. After it the words around are as they were, the workspace and the words after
 //! the answer are 0, the sheet is unchanged, and every record is the one that is counted here: the
-//! caller's has moved on by one if the call was accepted. It serves lists of calls (`Server`), answers
-//! bundles (`Bundler`), on records that the comparison counts, makes class loads too (`Loader`), into
-//! the same buffer with rubbish, and drawings (`Drawer`), into bytes of rubbish.
+//! caller's has moved on by one if the call was accepted. It serves lists of calls (`Server`), makes
+//! class loads too (`Loader`), into the same buffer with rubbish, and drawings (`Drawer`), into bytes
+//! of rubbish.
 
 use crate::callers::{Named, Server};
 use crate::compare::Side;
-use crate::components::{Bundler, Told};
 use crate::drawing::Drawer;
 use crate::load::{Load, Loader};
 use crate::plain::Outcome;
@@ -47,17 +46,6 @@ unsafe extern "C" {
         answer: *mut u32,
         answer_len: usize,
     ) -> Reply;
-    fn components_infer(
-        callers: *mut Caller,
-        count: usize,
-        position: usize,
-        bundle: *const u32,
-        bundle_len: usize,
-        workspace: *mut u32,
-        workspace_len: usize,
-        answer: *mut u32,
-        answer_len: usize,
-    ) -> Reply;
     fn service_load(seed: u32, n: u32, m: u32, sheet: *mut u32, sheet_len: usize) -> Reply;
     fn service_load_for(
         callers: *const Caller,
@@ -78,19 +66,6 @@ unsafe extern "C" {
         text_len: usize,
     ) -> Reply;
 }
-
-/// The call of a sheet, or that of a bundle.
-type Infer = unsafe extern "C" fn(
-    *mut Caller,
-    usize,
-    usize,
-    *const u32,
-    usize,
-    *mut u32,
-    usize,
-    *mut u32,
-    usize,
-) -> Reply;
 
 /// Words, or bytes, around a lent buffer that no call may change.
 const AROUND: usize = 16;
@@ -181,8 +156,7 @@ pub struct Ours {
     /// Which callers are named.
     random: Random,
     records: Buffer<u32>,
-    /// The words of a sheet or of a bundle.
-    given: Vec<u32>,
+    sheet: Vec<u32>,
     workspace: Buffer<u32>,
     answer: Buffer<u32>,
     text: Buffer<u8>,
@@ -202,7 +176,7 @@ impl Default for Ours {
             counted: FIRST.to_vec(),
             random: Random::new(9),
             records: Buffer::new(|_| random.word() as u32),
-            given: Vec::new(),
+            sheet: Vec::new(),
             workspace: Buffer::new(|_| random.word() as u32),
             answer: Buffer::new(|_| random.word() as u32),
             // A byte that is 0 before would not show that it was left.
@@ -219,20 +193,19 @@ impl Ours {
         self.calls * 977 % RUBBISH
     }
 
-    /// A copy of the words that are given, and rubbish in the workspace; where the rubbish of the call
-    /// begins.
-    fn begin(&mut self, words: &[u32], workspace: usize) -> usize {
+    /// A copy of the sheet, and rubbish in the workspace; where the rubbish of the call begins.
+    fn begin(&mut self, sheet: &[u32], workspace: usize) -> usize {
         let from = self.next();
-        self.given.clear();
-        self.given.extend_from_slice(words);
+        self.sheet.clear();
+        self.sheet.extend_from_slice(sheet);
         self.workspace.fill(workspace, from);
         from
     }
 
-    /// After a call the words given are unchanged, and the workspace is 0.
-    fn end(&self, words: &[u32]) -> Result<(), String> {
-        if self.given != words {
-            return Err("the words given were written".into());
+    /// After a call the sheet is unchanged, and the workspace is 0.
+    fn end(&self, sheet: &[u32]) -> Result<(), String> {
+        if self.sheet != sheet {
+            return Err("the sheet was written".into());
         }
         self.workspace.check("workspace", 0)
     }
@@ -247,45 +220,6 @@ impl Ours {
     fn records_after(&self) -> Result<&[u32], String> {
         self.records.check("records", self.records.length)?;
         Ok(self.records.lent())
-    }
-
-    /// A call for the caller at a position, on the callers' next serials, which are those after it then.
-    fn serve(
-        &mut self,
-        infer: Infer,
-        callers: &mut [u32],
-        position: usize,
-        words: &[u32],
-        workspace_len: usize,
-        answer_len: usize,
-    ) -> Result<Told, String> {
-        let from = self.begin(words, workspace_len);
-        self.answer.fill(answer_len, from / 2);
-        self.lend_records(callers, from);
-        let (workspace, answer) = (self.workspace.lend(), self.answer.lend());
-        let records = self.records.lend();
-        // SAFETY: the pointers are those of slices with these lengths, all different; a record is a word.
-        let reply = unsafe {
-            infer(
-                records.as_mut_ptr().cast(),
-                records.len(),
-                position,
-                self.given.as_ptr(),
-                self.given.len(),
-                workspace.as_mut_ptr(),
-                workspace.len(),
-                answer.as_mut_ptr(),
-                answer.len(),
-            )
-        };
-        self.end(words)?;
-        callers.copy_from_slice(self.records_after()?);
-        let outcome = outcome_of(self.answer.result("answer buffer", reply)?);
-        if reply.refusal == 0 {
-            return Ok((outcome, Some(reply.serial)));
-        }
-        no_serial(reply)?;
-        Ok((outcome, None))
     }
 }
 
@@ -366,25 +300,34 @@ impl Server for Ours {
         sheet: &[u32],
         workspace_len: usize,
         answer_len: usize,
-    ) -> Result<Told, String> {
-        self.serve(service_infer, callers, position, sheet, workspace_len, answer_len)
-    }
-}
-
-impl Bundler for Ours {
-    fn name(&self) -> &'static str {
-        "ours, a bundle"
-    }
-
-    fn infer(
-        &mut self,
-        callers: &mut [u32],
-        position: usize,
-        bundle: &[u32],
-        workspace_len: usize,
-        answer_len: usize,
-    ) -> Result<Told, String> {
-        self.serve(components_infer, callers, position, bundle, workspace_len, answer_len)
+    ) -> Result<(Outcome, Option<u32>), String> {
+        let from = self.begin(sheet, workspace_len);
+        self.answer.fill(answer_len, from / 2);
+        self.lend_records(callers, from);
+        let (workspace, answer) = (self.workspace.lend(), self.answer.lend());
+        let records = self.records.lend();
+        // SAFETY: the pointers are those of slices with these lengths, all different; a record is a word.
+        let reply = unsafe {
+            service_infer(
+                records.as_mut_ptr().cast(),
+                records.len(),
+                position,
+                self.sheet.as_ptr(),
+                self.sheet.len(),
+                workspace.as_mut_ptr(),
+                workspace.len(),
+                answer.as_mut_ptr(),
+                answer.len(),
+            )
+        };
+        self.end(sheet)?;
+        callers.copy_from_slice(self.records_after()?);
+        let outcome = outcome_of(self.answer.result("answer buffer", reply)?);
+        if reply.refusal == 0 {
+            return Ok((outcome, Some(reply.serial)));
+        }
+        no_serial(reply)?;
+        Ok((outcome, None))
     }
 }
 
@@ -428,8 +371,8 @@ impl Drawer for Ours {
         // SAFETY: the pointers are those of slices with these lengths, all different.
         let reply = unsafe {
             service_dot(
-                self.given.as_ptr(),
-                self.given.len(),
+                self.sheet.as_ptr(),
+                self.sheet.len(),
                 workspace.as_mut_ptr(),
                 workspace.len(),
                 text.as_mut_ptr(),

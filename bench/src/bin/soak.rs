@@ -7,9 +7,9 @@
 //! Every call is held to what is cheap to check (`check`), and after it every record to the serial that
 //! is counted here; some are for callers outside the records. Calls from the pool are held to their
 //! whole answer, by a hash of what the plain implementation and the original said when the pool
-//! was made. A sample of the others is compared with both as well. Between them bundles are given, for
-//! the same callers, and held to both word by word; class loads are made, each held word by word to the
-//! oracle's, and drawings, each held byte by byte to the original's graph and the plain implementation's.
+//! was made. A sample of the others is compared with both as well. Between them class loads are made,
+//! each held word by word to the oracle's, and drawings, each held byte by byte to the original's graph
+//! and the plain implementation's.
 //!
 //! Prints a line for each of 20 slices: memory and time are to stay flat.
 
@@ -17,15 +17,12 @@ use std::process::ExitCode;
 
 use bench::clock::processor;
 use bench::guarded::Guarded;
-use oracle::bundles;
 use oracle::callers::Named;
 use oracle::compare::{Side, compare};
-use oracle::components::compare_bundle;
 use oracle::damage::{Call, Change, EDGES, Room, change, damaged};
 use oracle::drawing::compare_drawing;
 use oracle::generate;
 use oracle::load;
-use oracle::plain::component;
 use oracle::plain::dot::{Drawn, judge, lend};
 use oracle::plain::sheet::ABSENT;
 use oracle::plain::{self, Outcome};
@@ -42,15 +39,14 @@ const POOL: usize = 4_096;
 const LEAST_WORKSPACE: usize = 16_384;
 /// Words of the answer buffer: the longest answer of a pool fits.
 const ROOM: usize = 1 << 16;
-/// One of so many calls is looked at in full, and one of so many compared; a class load, a drawing and a
-/// bundle come after one of so many.
+/// One of so many calls is looked at in full, and one of so many compared; a class load and a drawing
+/// come after one of so many.
 const LOOKED_AT: u64 = 16;
 const COMPARED: u64 = 256;
 const LOADED: u64 = 256;
 /// One of so many calls is for a caller outside the records.
 const OUTSIDE: usize = 64;
 const DRAWN: u64 = 256;
-const BUNDLED: u64 = 512;
 
 /// A call whose outcome is known.
 struct Known {
@@ -146,22 +142,6 @@ struct Tally {
     loads: u64,
     /// Sheets that were drawn, and those refused.
     drawings: [u64; 2],
-    /// Bundles that were accepted, and those refused.
-    bundles: [u64; 2],
-}
-
-impl Tally {
-    fn add(&mut self, other: &Tally) {
-        let sum = |sums: &mut [u64], numbers: &[u64]| {
-            sums.iter_mut().zip(numbers).for_each(|(sum, number)| *sum += number);
-        };
-        sum(&mut self.refusals, &other.refusals);
-        sum(&mut self.drawings, &other.drawings);
-        sum(&mut self.bundles, &other.bundles);
-        self.compared += other.compared;
-        self.looked_at += other.looked_at;
-        self.loads += other.loads;
-    }
 }
 
 fn is(what: &str, holds: bool) -> Result<(), String> {
@@ -326,62 +306,6 @@ fn drawing(
     is("the sheet after a drawing", *sheet == call.sheet)
 }
 
-/// A bundle, made, damaged or with words changed, in the host's own memory, for a caller inside the
-/// records or outside, with rubbish before in all that is lent.
-fn bundle(
-    host: &mut Host,
-    service: &mut Service,
-    random: &mut Random,
-    tally: &mut Tally,
-) -> Result<(), String> {
-    let mut call = match random.percent(50) {
-        true => bundles::good(random),
-        false => bundles::damaged(random),
-    };
-    if random.percent(25) {
-        (0..random.between(1, 4)).for_each(|_| change(&mut call.sheet, random, CHANGES));
-    }
-    // The original and the plain implementation agree.
-    is("the original's answers of a bundle", compare_bundle(&call, &mut []).difference.is_none())?;
-    let judged = component::judge(&call.sheet);
-    let room = call.room.words(judged.as_ref().map_or(0, Vec::len)).min(ROOM);
-    let outside = random.percent(10);
-    let (lent, position) = host.name(outside);
-    let given = host.sheet.last_mut(call.sheet.len());
-    given.copy_from_slice(&call.sheet);
-    let words = if random.percent(5) { random.below(LEAST_WORKSPACE) } else { call.workspace };
-    let workspace = host.workspace.last_mut(words.min(LEAST_WORKSPACE));
-    let answer = host.answer.last_mut(room);
-    workspace.fill(0xdead_beef);
-    answer.fill(0xbadd_cafe);
-    let callers = lent_records(&mut host.records, lent);
-    let reply = ffi::infer_component(callers, position, given, workspace, answer);
-    let (refusal, mut words) = match plain::lend(judged.clone(), workspace.len(), room) {
-        _ if outside => (11, Vec::new()),
-        Outcome::Refused(number) => (number, Vec::new()),
-        Outcome::Accepted(words) => (0, words),
-    };
-    tally.bundles[(refusal != 0) as usize] += 1;
-    is("a bundle's refusal", reply.refusal == refusal)?;
-    is("a bundle's length", reply.length == words.len())?;
-    is("the serial of a refused bundle", refusal == 0 || reply.serial == 0)?;
-    words.resize(room, 0);
-    is("a bundle's answers", *answer == words)?;
-    is("zeros in the workspace after a bundle", workspace.iter().all(|&w| w == 0))?;
-    is("the words of a bundle", *given == call.sheet)?;
-    host.count(reply, position)?;
-    // The wrapper says the same, but for buffers, which it has itself.
-    let wrapped = service.infer_component(0, &call.sheet);
-    is(
-        "the wrapper's answers of a bundle",
-        match (&wrapped, &judged) {
-            (Ok(wrapped), Ok(words)) => wrapped.words() == words,
-            (Err(refusal), Err(number)) => refusal.number() == *number,
-            _ => false,
-        },
-    )
-}
-
 /// A class load, or arguments outside, into the host's own memory for sheets, with rubbish before: for
 /// nobody, or for a caller inside the records or outside.
 fn class_load(host: &mut Host, random: &mut Random) -> Result<(), String> {
@@ -538,9 +462,6 @@ fn slice(
             let chosen = random.percent(50).then_some(sheet);
             drawing(host, chosen, own, random, tally)?;
         }
-        if i % BUNDLED == 0 {
-            bundle(host, service, random, tally)?;
-        }
         let look = i % LOOKED_AT == 0;
         if random.percent(40) {
             let (workspace, room) = (known.workspace, known.room);
@@ -593,8 +514,8 @@ fn soak(calls: u64, seed: u64) -> Result<(), String> {
     let mut host = Host::new(std::array::from_fn(first));
     let mut service = Service::new();
     let probes = Pool::new(&mut Random::new(99));
-    // Of all slices, the probes among them in the second.
-    let (mut all, mut probed) = (Tally::default(), Tally::default());
+    let (mut accepted, mut compared, mut looked_at) = (0, 0, 0);
+    let (mut loads, mut drawings) = (0, [0; 2]);
     println!(
         "slice | calls | accepted | refused 1 to 11 | compared | memory kB | most kB | processor s | µs a call | probe µs"
     );
@@ -603,8 +524,13 @@ fn soak(calls: u64, seed: u64) -> Result<(), String> {
         let before = processor();
         slice(calls / SLICES, &mut host, &mut service, &mut random, &mut tally)?;
         let took = (processor() - before) / 1e9;
-        let probe_time = probe(&mut host, &probes, &mut probed)?;
-        all.add(&tally);
+        let mut aside = Tally::default();
+        let probed = probe(&mut host, &probes, &mut aside)?;
+        accepted += tally.refusals[0] + aside.refusals[0];
+        compared += tally.compared;
+        looked_at += tally.looked_at;
+        loads += tally.loads;
+        drawings = [drawings[0] + tally.drawings[0], drawings[1] + tally.drawings[1]];
         let made: u64 = tally.refusals.iter().sum();
         trim();
         println!(
@@ -615,7 +541,7 @@ fn soak(calls: u64, seed: u64) -> Result<(), String> {
             memory("VmRSS:"),
             memory("VmHWM:"),
             1e6 * took / made as f64,
-            probe_time / 1e3,
+            probed / 1e3,
         );
     }
     let mut wraps = [0; CALLERS];
@@ -624,16 +550,13 @@ fn soak(calls: u64, seed: u64) -> Result<(), String> {
         *wraps = next >> 32;
         is("a caller's serial at the end", u64::from(host.next[caller]) == next % (1 << 32))?;
     }
-    let accepted = all.refusals[0] + probed.refusals[0];
-    let [bundles, refused_bundles] = all.bundles;
-    is("all accepted calls", accepted + bundles == host.accepted.iter().sum::<u64>())?;
+    is("all accepted calls", accepted == host.accepted.iter().sum::<u64>())?;
     is("half of the serials wrapped", wraps == std::array::from_fn(|c| (c < WRAPPING) as u64))?;
-    let Tally { looked_at, compared, loads, drawings: [drawings, refused_drawings], .. } = all;
     println!(
         "{calls} calls of {CALLERS} callers, {accepted} accepted with the probes', {looked_at} looked at \
-         in full, {compared} compared with the original; {bundles} bundles, {refused_bundles} more \
-         refused; {loads} class loads; {drawings} drawings, {refused_drawings} more refused; the serials \
-         of {WRAPPING} callers wrapped, those of the others did not; nothing differs"
+         in full, {compared} compared with the original; {loads} class loads; {} drawings, {} more \
+         refused; the serials of {WRAPPING} callers wrapped, those of the others did not; nothing differs",
+        drawings[0], drawings[1]
     );
     Ok(())
 }

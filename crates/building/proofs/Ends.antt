@@ -1,5 +1,5 @@
 -- The start of building, where no identifier has a node, and its end, where the graph stands in rows.
-use Prim.Native.Nat.{ℕ, ◌+◌, ◌≤◌, ◌<◌, ◌*◌}
+use Prim.Native.Nat.{ℕ, ◌+◌, ◌≤◌, ◌<◌}
 use native.Mathlib.Omega.{arith}
 use mathlib.Core.List.{List, []}
 use mathlib.Core.Option.{none}
@@ -9,7 +9,7 @@ use lib.Seq.{slice, slice_empty, ext_get_or}
 use Rattle.model.specs.Limits.{most_sheet, most_identifiers}
 use Rattle.model.specs.Lists.{Every}
 use Rattle.model.specs.Building.{no_nodes}
-use Rattle.workspace.specs.Layout.{LEAST, VALUE, FBOUND, MARKS, QUEUE, EDGES, ENTRIES, PHIS, MUTATIONS, RENDERS}
+use Rattle.workspace.specs.Layout.{LEAST, VALUE, FBOUND, QUEUE, EDGES, ENTRIES, PHIS, MUTATIONS, RENDERS}
 use Rattle.workspace.specs.Rows.{Kept}
 use Rattle.workspace.specs.Sort.{clear_w, sel}
 use Rattle.workspace.specs.Graph.{node_of, tab}
@@ -48,15 +48,15 @@ without_nil t x = refl
 clean_nil : (values : List ℕ) → Clean (record { values = values; edges = []; entries = [] })
 clean_nil values = record { edges = λ x h e. without_nil 0 x; entries = λ x h e. without_nil 1 x }
 
-module _ (ws ws' : List ℕ) (size : LEAST ≤ length ws) (is : ws' ≡ clear_w ws VALUE (2 * most_identifiers)) where
-  cleared : Kept VALUE (MARKS + most_identifiers) ws ws'
-  cleared = subst (λ (l : List ℕ). Kept VALUE (MARKS + most_identifiers) ws l) (sym is) (kept_clear ws VALUE (2 * most_identifiers))
+module _ (ws ws' : List ℕ) (size : LEAST ≤ length ws) (is : ws' ≡ clear_w ws VALUE most_identifiers) where
+  cleared : Kept VALUE FBOUND ws ws'
+  cleared = subst (λ (l : List ℕ). Kept VALUE FBOUND ws l) (sym is) (kept_clear ws VALUE most_identifiers)
 
   no_logs : logs_of ws' none_held ≡ record { values = values_of ws'; edges = []; entries = [] }
   no_logs = logs_eq refl (slice_empty EDGES ws') (slice_empty ENTRIES ws')
 
   no_value : (x : ℕ) → x < most_identifiers → get_or (values_of ws') x 0 ≡ 0
-  no_value x h = slice_at VALUE FBOUND x ws' (omega arith) ∙ ap (λ (l : List ℕ). get_or l (VALUE + x) 0) is ∙ clear_at ws VALUE (2 * most_identifiers) x (omega arith) (omega (arith, h))
+  no_value x h = slice_at VALUE FBOUND x ws' (omega arith) ∙ ap (λ (l : List ℕ). get_or l (VALUE + x) 0) is ∙ clear_at ws VALUE most_identifiers x (omega arith) h
 
   no_graph : graph_of ws' none_held ≡ no_nodes most_identifiers
   unfolding graph_of graph_of_logs

@@ -11,7 +11,7 @@ use Rattle.model.specs.Built.{Built, comes}
 use Rattle.model.specs.Building.{operand, wake, no_nodes}
 use Rattle.hir.specs.Words.{phi_from}
 use Rattle.model.specs.Size as size
-use Rattle.workspace.specs.Layout.{SEEN, VALUE, FBOUND, MARKS, QUEUE, MUTATIONS, RENDERS, FUNCTIONS}
+use Rattle.workspace.specs.Layout.{SEEN, VALUE, FBOUND, QUEUE, MUTATIONS, RENDERS, FUNCTIONS}
 use Rattle.workspace.specs.Rows.{rows_of, most_lists, fb, bb, Indexed, Kept}
 use Rattle.workspace.specs.Graph.{graph_of_rows}
 use Rattle.workspace.specs.Pending.{mutations_of, renders_of}
@@ -121,7 +121,7 @@ pub record Starts (ws ws' : List ℕ) (r : Building) : Type 0 where
   pub renders : r.renders ≡ 0
   pub come : r.come ≡ 0
   pub low : take VALUE ws' ≡ take VALUE ws
-  pub high : drop (MARKS + most_identifiers) ws' ≡ drop (MARKS + most_identifiers) ws
+  pub high : drop FBOUND ws' ≡ drop FBOUND ws
   pub same : length ws' ≡ length ws
 
 -- the end of building: the rows hold the graph that was built and as many edges and entries, and the mutations and renders stay

@@ -269,12 +269,12 @@ impl Building {
     }
 }
 
-// The start of building: no identifier has a node, and none is marked.
+// The start of building: no identifier has a node.
 pub fn start(ws: &mut [u32]) -> Building
     requires { LEAST ≤ length ws.old }
     ensures { Starts ws.old ws.new result }
 {
-    workspace::clear(ws, VALUE, 2 * IDENTIFIERS);
+    workspace::clear(ws, VALUE, IDENTIFIERS);
     Building {
         held: Held {
             edges: 0,

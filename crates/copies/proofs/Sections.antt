@@ -36,9 +36,9 @@ copied-words s =
     blocks_words Effects s
     ∙ gather_keep (λ (e : Effect). is_diagnosis (row_of e.kind).role || is_render (row_of e.kind).role) effect_words (instruction_effects s)
 
-pub diagnosed-words : (s : Sheet) → gather (block_words Diagnostics) s.blocks ≡ gather diagnostic_words (map diagnostic_of (keep (λ (e : Effect). is_diagnosis (row_of e.kind).role) (instruction_effects s)))
+diagnoses : (s : Sheet) → gather (block_words Diagnostics) s.blocks ≡ gather diagnostic_words (map diagnostic_of (keep (λ (e : Effect). is_diagnosis (row_of e.kind).role) (instruction_effects s)))
 unfolding copy_words
-diagnosed-words s =
+diagnoses s =
     blocks_words Diagnostics s
     ∙ gather_keep (λ (e : Effect). is_diagnosis (row_of e.kind).role) (λ (e : Effect). diagnostic_words (diagnostic_of e)) (instruction_effects s)
     ∙ sym (gather_map diagnostic_words diagnostic_of (keep (λ (e : Effect). is_diagnosis (row_of e.kind).role) (instruction_effects s)))
@@ -46,7 +46,7 @@ diagnosed-words s =
 -- "and the diagnostics of 14 to 16 recorded", if errors are
 pub recorded-words : (s : Sheet) → errors s ≡ true → gather (block_words Diagnostics) s.blocks ≡ gather diagnostic_words (recorded s)
 unfolding recorded
-recorded-words s e = rw e (diagnosed-words s)
+recorded-words s e = rw e (diagnoses s)
 
 pub recorded_none : (s : Sheet) → errors s ≡ false → recorded s ≡ []
 unfolding recorded

@@ -6,7 +6,7 @@ use mathlib.Core.List.{List, [], ◌∷◌}
 use lib.ListN.{length}
 use Rattle.model.specs.Limits.{most_identifiers}
 use Rattle.model.specs.Lists.{each, Every}
-use Rattle.model.specs.Sheet.{InnerFunction, Place, Block, Sheet}
+use Rattle.model.specs.Sheet.{Place, Block, Sheet}
 use Rattle.model.specs.Totals.{totals}
 use Rattle.model.specs.Graph.{object, create}
 use Rattle.model.specs.Built.{Built, held_in}
@@ -16,7 +16,7 @@ use Rattle.model.proofs.HeldMore.{create_less}
 use Rattle.model.proofs.Limited.{not-over}
 use Rattle.model.proofs.Counted.{tally_one}
 use Rattle.hir.specs.Says.{place_is}
-use Rattle.hir.specs.Words.{Standing, several, block_from}
+use Rattle.hir.specs.Words.{several, block_from}
 use Rattle.building.specs.declared.Building.{Building}
 use Rattle.building.specs.Built.{nothing}
 use Rattle.building.proofs.Operands.{built_eq}
@@ -69,10 +69,10 @@ module _ {t : Sheet} {sheet : List ℕ} {f : HirFunction} (d : Describes t sheet
       }
 
 -- the blocks of an accepted sheet can be built
-pub blocks_ready : {inner : Standing InnerFunction} {sheet : List ℕ} → Accepted inner sheet → {f : HirFunction} → Describes (sheet_of inner sheet) sheet f → {ws : List ℕ} {b : Building} → First (sheet_of inner sheet) ws b
+pub blocks_ready : {sheet : List ℕ} → Accepted sheet → {f : HirFunction} → Describes (sheet_of sheet) sheet f → {ws : List ℕ} {b : Building} → First (sheet_of sheet) ws b
     → Ready (several f.blocks.count block_from sheet f.blocks.first) (Every BlockInRange) (costs block_cost) sheet ws b
-blocks_ready {inner} {sheet} a d {b = b} first =
-    let t : Sheet = sheet_of inner sheet in
+blocks_ready {sheet} a d {b = b} first =
+    let t : Sheet = sheet_of sheet in
     let limits = not-over (totals t) a.within in
     record {
       sound = first.sound;

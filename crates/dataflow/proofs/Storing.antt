@@ -1,20 +1,21 @@
 -- The loop that stores a word of each part of a list.
-use Prim.Native.Nat.{ℕ, suc, ◌+◌, ◌-◌, ◌≤◌, ◌<◌}
+use Prim.Native.Nat.{ℕ, suc, ◌+◌, ◌-◌, ◌*◌, ◌≤◌, ◌<◌}
 use native.Mathlib.Omega.{arith}
 use native.Mathlib.Numerals.{add-one}
-use mathlib.Core.Path.{◌≡◌, refl, sym, ap, subst, ◌∙◌}
+use mathlib.Core.Path.{◌≡◌, refl, sym, ap, ◌∙◌}
 use mathlib.Core.List.{List, map}
 use lib.ListN.{length, set, length-set}
 use lib.Seq.{sets}
 use Rattle.model.specs.Reading.{Position}
 use Rattle.hir.specs.declared.at.List.{List as Listed}
-use Rattle.hir.specs.declared.Inner.{Inner}
-use Rattle.hir.specs.declared.functions.Located.{Located}
-use Rattle.hir.specs.Words.{Part, Standing, several}
-use Rattle.hir.specs.InnerFunctions.{lists_at, FunctionAt, FunctionsFrom, LocatedAt}
-use Rattle.hir.proofs.Widths.{Rises}
-use Rattle.hir.proofs.Several.{several_next, first_inside, several_none}
-use Rattle.dataflow.specs.Read.{stands_at, Stores, FunctionsReady}
+use Rattle.hir.specs.Words.{Part, Standing, diagnostic_at, several, placed, diagnostics_from, function_from}
+use Rattle.model.specs.Limits.{place_width, diagnostic_width}
+use Rattle.hir.specs.Parts.{ListAt}
+use Rattle.hir.proofs.Widths.{Rises, places_rise, function_follows}
+use Rattle.hir.proofs.Several.{several_next, first_inside, several_none, placed_next, list_end}
+use Rattle.hir.proofs.Values.{list_as}
+use Rattle.hir.proofs.Values.{list_end as places_end}
+use Rattle.dataflow.specs.Read.{stands_at, Stores}
 
 -- what is left to store from `to` on makes what was to be stored; k₀ parts from c₀ on, with k of them left from c on
 module _ {A : Type 0} (f : Standing A) (word : A → ℕ) (sheet : List ℕ) where
@@ -57,23 +58,20 @@ storing_done {A} {f} {word} {sheet} {k = k} {c} {to} {ws} v h =
       next = ap (λ (p : Part (List A)). p.next) (sym none) ∙ v.next;
     }
 
--- the same of where the lists of inner functions stand, of which those that are left can be located
-pub record Locating (lists : List ℕ) (inner : Inner) (sheet : List ℕ) (k₀ : ℕ) (c₀ : Position) (to₀ : ℕ) (ws₀ : List ℕ) (k : ℕ) (c : Position) (to : ℕ) (ws : List ℕ) : Type 0 where
-  pub stored : Storing (lists_at lists inner) stands_at sheet k₀ c₀ to₀ ws₀ k c to ws
-  pub left : FunctionsFrom lists inner sheet k c
+-- an inner function: its context stands behind its diagnostics, and it ends behind both
+module _ (sheet : List ℕ) (c : Position) {l : Listed} (h : ListAt sheet c l) where
+  diagnostics_end : l.first + diagnostic_width * l.count ≡ (diagnostics_from sheet c).next
+  diagnostics_end = omega (arith, list_end diagnostic_width diagnostic_at sheet c h)
 
-pub locating_start : {lists : List ℕ} {inner : Inner} {sheet : List ℕ} {l : Listed} → FunctionsReady lists inner sheet l → (to : ℕ) (ws : List ℕ) → Locating lists inner sheet l.count l.first to ws l.count l.first to ws
-locating_start {lists} {inner} {sheet} {l} h to ws = record { stored = storing-start (lists_at lists inner) stands_at sheet l.count l.first to ws; left = h.located }
+  pub context_begin : l.first + diagnostic_width * l.count + 1 ≤ (function_from sheet c).next
+  unfolding function_from
+  context_begin = omega (arith, diagnostics_end, places_rise sheet (diagnostics_from sheet c).next)
 
-module _ {lists : List ℕ} {inner : Inner} {sheet : List ℕ} {k₀ : ℕ} {c₀ : Position} {to₀ : ℕ} {ws₀ : List ℕ} {k : ℕ} {c : Position} {to : ℕ} {ws : List ℕ}
-    (v : Locating lists inner sheet k₀ c₀ to₀ ws₀ k c to ws) (h : 0 < k) where
-  pub locating_first : FunctionAt lists inner sheet c
-  unfolding several
-  locating_first = v.left 0 h
+  pub function_end : {d : Position} {m : Listed} → d ≡ l.first + diagnostic_width * l.count → ListAt sheet d m → m.first + place_width * m.count ≡ (function_from sheet c).next
+  unfolding function_from
+  function_end e k = places_end sheet (diagnostics_from sheet c).next (list_as k (e ∙ diagnostics_end))
 
-  pub locating_turn : {r : Located} → LocatedAt lists inner sheet c r → Locating lists inner sheet k₀ c₀ to₀ ws₀ (k - 1) r.next (to + 1) (set ws to r.at)
-  unfolding several
-  locating_turn {r} at = record {
-    stored = storing_turn v.stored h at.at at.next;
-    left = λ i l. subst (λ (d : Position). FunctionAt lists inner sheet (several i (lists_at lists inner) sheet d).next) (sym at.next) (v.left (suc i) (omega (arith, l)));
-  }
+-- the next inner function stands in the sheet, if all do
+pub function_inside : {sheet : List ℕ} {k₀ : ℕ} {c₀ : Position} {to₀ : ℕ} {ws₀ : List ℕ} {k : ℕ} {c : Position} {to : ℕ} {ws : List ℕ} → Storing (placed function_from) stands_at sheet k₀ c₀ to₀ ws₀ k c to ws
+    → 0 < k → (several k₀ function_from sheet c₀).next ≤ length sheet → (function_from sheet c).next ≤ length sheet
+function_inside {sheet} {k₀} {c₀} v h i = storing_inside v function_follows h (omega (arith, placed_next function_from sheet k₀ c₀, i))

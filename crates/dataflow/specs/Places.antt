@@ -3,12 +3,11 @@ use Rattle.std.specs.Prelude.{ℕ, ◌+◌, ◌≤◌, ◌≡◌, List, ◌++◌
 use Rattle.std.proofs.Math.Seq.{slice}
 use Rattle.model.specs.Limits.{most_identifiers, most_relations, most_params, most_context}
 use Rattle.model.specs.Lists.{each, Every}
-use Rattle.model.specs.Sheet.{InnerFunction, Place}
-use Rattle.model.specs.Reading.{Position}
+use Rattle.model.specs.Sheet.{Place}
 use Rattle.model.specs.Ranges.{PlaceBelow}
 use Rattle.model.specs.Building.{first_places}
 use Rattle.hir.specs.Says.{place_is}
-use Rattle.hir.specs.Words.{Part, Standing}
+use Rattle.hir.specs.Words.{Part}
 use Rattle.hir.specs.Parts.{ListAt}
 use Rattle.workspace.specs.Layout.{SEEN, FUNCTIONS, TRACKED}
 use Rattle.workspace.specs.Tracked.{tracked_of}
@@ -16,7 +15,7 @@ use Rattle.building.specs.declared.Building.{Building}
 use Rattle.building.specs.Built.{built_of, Sound, Holding}
 use Rattle.instructions.specs.declared.Built.{Built as BuiltPart}
 use Rattle.dataflow.specs.Whole.{created_for}
-use Rattle.dataflow.specs.Accepted.{sections_of, sheet_of, Accepted}
+use Rattle.dataflow.specs.Accepted.{sections_of, sheet_of}
 use Rattle.dataflow.specs.declared.parameters.Tracked.{Tracked}
 
 -- the places ps were tracked from number `first` on, and each got a node
@@ -45,17 +44,10 @@ pub record PlacesRead (part : Part (List Place)) (first : ℕ) (ws : List ℕ) (
   pub places : Places part.what first ws b ws' r.building
   pub next : r.next ≡ part.next
 
--- by how an inner function stands
-module _ (inner : Standing InnerFunction) where
-  -- the parameters of an accepted sheet stand here
-  pub record ParamsAt (sheet : List ℕ) (at : Position) : Type 0 where
-    pub accepted : Accepted inner sheet
-    pub is : at ≡ (sections_of inner sheet).params
-
-  -- parameters, context and returns of the sheet, and its blocks
-  pub record TrackedRead (sheet ws : List ℕ) (b : Building) (ws' : List ℕ) (t : Tracked) : Type 0 where
-    pub places : Places (first_places (sheet_of inner sheet)) 0 ws b ws' t.building
-    pub params : t.params ≡ length (sheet_of inner sheet).params
-    pub context : t.context ≡ length (sheet_of inner sheet).context
-    pub returns : place_is t.returns ≡ (sheet_of inner sheet).returns
-    pub blocks : ListAt sheet (sections_of inner sheet).blocks t.blocks
+-- parameters, context and returns of the sheet, and its blocks
+pub record TrackedRead (sheet ws : List ℕ) (b : Building) (ws' : List ℕ) (t : Tracked) : Type 0 where
+  pub places : Places (first_places (sheet_of sheet)) 0 ws b ws' t.building
+  pub params : t.params ≡ length (sheet_of sheet).params
+  pub context : t.context ≡ length (sheet_of sheet).context
+  pub returns : place_is t.returns ≡ (sheet_of sheet).returns
+  pub blocks : ListAt sheet (sections_of sheet).blocks t.blocks

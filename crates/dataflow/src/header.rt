@@ -1,15 +1,16 @@
 // The sections up to the inner functions, read a second time.
 ghost use Rattle.std.specs.Prelude.{◌≡◌, ◌&&◌, not, ◌≤◌, length};
-ghost use Rattle.model.specs.Limits.{most_identifiers, identifier_width};
-ghost use Rattle.hir.specs.Words.{wide, identifier_at, several};
-ghost use Rattle.hir.specs.InnerFunctions.{inner_from, lists_at};
+ghost use Rattle.model.specs.Limits.{most_identifiers, most_functions, most_sheet, identifier_width};
+ghost use Rattle.hir.specs.Words.{wide, identifier_at, several, placed, function_from};
 ghost use Rattle.workspace.specs.Layout.{LEAST, END, FUNCTIONS};
-ghost use Rattle.dataflow.specs.Accepted.{Accepted, InnerReady};
-ghost use Rattle.dataflow.specs.Read.{end_of, stands_at, Stores, FunctionsReady, TopRead};
+ghost use Rattle.dataflow.specs.Accepted.{Accepted};
+ghost use Rattle.dataflow.specs.Read.{end_of, stands_at, Stores, TopRead};
 
-use hir::at::{FLAGS_WIDTH, IDENTIFIER_WIDTH, List, flags_at, identifier_at, list_at};
-use hir::functions::locate;
-use hir::{Flags, Inner};
+use hir::Flags;
+use hir::at::{
+    DIAGNOSTIC_WIDTH, FLAGS_WIDTH, IDENTIFIER_WIDTH, List, flags_at, identifier_at, list_at,
+    past_places,
+};
 use workspace::{END, FUNCTIONS};
 
 // Stores the ends of the identifiers; the position after them.
@@ -31,19 +32,28 @@ fn read_ends(sheet: &[u32], list: List, ws: &mut [u32]) -> usize
     next
 }
 
-// Stores where the lists of each inner function stand; the position after the inner functions.
-fn read_functions(sheet: &[u32], list: List, lists: &[u32], inner: Inner, ws: &mut [u32]) -> usize
-    requires functions_ready { FunctionsReady lists.now inner sheet.now list }
-    requires in_bounds { LEAST ≤ length ws.old }
-    ensures { Stores (lists_at lists.now inner) stands_at list FUNCTIONS sheet.now ws.old ws.new result }
+// The position after an inner function: after its diagnostics and its context.
+fn skip_function(sheet: &[u32], at: usize) -> usize
+    requires { (function_from sheet.now at).next ≤ length sheet.now }
+    ensures { result ≡ (function_from sheet.now at).next }
+{
+    let diagnostics = list_at(sheet, at);
+    let after = diagnostics.first + DIAGNOSTIC_WIDTH * (diagnostics.count as usize);
+    past_places(sheet, list_at(sheet, after))
+}
+
+// Stores where each inner function stands; the position after them.
+fn read_functions(sheet: &[u32], list: List, ws: &mut [u32]) -> usize
+    requires first_in_bounds { (several list.count function_from sheet.now list.first).next ≤ length sheet.now }
+    requires count_le_most_functions { (list.count ≤ most_functions) × ((LEAST ≤ length ws.old) × (length sheet.now ≤ most_sheet)) }
+    ensures { Stores (placed function_from) stands_at list FUNCTIONS sheet.now ws.old ws.new result }
 {
     let mut left = list.count;
     let mut next = list.first;
     let mut to = FUNCTIONS;
     while 0 < left {
-        let f = locate(sheet, next, lists, inner);
-        ws[to] = f.at as u32;
-        next = f.next;
+        ws[to] = next as u32;
+        next = skip_function(sheet, next);
         to += 1;
         left -= 1;
     }
@@ -68,17 +78,17 @@ fn records_errors(flags: Flags) -> bool
 }
 
 // The sections up to the inner functions.
-pub fn read_top(sheet: &[u32], lists: &[u32], inner: Inner, ws: &mut [u32]) -> Top
-    requires accepted { Accepted (inner_from lists.now inner) sheet.now × InnerReady lists.now inner sheet.now }
+pub fn read_top(sheet: &[u32], ws: &mut [u32]) -> Top
+    requires accepted { Accepted sheet.now }
     requires in_bounds { LEAST ≤ length ws.old }
-    ensures { TopRead lists.now inner sheet.now ws.old ws.new result }
+    ensures { TopRead sheet.now ws.old ws.new result }
 {
     let flags = flags_at(sheet, 0);
     let errors = records_errors(flags);
     let identifiers = list_at(sheet, FLAGS_WIDTH);
     let after = read_ends(sheet, identifiers, ws);
     let functions = list_at(sheet, after);
-    let next = read_functions(sheet, functions, lists, inner, ws);
+    let next = read_functions(sheet, functions, ws);
     Top {
         errors,
         function_expression: flags.function_expression,

@@ -1,20 +1,18 @@
 // The sections before the blocks of an accepted sheet, read a second time; parameters, context and returns get their nodes.
-ghost use Rattle.std.specs.Prelude.{◌≤◌, length};
-ghost use Rattle.model.specs.Sheet.{InnerFunction};
-ghost use Rattle.hir.specs.Words.{Standing, wide, place_at, several};
-ghost use Rattle.hir.specs.InnerFunctions.{inner_from};
+ghost use Rattle.std.specs.Prelude.{◌≡◌, ◌≤◌, length};
+ghost use Rattle.hir.specs.Words.{wide, place_at, several};
 ghost use Rattle.model.specs.Limits.{place_width};
 ghost use Rattle.workspace.specs.Layout.{LEAST};
 ghost use Rattle.building.specs.Built.{Sound};
-ghost use Rattle.dataflow.specs.Accepted.{Accepted, InnerReady};
+ghost use Rattle.dataflow.specs.Accepted.{sections_of, Accepted};
 ghost use Rattle.dataflow.specs.ReadFunction.{FunctionRead};
-ghost use Rattle.dataflow.specs.Places.{PlacesReady, PlacesRead, ParamsAt, TrackedRead};
+ghost use Rattle.dataflow.specs.Places.{PlacesReady, PlacesRead, TrackedRead};
 
 use crate::function::{HirFunction, Read};
 use crate::header::read_top;
 use building::{Building, NodeValue};
+use hir::Place;
 use hir::at::{List, PLACE_WIDTH, list_at, place_at};
-use hir::{Inner, Place};
 use instructions::Built;
 use workspace::tracked::track;
 
@@ -50,9 +48,10 @@ pub struct Tracked {
 
 // The sections from the parameters, which stand at `at`, up to the blocks.
 fn read_tracked(sheet: &[u32], at: usize, ws: &mut [u32], b: Building) -> Tracked
-    requires params_at { (inner : Standing InnerFunction) × ParamsAt inner sheet.now at }
+    requires accepted { Accepted sheet.now }
+    requires at_value { at ≡ (sections_of sheet.now).params }
     requires sound { Sound ws.old b }
-    ensures { (inner : Standing InnerFunction) → ParamsAt inner sheet.now at → TrackedRead inner sheet.now ws.old b ws.new result }
+    ensures { TrackedRead sheet.now ws.old b ws.new result }
 {
     let params = list_at(sheet, at);
     let p = read_places(sheet, params, 0, ws, b);
@@ -72,12 +71,12 @@ fn read_tracked(sheet: &[u32], at: usize, ws: &mut [u32], b: Building) -> Tracke
 }
 
 // The sections before the blocks.
-pub fn read_function(sheet: &[u32], lists: &[u32], inner: Inner, ws: &mut [u32]) -> Read
-    requires accepted { Accepted (inner_from lists.now inner) sheet.now × InnerReady lists.now inner sheet.now }
+pub fn read_function(sheet: &[u32], ws: &mut [u32]) -> Read
+    requires accepted { Accepted sheet.now }
     requires in_bounds { LEAST ≤ length ws.old }
-    ensures { FunctionRead lists.now inner sheet.now ws.old ws.new result }
+    ensures { FunctionRead sheet.now ws.old ws.new result }
 {
-    let top = read_top(sheet, lists, inner, ws);
+    let top = read_top(sheet, ws);
     let start = building::start(ws);
     let t = read_tracked(sheet, top.next, ws, start);
     let identifiers = top.identifiers;

@@ -35,10 +35,10 @@ unfolding state_of built
 graph_is p = ap (λ (t : State). t.graph) p.state
 
 -- the rows of what was built are in order
-pub draw-indexed : {sheet ws ws₁ : List ℕ} {p : Preparation} → Prepares (admit sheet (length ws)) sheet sheet ws ws₁ p → {f : HirFunction} {b : Building} → p ≡ Ready f b → Indexed ws₁
+pub draw-indexed : {sheet ws ws₁ : List ℕ} {p : Preparation} → Prepares (admit sheet (length ws)) sheet ws ws₁ p → {f : HirFunction} {b : Building} → p ≡ Ready f b → Indexed ws₁
 draw-indexed h e = let (_, (_, (_, (ready, _)))) = ready_by h e in ready.indexed
 
-module _ (sheet ws text ws₁ : List ℕ) {p : Preparation} (h : Prepares (admit sheet (length ws)) sheet sheet ws ws₁ p) {r : Outcome} {ws' text' : List ℕ} where
+module _ (sheet ws text ws₁ : List ℕ) {p : Preparation} (h : Prepares (admit sheet (length ws)) sheet ws ws₁ p) {r : Outcome} {ws' text' : List ℕ} where
   pub draw_refused : {k : ℕ} → p ≡ Refused k → Came (refusal k) ws₁ text r ws' text' → Drawn sheet ws text r ws' text'
   unfolding draw drawn
   draw_refused e c = let q = refused_by h e in came_as (sym (ap (drawn (length text)) q.0)) (came_long q.1 refl c)

@@ -10,5 +10,3 @@ pub mod AtLaws
 pub mod Widths
 pub mod Values
 pub mod Several
-pub mod InnerStanding
-pub mod InnerRead

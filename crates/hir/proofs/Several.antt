@@ -5,7 +5,7 @@ use mathlib.Core.Path.{◌≡◌, refl, sym, ap, subst, ◌∙◌}
 use mathlib.Core.List.{List, [], ◌∷◌}
 use lib.ListN.{length, get_or}
 use Rattle.model.specs.Reading.{Position}
-use Rattle.hir.specs.Words.{Part, Standing, word_at, wide, several, listed}
+use Rattle.hir.specs.Words.{Part, Standing, word_at, wide, several, placed, listed}
 use Rattle.hir.specs.Parts.{ListAt}
 use Rattle.hir.specs.declared.at.List.{List as Listed}
 use Rattle.hir.proofs.Standing.{part}
@@ -47,6 +47,12 @@ module _ {A : Type 0} (f : Standing A) (ws : List ℕ) where
   several_within r zero i c h = absurd (omega (arith, h))
   several_within r (suc k) zero c h = several_rises k f r ws (f ws c).next
   several_within r (suc k) (suc i) c h = several_within r k i (f ws c).next (omega (arith, h))
+
+  -- the places of parts end where the parts do
+  pub placed_next : (k : ℕ) (c : Position) → (several k (placed f) ws c).next ≡ (several k f ws c).next
+  unfolding several
+  placed_next zero c = refl
+  placed_next (suc k) c = placed_next k (f ws c).next
 
   -- a list by its count and where what it counts begins
   pub list_is : (c : Position) {l : Listed} → ListAt ws c l → listed f ws c ≡ several l.count f ws l.first

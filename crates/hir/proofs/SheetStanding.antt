@@ -12,14 +12,13 @@ use borrow.Author.Tests.{ne_eqb}
 use Rattle.model.proofs.ReadLaws.{at_most_reads, count_reads}
 use Rattle.model.specs.Limits.{flag_count, most_flag, most_identifiers, most_functions, most_params, most_context, returns_count, most_blocks, most_range, most_type, most_inner_diagnostics, most_inner_context, most_count, most_diagnostic, most_kind, most_order, most_lvalues, most_operands, no_operands, most_value, most_terminal, most_traits, place_width, effect_width, operand_width, identifier_width, diagnostic_width, flags_width, absent_count}
 use Rattle.model.specs.Lists.{pick}
-use Rattle.model.specs.Sheet.{BlockId, InnerFunction, Place, EffectKind, Operand, Phi, EffectList, Plain, Function, StoreContext, Instruction, Terminal, Other, Return, MaybeThrow, Block}
+use Rattle.model.specs.Sheet.{BlockId, Place, EffectKind, Operand, Phi, EffectList, Plain, Function, StoreContext, Instruction, Terminal, Other, Return, MaybeThrow, Block}
 use Rattle.model.specs.Traits.{effect_of, reactive_of}
 use Rattle.model.specs.Effects.{kind_of, row_of, is_create_function}
 use Rattle.model.specs.Reading.{Position, Result, got, Read, and_then, ◌>>=◌, pure, word, count, fixed, at_most, below, is_absent, times, numbered, counted, optional}
-use Rattle.model.specs.Sections.{flag, flags, type_of, identifier, diagnostic, inner_function, place, unused, extra, effect, effects, operand, phi, value_by, instruction_value, instruction, terminal, block}
+use Rattle.model.specs.Sections.{flag, flags, type_of, identifier, diagnostic, inner_function, place, unused, extra, effect, effects, operand, phi, value_by, instruction_value, instruction, terminal, block, sheet}
 use Rattle.model.specs.Sections.{terminal_of as read_terminal}
 use Rattle.model.proofs.Got.{bind_got}
-use Rattle.model.proofs.AnyInner.{sheet_by}
 use Rattle.hir.specs.Words.{Part, Standing, word_at, wide, place_of, place_at, effect_at, operand_at, identifier_at, diagnostic_at, several, listed, effects_from, counts, list_from, places_from, diagnostics_from, function_from, phi_from, value_of, value_from, instruction_from, terminal_of, terminal_from, phis_from, instructions_from, block_from, flags_at, identifiers_from, functions_from, sections_from, sheet_from}
 use Rattle.hir.proofs.Absent.{list_present, list_absent}
 use Rattle.hir.proofs.Standing.{Stands, part, StandsFor, value_is_lem, pure_stands, then_stands, held_stands, either_stands, as_stands, one_word, word_stands, at_most_stands, below_stands, count_stands, fixed_stands, counted_stands, numbered_stands}
@@ -71,7 +70,7 @@ effect_stands n m =
     (λ q. held_stands (extra m (kind_of w)) one_word (λ (x : ℕ). record { kind = kind_of w; first = p; second = q; extra = x }) (extra_stands m (kind_of w))))))
 
 -- ---- the sections before the blocks
-pub identifier_stands : StandsFor identifier (wide identifier_width identifier_at)
+identifier_stands : StandsFor identifier (wide identifier_width identifier_at)
 unfolding identifier
 identifier_stands =
     as_stands (λ ws c. simp add_assoc)
@@ -89,7 +88,7 @@ diagnostic_stands =
 places_stand : (most n : ℕ) → StandsFor (counted most (place n)) places_from
 places_stand most n = counted_stands most (place n) one_place (place_stands n)
 
-pub function_stands : (n : ℕ) → StandsFor (inner_function n) function_from
+function_stands : (n : ℕ) → StandsFor (inner_function n) function_from
 unfolding inner_function function_from
 function_stands n =
     then_stands (counted most_inner_diagnostics diagnostic) diagnostics_from _ _ (counted_stands most_inner_diagnostics diagnostic (wide diagnostic_width diagnostic_at) diagnostic_stands)
@@ -201,7 +200,7 @@ flag_stands : StandsFor flag (wide 1 (λ (ws : List ℕ) (c : Position). eqb (wo
 unfolding flag
 flag_stands = held_stands (at_most most_flag) one_word (λ (w : ℕ). eqb w 1) (at_most_stands most_flag)
 
-pub flags_stands : StandsFor flags (wide flags_width flags_at)
+flags_stands : StandsFor flags (wide flags_width flags_at)
 unfolding flags
 flags_stands =
     as_stands (λ ws c. simp add_assoc)
@@ -209,17 +208,17 @@ flags_stands =
     (λ k. then_stands flag _ _ _ flag_stands
     (λ e. held_stands flag _ (λ (v : Bool). record { function_expression = e; validations = v }) flag_stands)))
 
--- the whole, by how an inner function is read and how it then stands
-pub sheet_stands : (read : ℕ → Read InnerFunction) (inner : Standing InnerFunction) → ((n : ℕ) → StandsFor (read n) inner) → StandsFor (sheet_by read) (sheet_from inner)
-unfolding sheet_from sections_from listed
-sheet_stands read inner h =
+-- the whole
+pub sheet_stands : StandsFor sheet sheet_from
+unfolding sheet sheet_from sections_from listed
+sheet_stands =
     then_stands flags (wide flags_width flags_at) _ _ flags_stands
     (λ fs. then_stands (counted most_identifiers identifier) identifiers_from _ _ (counted_stands most_identifiers identifier (wide identifier_width identifier_at) identifier_stands)
-    (λ ids. then_stands (counted most_functions (read (length ids))) (functions_from inner) _ _ (counted_stands most_functions (read (length ids)) inner (h (length ids)))
-    (λ fns. then_stands (counted most_params (place (length ids))) places_from _ _ (places_stand most_params (length ids))
+    (λ ids. then_stands (counted most_functions (inner_function (length ids))) functions_from _ _ (counted_stands most_functions (inner_function (length ids)) function_from (function_stands (length ids)))
+    (λ inner. then_stands (counted most_params (place (length ids))) places_from _ _ (places_stand most_params (length ids))
     (λ ps. then_stands (counted most_context (place (length ids))) places_from _ _ (places_stand most_context (length ids))
     (λ cs. then_stands (fixed returns_count) one_word _ _ (fixed_stands returns_count)
     (λ k. then_stands (place (length ids)) one_place _ _ (place_stands (length ids))
     (λ r. then_stands (count most_blocks) one_word _ _ (count_stands most_blocks)
-    (λ b. then_stands (numbered b [] (block (length ids) (length fns))) (several b block_from) _ _ (blocks_stands (length ids) (length fns) b [])
-    (λ bs. pure_stands (record { flags = fs; identifiers = ids; functions = fns; params = ps; context = cs; returns = r; blocks = bs }))))))))))
+    (λ b. then_stands (numbered b [] (block (length ids) (length inner))) (several b block_from) _ _ (blocks_stands (length ids) (length inner) b [])
+    (λ bs. pure_stands (record { flags = fs; identifiers = ids; functions = inner; params = ps; context = cs; returns = r; blocks = bs }))))))))))

@@ -54,7 +54,7 @@ got_part e = part_same (got_value e) (got_next e)
 pub pure_stands : {A : Type 0} (a : A) → StandsFor (pure a) (λ (ws : List ℕ) (c : Position). part a c)
 pure_stands a ws c b d e = let n : c ≡ d = got_next e in record { is = got_part e; after = omega (arith, n); inside = λ i. omega (arith, n, i) }
 
-pub refuse_stands : {A : Type 0} (k : ℕ) (f : Standing A) → StandsFor (refuse k) f
+refuse_stands : {A : Type 0} (k : ℕ) (f : Standing A) → StandsFor (refuse k) f
 refuse_stands k f ws c a d e = absurd (not_both_lem e refl)
 
 pub then_stands : {A B : Type 0} (m : Read A) (f : Standing A) (k : A → Read B) (g : A → Standing B) → StandsFor m f → ((a : A) → StandsFor (k a) (g a))

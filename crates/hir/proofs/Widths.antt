@@ -3,7 +3,6 @@ use Prim.Native.Nat.{ℕ, zero, suc, ◌+◌, ◌*◌, ◌≤◌}
 use native.Mathlib.Omega.{arith}
 use mathlib.Core.Path.{◌≡◌, refl}
 use mathlib.Core.List.{List}
-use Rattle.model.specs.Sheet.{InnerFunction}
 use Rattle.model.specs.Reading.{Position}
 use Rattle.hir.specs.Words.{Standing, word_at, wide, place_at, effect_at, operand_at, identifier_at, diagnostic_at, several, listed, effects_from, present_count, places_from, diagnostics_from, function_from, phi_from, value_of, value_from, lvalues_at, operands_at, value_at, effects_at, instruction_from, terminal_of, terminal_from, phis_from, instructions_from, block_from, Sections, sections_from}
 use Rattle.model.specs.Limits.{place_width, effect_width, operand_width, identifier_width, diagnostic_width, flags_width}
@@ -125,14 +124,14 @@ pub record Follow (c : Position) (at : Sections) : Type 0 where
   pub blocks : at.blocks ≡ at.returns + 1 + place_width
   pub end : at.blocks + 1 ≤ at.end
 
-pub sections_follow : (inner : Standing InnerFunction) → Rises inner → (ws : List ℕ) (c : Position) → Follow c (sections_from inner ws c)
+pub sections_follow : (ws : List ℕ) (c : Position) → Follow c (sections_from ws c)
 unfolding sections_from
-sections_follow inner rises ws c =
+sections_follow ws c =
     let places = places_rise ws in
     record {
       identifiers = refl;
       functions = listed_rises (wide identifier_width identifier_at) (wide_rises identifier_width identifier_at) ws _;
-      params = listed_rises inner rises ws _;
+      params = listed_rises function_from function_follows ws _;
       context = places _;
       returns = places _;
       blocks = refl;

@@ -2,5 +2,4 @@ pub mod Numbers
 pub mod Says
 pub mod Words
 pub mod Parts
-pub mod InnerFunctions
 pub mod Table

@@ -200,37 +200,35 @@ pub record Sections : Type 0 where
 abbrev pub identifiers_from : Standing (List Identifier)
 identifiers_from = listed (wide identifier_width identifier_at)
 
+abbrev pub functions_from : Standing (List InnerFunction)
+functions_from = listed function_from
+
 abbrev pub blocks_from : Standing (List Block)
 blocks_from = listed block_from
 
--- the sections, by how an inner function stands
-module _ (inner : Standing InnerFunction) where
-  abbrev pub functions_from : Standing (List InnerFunction)
-  functions_from = listed inner
+-- "Sections in a fixed order, each after its count"
+unfoldable pub sections_from : List ℕ → Position → Sections
+sections_from ws c =
+    let functions : Position = (identifiers_from ws (c + flags_width)).next in
+    let params : Position = (functions_from ws functions).next in
+    let context : Position = (places_from ws params).next in
+    let returns : Position = (places_from ws context).next in
+    let blocks : Position = returns + 1 + place_width in
+    record { identifiers = c + flags_width; functions = functions; params = params; context = context; returns = returns; blocks = blocks; end = (blocks_from ws blocks).next }
 
-  -- "Sections in a fixed order, each after its count"
-  unfoldable pub sections_from : List ℕ → Position → Sections
-  sections_from ws c =
-      let functions : Position = (identifiers_from ws (c + flags_width)).next in
-      let params : Position = (functions_from ws functions).next in
-      let context : Position = (places_from ws params).next in
-      let returns : Position = (places_from ws context).next in
-      let blocks : Position = returns + 1 + place_width in
-      record { identifiers = c + flags_width; functions = functions; params = params; context = context; returns = returns; blocks = blocks; end = (blocks_from ws blocks).next }
-
-  -- what the words say
-  unfoldable pub sheet_from : Standing Sheet
-  sheet_from ws c =
-      let at : Sections = sections_from ws c in
-      record {
-        what = record {
-          flags = flags_at ws c;
-          identifiers = (identifiers_from ws at.identifiers).what;
-          functions = (functions_from ws at.functions).what;
-          params = (places_from ws at.params).what;
-          context = (places_from ws at.context).what;
-          returns = place_at ws (at.returns + 1);
-          blocks = (blocks_from ws at.blocks).what;
-        };
-        next = at.end;
-      }
+-- what the words say
+unfoldable pub sheet_from : Standing Sheet
+sheet_from ws c =
+    let at : Sections = sections_from ws c in
+    record {
+      what = record {
+        flags = flags_at ws c;
+        identifiers = (identifiers_from ws at.identifiers).what;
+        functions = (functions_from ws at.functions).what;
+        params = (places_from ws at.params).what;
+        context = (places_from ws at.context).what;
+        returns = place_at ws (at.returns + 1);
+        blocks = (blocks_from ws at.blocks).what;
+      };
+      next = at.end;
+    }

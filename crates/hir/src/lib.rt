@@ -4,7 +4,6 @@ ghost use Rattle.hir.specs.Numbers.{effect_number, kind_number, terminal_number,
 
 pub mod at;
 pub mod effects;
-pub mod functions;
 pub mod limits;
 pub mod parts;
 pub mod places;
@@ -21,13 +20,6 @@ pub struct BlockId(pub u32);
 // An inner function's number, below the count of inner functions.
 #[derive(Drop)]
 pub struct FunctionId(pub u32);
-
-// How the inner functions of a sheet stand: each with its lists, or as the position of one of so many sheets before it, whose lists stand elsewhere.
-#[derive(Drop)]
-pub enum Inner {
-    Listed,
-    Named(u32),
-}
 
 // An instruction's order, and each end of a range.
 #[derive(Drop)]

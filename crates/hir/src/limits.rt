@@ -66,4 +66,4 @@ pub const LEAST_LOAD_EFFECTS: u32 = 1;
 
 pub const MOST_LOAD_EFFECTS: u32 = 512;
 
-pub const MOST_SHEETS: u32 = 32;
+pub const LAST_REFUSAL: u32 = 10;

@@ -1,5 +1,5 @@
 -- What is left in both buffers at the end of a call.
-use Prim.Native.Nat.{ℕ, ◌≤◌, ◌<◌}
+use Prim.Native.Nat.{ℕ, ◌≤◌}
 use mathlib.Core.Path.{◌≡◌, refl, subst, ap, ◌∙◌}
 use mathlib.Core.List.{List}
 use lib.ListN.{length}
@@ -10,8 +10,8 @@ use Rattle.writing.specs.declared.Outcome.{Outcome}
 use Rattle.writing.specs.declared.Outcome.TheVariants.{Refused, Accepted}
 use Rattle.writing.specs.Wrote.{Wrote}
 use Rattle.writing.specs.Outcome.{Filled}
-use Rattle.writing.proofs.Ending.{filled_refused, room, too_long, filled_fitting}
-use Rattle.inference.specs.Outcome.{Came, Finished}
+use Rattle.writing.proofs.Ending.{filled_refused, filled_fitting}
+use Rattle.inference.specs.Outcome.{Came}
 
 pub came_as : {o o' : TheOutcome} {ws ans : List ℕ} {r : Outcome} {ws' ans' : List ℕ} → o ≡ o' → Came o ws ans r ws' ans' → Came o' ws ans r ws' ans'
 came_as {o} {o'} {ws} {ans} {r} {ws'} {ans'} e c = subst (λ (x : TheOutcome). Came x ws ans r ws' ans') e c
@@ -32,10 +32,3 @@ refused_all {ws = ws} p q = came_filled ws (filled_refused q) refl p
 pub answered_all : {ans ans₁ vs : List ℕ} {n : ℕ} (w : Wrote vs ans 0 ans₁ n) {ws ws₂ ans₂ : List ℕ} (ws₁ : List ℕ) → n ≤ length ans₁ → length ws₁ ≡ length ws → ws₂ ≡ cleared_from 0 ws₁ → ans₂ ≡ cleared_from n ans₁
     → Came (fits (length ans) vs) ws ans (Accepted n) ws₂ ans₂
 answered_all w ws₁ h same p q = came_filled ws₁ (filled_fitting w h q) same p
-
--- ---- the end of a call whose words were written
-pub finished_nine : {ws ans : List ℕ} {n : ℕ} {r : Outcome} {ws' ans' : List ℕ} → length ans < n → Came (refusal 9) ws ans r ws' ans' → Finished ws ans n r ws' ans'
-finished_nine h c = record { came = λ vs before w. came_as (too_long w h) (came_long refl (room w) c) }
-
-pub finished_fitting : {ws ans : List ℕ} {n : ℕ} {ws' ans' : List ℕ} → n ≤ length ans → ws' ≡ cleared_from 0 ws → ans' ≡ cleared_from n ans → Finished ws ans n (Accepted n) ws' ans'
-finished_fitting {ws} h p q = record { came = λ vs before w. answered_all w ws h refl p q }

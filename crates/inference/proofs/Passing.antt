@@ -12,11 +12,10 @@ use Rattle.model.specs.Answer.{ranges_after, range_words, section, answer, answe
 use Rattle.model.specs.SecondProperty.{no_range}
 use Rattle.model.proofs.SecondProperty.{range_at_lem, after_starts, after-ends, answer_ranges}
 use Rattle.model.proofs.Quiet.{final_ends}
-use Rattle.workspace.specs.Layout.{BASE, HANDED, STARTS, PASSED, SIMULATED, TRACKED}
+use Rattle.workspace.specs.Layout.{BASE, HANDED, STARTS, PASSED, SIMULATED}
 use Rattle.workspace.specs.Rows.{Kept}
 use Rattle.workspace.specs.Graph.{tab, graph_of_rows}
-use Rattle.workspace.proofs.Parts.{drop_more, drop-word}
-use Rattle.workspace.proofs.Places.{tracked_kept}
+use Rattle.workspace.proofs.Parts.{drop-word}
 use Rattle.workspace.proofs.Tables.{tab-length, tab_at, tab-same}
 use Rattle.building.specs.declared.Building.{Building}
 use Rattle.aliasing.specs.State.{nodes_of, seen_of, records_of, ends_of, bare, state_of}
@@ -81,12 +80,7 @@ module _ {ws ws' : List ℕ} (k : Kept STARTS PASSED ws ws') where
       tab-same count (λ (i : ℕ). get_or ws' (SIMULATED + i) 0) (λ (i : ℕ). get_or ws (SIMULATED + i) 0) (λ i h. drop-word PASSED (SIMULATED + i) ws ws' (omega arith) k.high)
 
   left_kept : {s : Sheet} {count next : ℕ} → Left s ws count next → Left s ws' count next
-  left_kept {count = count} l = record {
-    places = l.places ∙ sym (tracked_kept ws ws' count (drop_more PASSED TRACKED ws' ws (omega arith) k.high));
-    counts = counts_kept count ∙ l.counts;
-    state = state_kept ∙ l.state;
-    unused = l.unused;
-  }
+  left_kept {count = count} l = record { counts = counts_kept count ∙ l.counts; state = state_kept ∙ l.state; unused = l.unused }
 
   walkable_kept : {ws₀ : List ℕ} → Walkable ws₀ ws → Walkable ws₀ ws'
   walkable_kept w =

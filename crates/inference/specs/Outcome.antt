@@ -1,19 +1,14 @@
 -- What a call promises: its result and both buffers at exit are those of document 01's call.
 use Rattle.std.specs.Prelude.{ℕ, ◌≡◌, List, length as len}
-use Rattle.model.specs.Call.{Outcome as TheOutcome, fits, outcome, answer_after, workspace_after}
+use Rattle.model.specs.Call.{Outcome as TheOutcome, outcome, answer_after, workspace_after}
 use Rattle.writing.specs.declared.Outcome.{Outcome}
 use Rattle.writing.specs.Outcome.{returned_by, outcome_says}
-use Rattle.writing.specs.Wrote.{Wrote}
 
 -- a call that came to `o`
 pub record Came (o : TheOutcome) (ws ans : List ℕ) (r : Outcome) (ws' ans' : List ℕ) : Type 0 where
   pub returned : outcome_says r ≡ returned_by o
   pub answer : ans' ≡ answer_after (len ans) o
   pub workspace : ws' ≡ workspace_after (len ws)
-
--- words were written from the buffer's first on, so many in all: the answer, or 9
-pub record Finished (ws ans : List ℕ) (n : ℕ) (r : Outcome) (ws' ans' : List ℕ) : Type 0 where
-  pub came : (vs before : List ℕ) → Wrote vs before 0 ans n → Came (fits (len before) vs) ws before r ws' ans'
 
 -- the call
 abbrev pub Inferred : List ℕ → List ℕ → List ℕ → Outcome → List ℕ → List ℕ → Type 0

@@ -1,17 +1,15 @@
 -- A call stage by stage: what is prepared, and what is answered.
 use Rattle.std.specs.Prelude.{ℕ, ◌+◌, ◌*◌, ◌≤◌, ◌<◌, Bool, false, ◌≡◌, List, [], ◌++◌, map, length, get_or, drop, ltb}
-use Rattle.model.specs.Limits.{most_sheet, most_identifiers, most_params, most_context, most_renders, most_index, place_width}
+use Rattle.model.specs.Limits.{most_identifiers, most_params, most_context, most_renders, most_index, place_width}
 use Rattle.model.specs.Lists.{pick}
 use Rattle.model.specs.Sheet.{Sheet}
-use Rattle.model.specs.Reading.{Position, Result, got, refused}
+use Rattle.model.specs.Reading.{Result, got, refused}
 use Rattle.model.specs.State.{State}
 use Rattle.model.specs.Building.{build}
 use Rattle.model.specs.Summary.{built, marked, copied}
 use Rattle.model.specs.Ranges.{SheetBelow}
 use Rattle.model.specs.Answer.{answer, answer_words, middle_words, operand_words, range_words, place_words, section}
-use Rattle.model.specs.Call.{read_with, applies}
-use Rattle.hir.specs.declared.Inner.{Inner}
-use Rattle.hir.specs.InnerFunctions.{inner_read, ListsOf}
+use Rattle.model.specs.Call.{IsSheet, applies}
 use Rattle.workspace.specs.Layout.{RECORD, END, SEEN, HANDED, STARTS, PASSED}
 use Rattle.workspace.specs.Rows.{Indexed, Kept}
 use Rattle.workspace.specs.Pending.{mutations_of, renders_of}
@@ -32,15 +30,13 @@ use Rattle.dataflow.specs.Function.{Limited, Describes, Tracking, Stands}
 use Rattle.inference.specs.declared.Preparation.{Preparation}
 use Rattle.inference.specs.declared.Preparation.TheVariants.{Refused, Ready}
 
--- a sheet whose inner functions stand so was read. Unless `copies`, no effect of it is copied; `applied` says whether an instruction has Apply
-pub record SheetRead (lists : List ℕ) (inner : Inner) (sheet : List ℕ) (copies applied : Bool) : Type 0 where
-  pub given : ListsOf lists inner sheet
-  pub short : length sheet ≤ most_sheet
-  pub what : Sheet
-  pub end : Position
-  pub is : read_with (inner_read lists inner) sheet ≡ got what end
-  pub none : copies ≡ false → copied what ≡ []
-  pub applies : applied ≡ applies what
+-- unless `copies`, no effect of the sheet is copied
+abbrev pub NoneUnless : Bool → List ℕ → Type 0
+NoneUnless copies sheet = copies ≡ false → (s : Sheet) → IsSheet sheet s → copied s ≡ []
+
+-- `applies` says whether an instruction of the sheet has Apply
+abbrev pub AppliesIs : Bool → List ℕ → Type 0
+AppliesIs b sheet = (s : Sheet) → IsSheet sheet s → b ≡ applies s
 
 -- there is no record, and the ends are those of the first n words
 pub record Keeps (n : ℕ) (ws ws' : List ℕ) : Type 0 where
@@ -66,15 +62,15 @@ pub record Prepared (s : Sheet) (sheet lists ws : List ℕ) (f : HirFunction) (b
   pub few_renders : b.renders ≤ most_renders
 
 -- the refusal of a reading or of what building holds, or its sheet built
-abbrev pub PreparedIs : Result Sheet → List ℕ → List ℕ → List ℕ → List ℕ → Preparation → Type 0
-PreparedIs (refused k) sheet lists ws ws' (Refused j) = (j ≡ k) × (length ws' ≡ length ws)
-PreparedIs (refused k) sheet lists ws ws' (Ready f b) = ⊥
-PreparedIs (got s c) sheet lists ws ws' (Refused j) = ⊥
-PreparedIs (got s c) sheet lists ws ws' (Ready f b) = Prepared s sheet lists ws' f b × (length ws' ≡ length ws)
+abbrev pub PreparedIs : Result Sheet → List ℕ → List ℕ → List ℕ → Preparation → Type 0
+PreparedIs (refused k) sheet ws ws' (Refused j) = (j ≡ k) × (length ws' ≡ length ws)
+PreparedIs (refused k) sheet ws ws' (Ready f b) = ⊥
+PreparedIs (got s c) sheet ws ws' (Refused j) = ⊥
+PreparedIs (got s c) sheet ws ws' (Ready f b) = Prepared s sheet sheet ws' f b × (length ws' ≡ length ws)
 
 -- what was prepared by a reading that gave x
-pub record Prepares (x : Result Sheet) (sheet lists ws ws' : List ℕ) (r : Preparation) : Type 0 where
-  pub is : PreparedIs x sheet lists ws ws' r
+pub record Prepares (x : Result Sheet) (sheet ws ws' : List ℕ) (r : Preparation) : Type 0 where
+  pub is : PreparedIs x sheet ws ws' r
 
 -- the words of params and context
 abbrev pub most_tracked_words : ℕ

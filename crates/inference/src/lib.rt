@@ -1,16 +1,15 @@
 // The port of `infer_mutation_aliasing_ranges`.
 ghost use Rattle.std.specs.Prelude.{◌+◌, ◌≤◌, length};
-ghost use Rattle.model.specs.Limits.{most_sheet, most_identifiers};
+ghost use Rattle.model.specs.Limits.{most_identifiers};
 ghost use Rattle.workspace.specs.Layout.{LEAST};
 ghost use Rattle.model.specs.Sheet.{Sheet};
-ghost use Rattle.model.specs.Call.{refusal, read_with, holds, admit};
-ghost use Rattle.hir.specs.InnerFunctions.{inner_read, ListsOf};
+ghost use Rattle.model.specs.Call.{refusal, read, holds, admit, IsSheet};
 ghost use Rattle.dataflow.specs.Function.{Limited};
-ghost use Rattle.inference.specs.Outcome.{Came, Finished, Inferred};
+ghost use Rattle.inference.specs.Outcome.{Came, Inferred};
 ghost use Rattle.writing.specs.Wrote.{farthest};
 ghost use Rattle.operands.specs.Ranges.{most_ranges};
 ghost use Rattle.operands.specs.Whole.{Passing, most_operand_words};
-ghost use Rattle.inference.specs.Whole.{SheetRead, Keeps, Prepared, Prepares, most_tracked_words, TrackedPut, most_middle, MiddlePut, PassedPut, most_answer, AnswerPut};
+ghost use Rattle.inference.specs.Whole.{NoneUnless, AppliesIs, Keeps, Prepared, Prepares, most_tracked_words, TrackedPut, most_middle, MiddlePut, PassedPut, most_answer, AnswerPut};
 
 use aliasing::process_mutations;
 use building::Building;
@@ -18,8 +17,7 @@ use dataflow::build_blocks;
 use dataflow::function::HirFunction;
 use dataflow::parameters::read_function;
 use diagnostics::put_diagnostics;
-use hir::Inner;
-use hir::limits::{MOST_RELATIONS, MOST_SHEET};
+use hir::limits::MOST_RELATIONS;
 use operands::ranges::put_ranges;
 use operands::{RANGE_WIDTH, put_operands};
 use reading::Verdict;
@@ -45,20 +43,15 @@ fn keep(ws: &mut [u32], n: usize)
     clear(ws, END + n, IDENTIFIERS - n);
 }
 
-// Part 1: builds the data flow graph of a sheet that was read, whose inner functions stand so, and lays it out for the walks; 8, if it would hold too much. Unless `copies`, its instructions have no effect of kind 14 to 17; `applies` says whether one has Apply.
-fn build(
-    sheet: &[u32],
-    lists: &[u32],
-    inner: Inner,
-    ws: &mut [u32],
-    copies: bool,
-    applies: bool,
-) -> Preparation
+// Part 1: builds the data flow graph of a sheet that was read and lays it out for the walks; 8, if it would hold too much. Unless `copies`, its instructions have no effect of kind 14 to 17; `applies` says whether one has Apply.
+fn build(sheet: &[u32], ws: &mut [u32], copies: bool, applies: bool) -> Preparation
     requires in_bounds { LEAST ≤ length ws.old }
-    requires sheet_read { SheetRead lists.now inner sheet.now copies applies }
-    ensures { Prepares (holds (read_with (inner_read lists.now inner) sheet.now)) sheet.now lists.now ws.old ws.new result }
+    requires sheet { (s : Sheet) × IsSheet sheet.now s }
+    requires none_unless { NoneUnless copies sheet.now }
+    requires applies_is { AppliesIs applies sheet.now }
+    ensures { Prepares (holds (read sheet.now)) sheet.now ws.old ws.new result }
 {
-    let read = read_function(sheet, lists, inner, ws);
+    let read = read_function(sheet, ws);
     let mut function = read.function;
     function.copies = copies;
     function.applies = applies;
@@ -81,32 +74,20 @@ fn build(
     Preparation::Ready(function, building)
 }
 
-// Reads a sheet whose inner functions stand so, and builds it: refusals 3 to 8 and 12, or the sheet before its first mutation.
-pub fn prepare_sheet(sheet: &[u32], lists: &[u32], inner: Inner, ws: &mut [u32]) -> Preparation
-    requires in_bounds { LEAST ≤ length ws.old }
-    requires lists_of { ListsOf lists.now inner sheet.now × (length sheet.now ≤ most_sheet) }
-    ensures { Prepares (holds (read_with (inner_read lists.now inner) sheet.now)) sheet.now lists.now ws.old ws.new result }
-{
-    match reading::read(sheet, lists, inner) {
-        Verdict::Refused(k) => Preparation::Refused(k),
-        Verdict::Accepted(t) => {
-            let copies = (0 < t.diagnoses) | (0 < t.renders);
-            build(sheet, lists, inner, ws, copies, 0 < t.applies)
-        }
-    }
-}
-
 // Reads a sheet and builds it: refusals 1 to 8, or the sheet before its first mutation.
 pub fn prepare(sheet: &[u32], ws: &mut [u32]) -> Preparation
-    ensures { Prepares (admit sheet.now (length ws.old)) sheet.now sheet.now ws.old ws.new result }
+    ensures { Prepares (admit sheet.now (length ws.old)) sheet.now ws.old ws.new result }
 {
     if ws.len() < LEAST {
         return Preparation::Refused(1);
     }
-    if MOST_SHEET < sheet.len() {
-        return Preparation::Refused(2);
+    match reading::read(sheet) {
+        Verdict::Refused(k) => Preparation::Refused(k),
+        Verdict::Accepted(t) => {
+            let copies = (0 < t.diagnoses) | (0 < t.renders);
+            build(sheet, ws, copies, 0 < t.applies)
+        }
     }
-    prepare_sheet(sheet, sheet, Inner::Listed, ws)
 }
 
 // The sections of params and context.
@@ -197,18 +178,6 @@ pub fn refuse(ws: &mut [u32], answer: &mut [u32], k: u32) -> Outcome
     Outcome::Refused(k)
 }
 
-// An answer of so many words was written: 9 where the buffer is shorter, else what stands behind it is cleared.
-pub fn finish(workspace: &mut [u32], answer: &mut [u32], length: usize) -> Outcome
-    ensures { Finished workspace.old answer.old length result workspace.new answer.new }
-{
-    if answer.len() < length {
-        return refuse(workspace, answer, 9);
-    }
-    clear_from(workspace, 0);
-    clear_from(answer, length);
-    Outcome::Accepted(length)
-}
-
 // The whole call: the answer of an accepted sheet, or 9 where the buffer is shorter.
 pub fn infer_mutation_aliasing_ranges(
     sheet: &[u32],
@@ -224,7 +193,12 @@ pub fn infer_mutation_aliasing_ranges(
                 return refuse(workspace, answer, 10);
             }
             let length = put_answer(sheet, sheet, workspace, f, b, answer, 0);
-            finish(workspace, answer, length)
+            if answer.len() < length {
+                return refuse(workspace, answer, 9);
+            }
+            clear_from(workspace, 0);
+            clear_from(answer, length);
+            Outcome::Accepted(length)
         }
     }
 }

@@ -6,7 +6,7 @@ use mathlib.Core.Bool.{Bool, true, false, true≢false}
 use mathlib.Core.List.{List, [], ◌∷◌, ◌++◌, append_assoc}
 use lib.ListN.{length, get_or, replicate}
 use lib.Dec.{ltb}
-use Rattle.model.specs.Limits.{least_workspace}
+use Rattle.model.specs.Limits.{least_workspace, most_relations}
 use Rattle.model.specs.Lists.{pick, gather, each}
 use Rattle.model.specs.Sheet.{Sheet}
 use Rattle.model.specs.Reading.{Position, Result, got, refused}
@@ -17,8 +17,7 @@ use Rattle.model.specs.Answer.{Range, range_words, answer, answer_words}
 use Rattle.model.specs.Call.{Outcome, refusal, accepted, read, IsSheet, applies, fits, answered, holds, admit, outcome, answer_after}
 use Rattle.model.specs.Demand3.{how}
 use Rattle.model.specs.CallEnds.{end_at, CallEnds}
-use Rattle.model.proofs.Got.{pick_got}
-use Rattle.model.proofs.WhenRead.{holds_got}
+use Rattle.model.proofs.ReadLaws.{is_got}
 use Rattle.model.specs.Operands.{before_pass}
 use Rattle.model.specs.EndsSet.{instructions_of, end_after}
 use Rattle.model.specs.SecondProperty.{no_range, SecondProperty}
@@ -43,8 +42,20 @@ module _ (ws : List ℕ) (workspace room : ℕ) (a : List ℕ) where
       go false y = ap words_of y
 
   admitted : (s : Sheet) (c : Position) → admit ws workspace ≡ got s c → IsSheet ws s
-  unfolding admit
-  admitted s c e = (c, (holds_got (read ws) s c (pick_got (ltb workspace least_workspace) 1 (holds (read ws)) e).1).0)
+  unfolding admit holds
+  admitted s c e = go (ltb workspace least_workspace) e
+    where
+      held : (r : Result Sheet) → holds r ≡ got s c → r ≡ got s c
+      held (refused k) y = y
+      held (got t d) y = passed (ltb most_relations (build t).held) y
+        where
+          passed : (b : Bool) → pick b (refused 8) (got t d) ≡ got s c → got t d ≡ got s c
+          passed true z = absurd (true≢false (sym (ap is_got z)))
+          passed false z = z
+
+      go : (t : Bool) → pick t (refused 1) (holds (read ws)) ≡ got s c → IsSheet ws s
+      go true y = absurd (true≢false (sym (ap is_got y)))
+      go false y = (c, held (read ws) y)
 
   answered-sheet : (r : Result Sheet) → admit ws workspace ≡ r → answered room r ≡ accepted a → (s : Sheet) × IsSheet ws s × (answer_words (answer s) ≡ a)
   unfolding answered

@@ -26,7 +26,7 @@ module _ (cs : List Caller) (i : ℕ) (ws : List ℕ) (workspace room : ℕ) whe
   first_11 h = simp (le-leb (length cs) i h)
 
   pub inside : i < length cs → call_for cs i ws workspace room ≡ replaces cs i (call (get_or cs i new_caller) ws workspace room)
-  unfolding call_for call outside
+  unfolding call_for outside
   inside h = simp (lt-leb (length cs) i h)
 
   -- inside the records it is refused or accepted as the sheet is

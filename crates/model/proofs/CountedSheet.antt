@@ -6,16 +6,15 @@ use mathlib.Core.Bool.{Bool, true, false, true≢false}
 use mathlib.Core.List.{List}
 use mathlib.Core.Logic.{◌⊎◌, inl, inr}
 use Rattle.model.specs.Lists.{pick, each}
-use Rattle.model.specs.Sheet.{EffectKind, InnerFunction, Sheet}
+use Rattle.model.specs.Sheet.{EffectKind, Sheet}
 use Rattle.model.specs.Effects.{Role, relation, mutation, render, diagnosis, nothing, row_of, is_alias}
-use Rattle.model.specs.Reading.{Position, Result, got, refused, Read, pure, refuse}
+use Rattle.model.specs.Reading.{Position, Result, got, refused, pure, refuse}
 use Rattle.model.specs.Sections.{no_question, inner_function, sheet}
 use Rattle.model.specs.Asking as asking
 use Rattle.model.specs.Asking.{Asks, tell_block}
 use Rattle.model.specs.Totals.{Totals, totals, over}
-use Rattle.model.specs.Counting.{no_totals, with_relation, count_role, count_kind, counting_with, counting_by, counting, counted_sheet}
+use Rattle.model.specs.Counting.{no_totals, with_relation, count_role, count_kind, counting_by, counting, counted_sheet}
 use Rattle.model.proofs.Got.{got_value, not_both_lem}
-use Rattle.model.proofs.AnyInner.{sheet_by}
 use Rattle.model.proofs.Asked.{itself, sheet_follows, never}
 use Rattle.model.proofs.Limited.{Above, Limit, over_limit}
 use Rattle.model.proofs.TotalsAdded.{sheet_adds}
@@ -23,12 +22,12 @@ use Rattle.model.proofs.Ahead.{Comes, same, neither, stopped}
 use Rattle.model.proofs.SheetAhead.{Asked, on, apart, Related, sheet_ahead}
 
 -- the same count, and nothing is asked
-abbrev quiet : (ℕ → Read InnerFunction) → Asks
-quiet function = record { Tally = Totals; none = no_totals; effect = count_kind; relation = with_relation; ask = λ t. no_question; inner = function }
+abbrev quiet : Asks
+quiet = record { Tally = Totals; none = no_totals; effect = count_kind; relation = with_relation; ask = λ t. no_question; inner = inner_function }
 
-quiet_sheet : (function : ℕ → Read InnerFunction) (ws : List ℕ) (c : Position) → asking.sheet (quiet function) ws c ≡ sheet_by function ws c
-quiet_sheet function ws c =
-    never (asking.sheet (quiet function)) (sheet_by function) (sheet_follows (λ (k : ℕ). ⊥) (quiet function) (λ t. itself (λ (k : ℕ). ⊥) no_question)) ws c
+quiet_sheet : (ws : List ℕ) (c : Position) → asking.sheet quiet ws c ≡ sheet ws c
+unfolding sheet
+quiet_sheet ws c = never (asking.sheet quiet) sheet (sheet_follows (λ (k : ℕ). ⊥) quiet (λ t. itself (λ (k : ℕ). ⊥) no_question)) ws c
 
 -- ---- a count does not lower a total
 pub role_above : (r : Role) (t : Totals) → Above t (count_role r t)
@@ -47,8 +46,8 @@ kind_above true k t = go (is_alias k)
     go true = role_above relation t
     go false = role_above nothing t
 
--- ---- both readings, by what is over a limit and how an inner function is read
-module _ (over : Totals → Bool) (limit : Limit over) (function : ℕ → Read InnerFunction) where
+-- ---- both readings, by what is over a limit
+module _ (over : Totals → Bool) (limit : Limit over) where
   -- the totals so far are the same, and none is over its limit
   abbrev Within : Totals → Totals → Type 0
   Within t u = (t ≡ u) × (over t ≡ false)
@@ -56,14 +55,14 @@ module _ (over : Totals → Bool) (limit : Limit over) (function : ℕ → Read 
   abbrev Over : Totals → Type 0
   Over u = over u ≡ true
 
-  asked-totals : (t u : Totals) → t ≡ u → Asked (counting_with over function) (quiet function) (Unit {0}) Within Over t u
+  asked-totals : (t u : Totals) → t ≡ u → Asked (counting_by over) quiet (Unit {0}) Within Over t u
   asked-totals t u e = go (over t) refl
     where
-      go : (b : Bool) → over t ≡ b → Asked (counting_with over function) (quiet function) (Unit {0}) Within Over t u
+      go : (b : Bool) → over t ≡ b → Asked (counting_by over) quiet (Unit {0}) Within Over t u
       go true o = apart tt (λ ws c. ap (λ (x : Bool). pick x (refuse 8) (pure tt) ws c) o) (sym (ap over e) ∙ o)
       go false o = on (λ ws c. ap (λ (x : Bool). pick x (refuse 8) (pure tt) ws c) o) (λ ws c. refl) (e, o)
 
-  related : Related (counting_with over function) (quiet function) (Unit {0}) Within Over
+  related : Related (counting_by over) quiet (Unit {0}) Within Over
   related = record {
     effect = λ terminal k t u r. asked-totals _ _ (ap (count_kind terminal k) r.0);
     relation = λ t u r. asked-totals _ _ (ap (λ (x : Totals). with_relation x) r.0);
@@ -74,57 +73,43 @@ module _ (over : Totals → Bool) (limit : Limit over) (function : ℕ → Read 
   abbrev told : Sheet → Totals
   told s = each (tell_block counting) s.blocks no_totals
 
-  side_by_side : (ws : List ℕ) (c : Position) → Comes (Unit {0}) Within Over told told (asking.sheet (counting_with over function) ws c) (sheet_by function ws c)
+  side_by_side : (ws : List ℕ) (c : Position) → Comes (Unit {0}) Within Over told told (asking.sheet (counting_by over) ws c) (sheet ws c)
   unfolding tell_block
   side_by_side ws c =
-      subst (λ (y : Result Sheet). Comes (Unit {0}) Within Over told told (asking.sheet (counting_with over function) ws c) y) (quiet_sheet function ws c)
-      (sheet_ahead (counting_with over function) (quiet function) (Unit {0}) Within Over related refl (refl, limit.none) ws c)
+      subst (λ (y : Result Sheet). Comes (Unit {0}) Within Over told told (asking.sheet (counting_by over) ws c) y) (quiet_sheet ws c)
+      (sheet_ahead (counting_by over) quiet (Unit {0}) Within Over related refl (refl, limit.none) ws c)
 
   module _ (ws : List ℕ) (c : Position) where
     -- what is accepted is what was read, with its totals within their limits
-    pub got_with : (s : Sheet) (d : Position) → asking.sheet (counting_with over function) ws c ≡ got s d → (sheet_by function ws c ≡ got s d) × (over (totals s) ≡ false)
-    got_with s d e = go (side_by_side ws c)
+    pub got_by : (s : Sheet) (d : Position) → asking.sheet (counting_by over) ws c ≡ got s d → (sheet ws c ≡ got s d) × (over (totals s) ≡ false)
+    got_by s d e = go (side_by_side ws c)
       where
-        go : Comes (Unit {0}) Within Over told told (asking.sheet (counting_with over function) ws c) (sheet_by function ws c) → (sheet_by function ws c ≡ got s d) × (over (totals s) ≡ false)
+        go : Comes (Unit {0}) Within Over told told (asking.sheet (counting_by over) ws c) (sheet ws c) → (sheet ws c ≡ got s d) × (over (totals s) ≡ false)
         go (same v k x y r) = (y ∙ sym x ∙ e, sym (ap (λ (z : Sheet). over (told z)) (got_value (sym x ∙ e)) ∙ ap over (sheet_adds s)) ∙ r.1)
         go (neither k x y) = absurd (not_both_lem e x)
         go (stopped m x l) = absurd (not_both_lem e x)
 
     -- and the other way
-    pub within_with : (s : Sheet) (d : Position) → sheet_by function ws c ≡ got s d → over (totals s) ≡ false → asking.sheet (counting_with over function) ws c ≡ got s d
-    within_with s d e o = go (side_by_side ws c)
+    pub within_by : (s : Sheet) (d : Position) → sheet ws c ≡ got s d → over (totals s) ≡ false → asking.sheet (counting_by over) ws c ≡ got s d
+    within_by s d e o = go (side_by_side ws c)
       where
-        go : Comes (Unit {0}) Within Over told told (asking.sheet (counting_with over function) ws c) (sheet_by function ws c) → asking.sheet (counting_with over function) ws c ≡ got s d
+        go : Comes (Unit {0}) Within Over told told (asking.sheet (counting_by over) ws c) (sheet ws c) → asking.sheet (counting_by over) ws c ≡ got s d
         go (same v k x y r) = x ∙ sym y ∙ e
         go (neither k x y) = absurd (not_both_lem e y)
         go (stopped m x l) = absurd (true≢false (sym (l s d e) ∙ ap over (sheet_adds s) ∙ o))
 
     -- a refusal is the reading's own, or 8
-    pub refused_with_lem : (k : ℕ) → asking.sheet (counting_with over function) ws c ≡ refused k → (sheet_by function ws c ≡ refused k) ⊎ (k ≡ 8)
-    refused_with_lem k e = go (side_by_side ws c)
+    pub refused_by : (k : ℕ) → asking.sheet (counting_by over) ws c ≡ refused k → (sheet ws c ≡ refused k) ⊎ (k ≡ 8)
+    refused_by k e = go (side_by_side ws c)
       where
         number : Result Sheet → ℕ
         number (got s d) = 0
         number (refused n) = n
 
-        go : Comes (Unit {0}) Within Over told told (asking.sheet (counting_with over function) ws c) (sheet_by function ws c) → (sheet_by function ws c ≡ refused k) ⊎ (k ≡ 8)
+        go : Comes (Unit {0}) Within Over told told (asking.sheet (counting_by over) ws c) (sheet ws c) → (sheet ws c ≡ refused k) ⊎ (k ≡ 8)
         go (same v j x y r) = absurd (not_both_lem x e)
         go (neither j x y) = inl (y ∙ sym x ∙ e)
         go (stopped m x l) = inr (ap number (sym e ∙ x))
-
--- as Sections reads them
-module _ (over : Totals → Bool) (limit : Limit over) (ws : List ℕ) (c : Position) where
-  pub got_by : (s : Sheet) (d : Position) → asking.sheet (counting_by over) ws c ≡ got s d → (sheet ws c ≡ got s d) × (over (totals s) ≡ false)
-  unfolding sheet
-  got_by = got_with over limit inner_function ws c
-
-  pub within_by : (s : Sheet) (d : Position) → sheet ws c ≡ got s d → over (totals s) ≡ false → asking.sheet (counting_by over) ws c ≡ got s d
-  unfolding sheet
-  within_by = within_with over limit inner_function ws c
-
-  pub refused_by : (k : ℕ) → asking.sheet (counting_by over) ws c ≡ refused k → (sheet ws c ≡ refused k) ⊎ (k ≡ 8)
-  unfolding sheet
-  refused_by = refused_with_lem over limit inner_function ws c
 
 -- ---- of mutations and renders
 module _ (ws : List ℕ) (c : Position) where

@@ -11,10 +11,9 @@ use Rattle.model.specs.Limits.{most_identifiers, most_functions, most_params, mo
 use Rattle.model.specs.Lists.{pick, Every}
 use Rattle.model.specs.Sheet.{Identifier, InnerFunction, BlockId, Place, unused_place, EffectKind, EffectList, Operand, present, Plain, Function, StoreContext, Terminal, Other, Return, MaybeThrow, order_of}
 use Rattle.model.specs.Effects.{kind_of, row_of, is_create_function}
-use Rattle.model.specs.Reading.{Read, word, count, fixed, at_most, below, numbered, counted, optional}
+use Rattle.model.specs.Reading.{word, count, fixed, at_most, below, numbered, counted, optional}
 use Rattle.model.specs.Sections.{flags, identifier, diagnostic, inner_function, place, unused, extra, effect, effects, operand, phi, value_by, instruction_value, instruction, terminal_of, terminal, block, sheet}
 use Rattle.model.specs.Ranges.{PlaceBelow, PlacesBelow, FunctionBelow, EffectBelow, PhiBelow, ValueBelow, InstructionBelow, TerminalBelow, BlockBelow, SheetBelow}
-use Rattle.model.proofs.AnyInner.{sheet_by}
 use Rattle.model.proofs.ReadLaws.{Reads, pure_reads, pick_reads, both_reads, bind_reads, then_reads, optional_reads, at_most_reads, below_reads, numbered_reads, counted_reads, counted_length}
 
 pub place_reads : (n : ℕ) → Reads (place n) (PlaceBelow n)
@@ -125,7 +124,7 @@ places_reads : (most n : ℕ) → Reads (counted most (place n)) (λ (l : List P
 places_reads most n =
     both_reads (counted most (place n)) (Every (PlaceBelow n)) (λ (l : List Place). length l ≤ most) (list_reads n most) (counted_length most (place n))
 
-pub function_reads : (n : ℕ) → Reads (inner_function n) (FunctionBelow n)
+function_reads : (n : ℕ) → Reads (inner_function n) (FunctionBelow n)
 unfolding inner_function
 function_reads n =
     then_reads (counted most_inner_diagnostics diagnostic) _ (FunctionBelow n)
@@ -141,18 +140,17 @@ block_reads n m h b =
     (λ t ht. pure_reads _ (BlockBelow n m) (hp, hi, ht))))
 
 -- the inner functions, their count within the limit
-functions_reads : (n : ℕ) (f : Read InnerFunction) → Reads f (FunctionBelow n) → Reads (counted most_functions f) (λ (l : List InnerFunction). Every (FunctionBelow n) l × (length l ≤ most_functions))
-functions_reads n f h =
-    both_reads (counted most_functions f) (Every (FunctionBelow n)) (λ (l : List InnerFunction). length l ≤ most_functions)
-    (counted_reads (FunctionBelow n) most_functions f h) (counted_length most_functions f)
+functions_reads : (n : ℕ) → Reads (counted most_functions (inner_function n)) (λ (l : List InnerFunction). Every (FunctionBelow n) l × (length l ≤ most_functions))
+functions_reads n =
+    both_reads (counted most_functions (inner_function n)) (Every (FunctionBelow n)) (λ (l : List InnerFunction). length l ≤ most_functions)
+    (counted_reads (FunctionBelow n) most_functions (inner_function n) (function_reads n)) (counted_length most_functions (inner_function n))
 
--- with any way to read an inner function, if its context is below N
-pub sections_read : (function : ℕ → Read InnerFunction) → ((n : ℕ) → Reads (function n) (FunctionBelow n)) → Reads (sheet_by function) SheetBelow
-sections_read function h =
+pub sheet_reads : Reads sheet SheetBelow
+unfolding sheet
+sheet_reads =
     then_reads flags _ SheetBelow
     (λ fs. bind_reads (counted most_identifiers identifier) _ (λ (l : List Identifier). length l ≤ most_identifiers) SheetBelow (counted_length most_identifiers identifier)
-    (λ ids hn. bind_reads (counted most_functions (function (length ids))) _ (λ (l : List InnerFunction). Every (FunctionBelow (length ids)) l × (length l ≤ most_functions)) SheetBelow
-    (functions_reads (length ids) (function (length ids)) (h (length ids)))
+    (λ ids hn. bind_reads (counted most_functions (inner_function (length ids))) _ (λ (l : List InnerFunction). Every (FunctionBelow (length ids)) l × (length l ≤ most_functions)) SheetBelow (functions_reads (length ids))
     (λ inner hm. bind_reads (counted most_params (place (length ids))) _ (λ (l : List Place). Every (PlaceBelow (length ids)) l × (length l ≤ most_params)) SheetBelow (places_reads most_params (length ids))
     (λ ps hp. bind_reads (counted most_context (place (length ids))) _ (λ (l : List Place). Every (PlaceBelow (length ids)) l × (length l ≤ most_context)) SheetBelow (places_reads most_context (length ids))
     (λ cs hc. then_reads (fixed returns_count) _ SheetBelow
@@ -171,7 +169,3 @@ sections_read function h =
       returns = hr;
       blocks = hb;
     }))))))))))
-
-pub sheet_reads : Reads sheet SheetBelow
-unfolding sheet
-sheet_reads = sections_read inner_function function_reads

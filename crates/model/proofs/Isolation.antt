@@ -12,10 +12,9 @@ use lib.ListN.{length, get_or, length-set}
 use lib.Seq.{get_or-set_same, get_or-set_other}
 use Rattle.model.specs.Limits.{last_serial}
 use Rattle.model.specs.Lists.{pick}
-use Rattle.model.specs.Call.{Outcome, refusal, accepted}
-use Rattle.model.specs.Service.{Caller, new_caller, taken, serves}
-use Rattle.model.specs.Callers.{outside, refused_outside, replaces}
-use Rattle.model.specs.Component.{comes_to}
+use Rattle.model.specs.Call.{Outcome, refusal, accepted, outcome}
+use Rattle.model.specs.Service.{Caller, new_caller, taken, serves, call}
+use Rattle.model.specs.Callers.{outside, refused_outside, replaces, call_for}
 use Rattle.model.proofs.Buffers.{serial_word_lem}
 use Rattle.model.specs.Isolation.{Ask, asked, Told, told_of, after_calls, told_to, calls_of, serials_in, count_from, Isolation}
 
@@ -26,40 +25,42 @@ cases false f g = g refl
 -- ---- one call
 module _ (cs : List Caller) (q : Ask) where
   abbrev turn : Caller → Told
-  turn c = record { outcome = (serves c (comes_to q.given q.workspace q.room)).outcome; serial = (serves c (comes_to q.given q.workspace q.room)).serial }
+  turn c = record { outcome = (call c q.sheet q.workspace q.room).outcome; serial = (call c q.sheet q.workspace q.room).serial }
 
   abbrev turned : Caller → Caller
-  turned c = (serves c (comes_to q.given q.workspace q.room)).caller
+  turned c = (call c q.sheet q.workspace q.room).caller
 
   abbrev own : Caller
   own = get_or cs q.position new_caller
 
   many : length (asked cs q).callers ≡ length cs
+  unfolding call_for
   many = go (outside (length cs) q.position)
     where
-      go : (b : Bool) → length (pick b (refused_outside cs) (replaces cs q.position (serves own (comes_to q.given q.workspace q.room)))).callers ≡ length cs
+      go : (b : Bool) → length (pick b (refused_outside cs) (replaces cs q.position (call own q.sheet q.workspace q.room))).callers ≡ length cs
       go true = refl
       go false = length-set cs q.position (turned own)
 
   -- the caller that called
   own_told : q.position < length cs → told_of (asked cs q) ≡ turn own
-  unfolding outside
+  unfolding call_for outside
   own_told h = simp (lt-leb (length cs) q.position h)
 
   own_left : q.position < length cs → get_or (asked cs q).callers q.position new_caller ≡ turned own
-  unfolding outside
+  unfolding call_for outside
   own_left h = simp (lt-leb (length cs) q.position h) (get_or-set_same cs q.position (turned own) new_caller h)
 
   -- one without a record
   none_told : length cs ≤ q.position → told_of (asked cs q) ≡ record { outcome = refusal 11; serial = none }
-  unfolding outside
+  unfolding call_for outside
   none_told h = simp (le-leb (length cs) q.position h)
 
   -- every other caller
   other-left : (i : ℕ) → (i ≡ q.position → ⊥) → get_or (asked cs q).callers i new_caller ≡ get_or cs i new_caller
+  unfolding call_for
   other-left i n = go (outside (length cs) q.position)
     where
-      go : (b : Bool) → get_or (pick b (refused_outside cs) (replaces cs q.position (serves own (comes_to q.given q.workspace q.room)))).callers i new_caller ≡ get_or cs i new_caller
+      go : (b : Bool) → get_or (pick b (refused_outside cs) (replaces cs q.position (call own q.sheet q.workspace q.room))).callers i new_caller ≡ get_or cs i new_caller
       go true = refl
       go false = get_or-set_other cs q.position i (turned own) new_caller n
 
@@ -166,9 +167,9 @@ serial_step (refusal k) c = inl (refl, refl)
 serial_step (accepted a) c = inr (refl, refl)
 
 count_alone : (c : Caller) (qs : List Ask) → serials_in (told_alone c qs) ≡ count_from (length (serials_in (told_alone c qs))) c
-unfolding serials_in count_from
+unfolding serials_in count_from call
 count_alone c [] = refl
-count_alone c (q ∷ qs) = go (serial_step (comes_to q.given q.workspace q.room) c) (count_alone (turned [] q c) qs)
+count_alone c (q ∷ qs) = go (serial_step (outcome q.sheet q.workspace q.room) c) (count_alone (turned [] q c) qs)
   where
     go : (((turn [] q c).serial ≡ none) × (turned [] q c ≡ c)) ⊎ (((turn [] q c).serial ≡ some c.next) × (turned [] q c ≡ taken c))
         → serials_in (told_alone (turned [] q c) qs) ≡ count_from (length (serials_in (told_alone (turned [] q c) qs))) (turned [] q c)

@@ -26,9 +26,7 @@ pub mod Stored
 pub mod Counters
 pub mod Counted
 pub mod Indexes
-pub mod Takes
 pub mod WordsRead
-pub mod WordsIndex
 pub mod Held
 pub mod HeldMore
 -- renders
@@ -42,7 +40,6 @@ pub mod Tallies
 pub mod ReadLaws
 pub mod Traits
 pub mod Got
-pub mod AnyInner
 pub mod InRange
 pub mod Distinct
 pub mod WhenRead
@@ -92,11 +89,5 @@ pub mod Digits
 -- document 02, order 8: how sure a parameter's mutation is
 pub mod MaybeSteps
 pub mod Mutations
-pub mod SummaryRoles
 pub mod Reports
 pub mod Certainty
--- document 02, order 11: bundles of sheets
-pub mod Offers
-pub mod OneSheet
-pub mod Bundled
-pub mod BundleNumbers

@@ -8,12 +8,11 @@ use lib.ListN.{length, get_or}
 use lib.Dec.{ltb, leb, eqb}
 use Rattle.model.specs.Limits.{flag_count, most_flag, most_identifiers, most_range, most_type, most_functions, most_inner_diagnostics, most_inner_context, most_diagnostic, most_params, most_context, returns_count, most_blocks, most_block_number, most_count, most_order, most_lvalues, most_operands, no_operands, most_value, most_terminal, most_traits, most_kind}
 use Rattle.model.specs.Lists.{pick, among}
-use Rattle.model.specs.Sheet.{BlockId, InnerFunction, EffectKind}
+use Rattle.model.specs.Sheet.{BlockId, EffectKind}
 use Rattle.model.specs.Effects.{kind_of, row_of, is_create_function}
 use Rattle.model.specs.Reading.{Position, Result, got, refused, Read, and_then, ◌>>=◌, pure, refuse, word, count, fixed, at_most, below, new_number, is_absent, times, numbered, counted, optional}
 use Rattle.model.specs.Sections.{flag, flags, identifier, diagnostic, inner_function, place, unused, extra, effect, effects, operand, phi, value_by, instruction_value, instruction, terminal_of, terminal, block, sheet}
 use Rattle.model.proofs.ReadLaws.{is_got}
-use Rattle.model.proofs.AnyInner.{sheet_by}
 
 -- the number of a refusal, and of none
 abbrev refused_with : {A : Type 0} → ℕ → Result A → ℕ
@@ -44,7 +43,7 @@ module _ (P : ℕ → Type 0) where
 
   -- the numbers that a single word is refused with
   module _ (p3 : P 3) (p4 : P 4) (p5 : P 5) (p6 : P 6) where
-    pub word_refuses : Refuses P word
+    word_refuses : Refuses P word
     unfolding word
     word_refuses ws c k e = go (ltb c (length ws)) e
       where
@@ -200,12 +199,13 @@ module _ (P : ℕ → Type 0) where
         (λ ps. bind_refuses (counted most_count (instruction n m)) _ (counted_refuses most_count (instruction n m) (instruction_refuses n m))
         (λ is. bind_refuses (terminal n m) _ (terminal_refuses n m) (λ t. pure_refuses _)))
 
-    -- the reading of a sheet is refused with nothing but what its words are, and its inner functions, in whatever way these are read
-    pub any_refuses : (function : ℕ → Read InnerFunction) → ((n : ℕ) → Refuses P (function n)) → Refuses P (sheet_by function)
-    any_refuses function h =
+    -- the reading of a sheet is refused with nothing but what its words are
+    pub sheet_refuses : Refuses P sheet
+    unfolding sheet
+    sheet_refuses =
         bind_refuses flags _ flags_refuses
         (λ fs. bind_refuses (counted most_identifiers identifier) _ (counted_refuses most_identifiers identifier identifier_refuses)
-        (λ ids. bind_refuses (counted most_functions (function (length ids))) _ (counted_refuses most_functions (function (length ids)) (h (length ids)))
+        (λ ids. bind_refuses (counted most_functions (inner_function (length ids))) _ (counted_refuses most_functions (inner_function (length ids)) (inner_function_refuses (length ids)))
         (λ inner. bind_refuses (counted most_params (place (length ids))) _ (places_refuses most_params (length ids))
         (λ ps. bind_refuses (counted most_context (place (length ids))) _ (places_refuses most_context (length ids))
         (λ cs. bind_refuses (fixed returns_count) _ (fixed_refuses returns_count)
@@ -213,7 +213,3 @@ module _ (P : ℕ → Type 0) where
         (λ r. bind_refuses (count most_blocks) _ (count_refuses most_blocks)
         (λ b. bind_refuses (numbered b [] (block (length ids) (length inner))) _ (numbered_refuses b [] (block (length ids) (length inner)) (block_refuses (length ids) (length inner)))
         (λ bs. pure_refuses _)))))))))
-
-    pub sheet_refuses : Refuses P sheet
-    unfolding sheet
-    sheet_refuses = any_refuses inner_function inner_function_refuses

@@ -9,20 +9,23 @@ use lib.ListN.{get_or}
 use lib.Dec.{eqb}
 use borrow.Author.Tests.{eqb-true, eq-eqb}
 use Rattle.model.specs.Lists.{pick, gather, tally, one_if, Every}
-use Rattle.model.specs.Sheet.{Place, EffectKind, Effect, Sheet}
+use Rattle.model.specs.Sheet.{Place, EffectKind, Alias, Capture, Effect, Sheet}
 use Rattle.model.specs.Effects.{Role, relation, mutation, render, diagnosis, nothing, kind_of, row_of, is_mutation, is_render, is_diagnosis}
 use Rattle.model.specs.Totals.{instruction_effects}
 use Rattle.model.specs.Mutation.{Kind, conditional, definite, level}
-use Rattle.model.specs.State.{Info, Record, no_record, State}
+use Rattle.model.specs.Building.{build}
+use Rattle.model.specs.State.{Info, Record, no_record, State, simulated}
+use Rattle.model.specs.Walks.{mutate}
 use Rattle.model.specs.Summary.{after_renders, copied, record_of, local_effect, transitive_effect, local_effects, transitive_effects, collect_param_effects, create_returns}
-use Rattle.model.specs.Simulated.{simulate}
+use Rattle.model.specs.Simulated.{tracked, simulation, flows, flow_effect, flow_effects, Simulated, simulate}
 use Rattle.model.specs.Answer.{summary, answer}
 use Rattle.model.specs.Certainty.{Reported, is_report, times_reported, times_listed, mutation_kind, ReportsPlaces}
 use Rattle.model.proofs.EncoderParts.{kind_back}
-use Rattle.model.proofs.Everywhere.{every_of, every_mem, every_keep}
+use Rattle.model.proofs.Everywhere.{every_of, every_keep, every_append, every_gather}
 use Rattle.model.proofs.Tallies.{tally_each, tally_member, tally_some}
 use Rattle.model.proofs.Stored.{tally_append}
-use Rattle.model.proofs.SummaryRoles.{simulated_relations}
+use Rattle.model.proofs.BuiltKeeps.{each_keeps}
+use Rattle.model.proofs.Simulating.{next}
 use Rattle.model.proofs.Levels.{info_level}
 
 and_both : (a b : Bool) → (a && b) ≡ true → (a ≡ true) × (b ≡ true)
@@ -140,9 +143,27 @@ module _ (s : Sheet) (t : Bool) (k : Kind) (x : ℕ) where
   unfolding create_returns row_of
   returns_none = other_role (create_returns s) refl
 
-  -- what the simulated walks give are relations
+  -- what the simulated walks give is Capture or Alias
+  flow_none : (into from : Place) (b : Bool) → None (pick b (flow_effect s.returns into from ∷ []) [])
+  unfolding row_of
+  flow_none into from false = tt
+  flow_none into from true = (other_role (flow_effect s.returns into from) (go (eqb into.identifier s.returns.identifier)), tt)
+    where
+      go : (b : Bool) → is_mutation (row_of (pick b Alias Capture)).role ≡ false
+      go true = refl
+      go false = refl
+
+  flows_none : (i : ℕ) (into : Place) (u : State) → None (flow_effects s i into u)
+  unfolding flow_effects
+  flows_none i into u =
+      every_gather (λ (from : Place). pick (flows s.returns i into u from) (flow_effect s.returns into from ∷ []) []) (λ (e : Effect). count e ≡ 0) (tracked s)
+      (every_of _ (tracked s) (λ from m. flow_none into from (flows s.returns i into u from)))
+
   simulated_none : None (simulate s).effects
-  simulated_none = every_mem (λ (e : Effect). (row_of e.kind).role ≡ relation) (λ (e : Effect). count e ≡ 0) (simulate s).effects (λ e m h. other_role e (ap is_mutation h)) (simulated_relations s)
+  unfolding simulate
+  simulated_none =
+      each_keeps (next s) (λ (a : Simulated). None a.effects) (tracked s) (record { state = after_renders s; index = (build s).index; walks = []; effects = [] })
+      (λ into m a h. every_append (λ (e : Effect). count e ≡ 0) a.effects _ h (flows_none a.index into (mutate simulated (simulation a.index into) a.state).state)) tt
 
   -- so of a list of places: as many as are x's, if x's record says so
   abbrev reports : Place → ℕ

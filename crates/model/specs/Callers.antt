@@ -2,9 +2,9 @@
 use Rattle.std.specs.Prelude.{ℕ, Bool, List, length, get_or, set, leb}
 use Rattle.std.proofs.Math.Option.{Option, none}
 use Rattle.model.specs.Lists.{pick}
-use Rattle.model.specs.Call.{Outcome, refusal, outcome}
+use Rattle.model.specs.Call.{Outcome, refusal}
 use Rattle.model.specs.Load.{load}
-use Rattle.model.specs.Service.{Caller, new_caller, Served, serves}
+use Rattle.model.specs.Service.{Caller, new_caller, Served, call}
 
 -- "the caller's position is outside the records": always, if none is lent
 unfoldable pub outside : ℕ → ℕ → Bool
@@ -24,13 +24,9 @@ refused_outside cs = record { outcome = refusal 11; serial = none; callers = cs 
 abbrev pub replaces : List Caller → ℕ → Served → ServedFor
 replaces cs i t = record { outcome = t.outcome; serial = t.serial; callers = set cs i t.caller }
 
--- "11 .. before 1"; else the named caller is served what its words come to
-abbrev pub serves_for : List Caller → ℕ → Outcome → ServedFor
-serves_for cs i o = pick (outside (length cs) i) (refused_outside cs) (replaces cs i (serves (get_or cs i new_caller) o))
-
--- a call on a sheet
+-- "11 .. before 1"; then the call of the named caller
 unfoldable pub call_for : List Caller → ℕ → List ℕ → ℕ → ℕ → ServedFor
-call_for cs i sheet workspace room = serves_for cs i (outcome sheet workspace room)
+call_for cs i sheet workspace room = pick (outside (length cs) i) (refused_outside cs) (replaces cs i (call (get_or cs i new_caller) sheet workspace room))
 
 -- "for order 2's sheets too": a class load for one of so many callers, which takes no serial and so leaves every record
 unfoldable pub load_for : ℕ → ℕ → ℕ → ℕ → ℕ → ℕ → Outcome

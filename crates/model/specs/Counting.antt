@@ -1,8 +1,8 @@
 -- Document 02, order 7, "Two refusals overlap": "Totals are from now on counted while reading. Refusal 8 comes at the kind word of the effect, or the first word of the
 -- phi operand or Return place, that passes a total, after that word's own checks under 5 and 6."
-use Rattle.std.specs.Prelude.{ℕ, suc, Bool}
+use Rattle.std.specs.Prelude.{suc, Bool}
 use Rattle.model.specs.Lists.{pick}
-use Rattle.model.specs.Sheet.{InnerFunction, EffectKind, Sheet}
+use Rattle.model.specs.Sheet.{EffectKind, Sheet}
 use Rattle.model.specs.Effects.{Role, relation, mutation, render, diagnosis, nothing, row_of, is_alias}
 use Rattle.model.specs.Reading.{Read, pure, refuse}
 use Rattle.model.specs.Sections.{inner_function}
@@ -41,13 +41,9 @@ count_kind terminal k t = pick terminal (pick (is_alias k) (with_relation t) t) 
 abbrev pub ask_totals : (Totals → Bool) → Totals → Read (Unit {0})
 ask_totals over t = pick (over t) (refuse 8) (pure tt)
 
--- what is counted, and what is asked at each counted word, by what is over a limit and how an inner function is read
-abbrev pub counting_with : (Totals → Bool) → (ℕ → Read InnerFunction) → Asks
-counting_with over function = record { Tally = Totals; none = no_totals; effect = count_kind; relation = with_relation; ask = ask_totals over; inner = function }
-
--- as Sections reads it
+-- what is counted, and what is asked at each counted word, by what is over a limit
 abbrev pub counting_by : (Totals → Bool) → Asks
-counting_by over = counting_with over inner_function
+counting_by over = record { Tally = Totals; none = no_totals; effect = count_kind; relation = with_relation; ask = ask_totals over; inner = inner_function }
 
 -- mutations and renders
 abbrev pub counting : Asks

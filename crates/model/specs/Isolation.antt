@@ -6,19 +6,18 @@ use Rattle.model.specs.Limits.{last_serial}
 use Rattle.model.specs.Lists.{pick}
 use Rattle.model.specs.Call.{Outcome}
 use Rattle.model.specs.Service.{Caller, new_caller, taken}
-use Rattle.model.specs.Callers.{ServedFor, serves_for}
-use Rattle.model.specs.Component.{Given, comes_to}
+use Rattle.model.specs.Callers.{ServedFor, call_for}
 
--- a call: its caller's position, its sheet or its bundle, and how many words are lent
+-- a call: its caller's position, its sheet, and how many words are lent
 pub record Ask : Type 0 where
   pub position : ℕ
-  pub given : Given
+  pub sheet : List ℕ
   pub workspace : ℕ
   pub room : ℕ
 
 -- what it gives on these records
 abbrev pub asked : List Caller → Ask → ServedFor
-asked cs q = serves_for cs q.position (comes_to q.given q.workspace q.room)
+asked cs q = call_for cs q.position q.sheet q.workspace q.room
 
 -- what its caller is told: both buffers are as the outcome says (Call `answer_after`, `workspace_after`)
 pub record Told : Type 0 where

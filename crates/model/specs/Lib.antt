@@ -35,8 +35,6 @@ pub mod Overlap
 pub mod Collected
 pub mod Service
 pub mod Callers
--- document 02, order 11: a bundle of sheets
-pub mod Component
 -- document 02, order 2: a class load from a seed
 pub mod Load
 -- document 02, order 6: the graph as a DOT file
@@ -70,4 +68,3 @@ pub mod EndsSet
 pub mod SecondProperty
 pub mod CallEnds
 pub mod Certainty
-pub mod Bundles

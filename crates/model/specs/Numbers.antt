@@ -1,4 +1,4 @@
--- Document 01, "Answers and refusals", and document 02: the refusals have the numbers 1 to 12, and the parts of a sheet give 3 to 6. So 0 stands for "not refused" wherever a number is told.
+-- Document 01, "Answers and refusals", and document 02: the refusals have the numbers 1 to 11, and the parts of a sheet give 3 to 6. So 0 stands for "not refused" wherever a number is told.
 use Rattle.std.specs.Prelude.{ℕ, ◌≤◌}
 use Rattle.model.specs.Call.{Outcome, refusal, accepted}
 

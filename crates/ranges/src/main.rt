@@ -3,7 +3,7 @@ ghost use Rattle.std.specs.Prelude.{◌≤◌, length};
 
 use files::load_words;
 use libc::{STDIN_FILENO, STDOUT_FILENO};
-use service::{Input, turn_for};
+use service::turn_for;
 
 fn print_word(x: u32) {
     io::write_all(STDOUT_FILENO, b" ");
@@ -86,15 +86,7 @@ fn main() {
     let count = load_words(&bytes[..n], &mut sheet);
     let mut workspace = [0u32; 16384];
     let mut answer = [0u32; 16384];
-    let turn = turn_for(
-        Input::Sheet,
-        1,
-        0,
-        0,
-        &sheet[..count],
-        &mut workspace,
-        &mut answer,
-    );
+    let turn = turn_for(1, 0, 0, &sheet[..count], &mut workspace, &mut answer);
     let reply = turn.reply;
     if reply.refusal == 0 {
         print_answer(&answer);

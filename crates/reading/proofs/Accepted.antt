@@ -3,9 +3,9 @@ use Prim.Native.Nat.{ℕ}
 use mathlib.Core.Path.{◌≡◌, ◌∙◌, refl, sym, ap}
 use mathlib.Core.Bool.{Bool, true, false, false≢true}
 use mathlib.Core.List.{List}
-use Rattle.model.specs.Sheet.{InnerFunction, Sheet}
-use Rattle.model.specs.Reading.{Position, Result, got, refused, Read}
-use Rattle.model.specs.Call.{read_with}
+use Rattle.model.specs.Sheet.{Sheet}
+use Rattle.model.specs.Reading.{Result, got, refused}
+use Rattle.model.specs.Call.{read, IsSheet}
 use Rattle.reading.specs.Judging.{Told}
 use Rattle.reading.specs.Whole.{told, Judgement, refusal, acceptance, judgement_of}
 
@@ -21,28 +21,26 @@ abbrev or_number : ℕ → Judgement → ℕ
 or_number k (refusal n) = n
 or_number k (acceptance t) = k
 
-module _ (function : ℕ → Read InnerFunction) (ws : List ℕ) where
-  -- the sheet behind an acceptance
-  pub record AcceptedSheet (t : Told) : Type 0 where
-    pub sheet : Sheet
-    pub end : Position
-    pub is : read_with function ws ≡ got sheet end
-    pub told : told sheet ≡ t
+-- the sheet behind an acceptance
+pub record AcceptedSheet (ws : List ℕ) (t : Told) : Type 0 where
+  pub sheet : Sheet
+  pub is : IsSheet ws sheet
+  pub told : told sheet ≡ t
 
-  pub accepted_sheet : (t : Told) → judgement_of (read_with function ws) ≡ acceptance t → AcceptedSheet t
-  accepted_sheet t q = go (read_with function ws) refl q
-    where
-      go : (x : Result Sheet) → read_with function ws ≡ x → judgement_of x ≡ acceptance t → AcceptedSheet t
-      go (got s c) e y = record { sheet = s; end = c; is = e; told = ap (or_told t) y }
-      go (refused k) e y = absurd (false≢true (ap is_acceptance y))
+pub accepted_sheet : (ws : List ℕ) (t : Told) → judgement_of (read ws) ≡ acceptance t → AcceptedSheet ws t
+accepted_sheet ws t q = go (read ws) refl q
+  where
+    go : (x : Result Sheet) → read ws ≡ x → judgement_of x ≡ acceptance t → AcceptedSheet ws t
+    go (got s c) e y = record { sheet = s; is = (c, e); told = ap (or_told t) y }
+    go (refused k) e y = absurd (false≢true (ap is_acceptance y))
 
-  -- what is told of it
-  pub accepted_told : (t : Told) → judgement_of (read_with function ws) ≡ acceptance t → (s : Sheet) (c : Position) → read_with function ws ≡ got s c → told s ≡ t
-  accepted_told t q s c is = ap (or_told t) (ap judgement_of (sym is) ∙ q)
+-- what is told of it
+pub accepted_told : (ws : List ℕ) (t : Told) → judgement_of (read ws) ≡ acceptance t → (s : Sheet) → IsSheet ws s → told s ≡ t
+accepted_told ws t q s is = ap (or_told t) (ap judgement_of (sym is.1) ∙ q)
 
-  pub refused_sheet : (k : ℕ) → judgement_of (read_with function ws) ≡ refusal k → read_with function ws ≡ refused k
-  refused_sheet k q = go (read_with function ws) refl q
-    where
-      go : (x : Result Sheet) → read_with function ws ≡ x → judgement_of x ≡ refusal k → read_with function ws ≡ refused k
-      go (got s c) e y = absurd (false≢true (ap is_acceptance (sym y)))
-      go (refused n) e y = let z : n ≡ k = ap (or_number k) y in rw z at e
+pub refused_sheet : (ws : List ℕ) (k : ℕ) → judgement_of (read ws) ≡ refusal k → read ws ≡ refused k
+refused_sheet ws k q = go (read ws) refl q
+  where
+    go : (x : Result Sheet) → read ws ≡ x → judgement_of x ≡ refusal k → read ws ≡ refused k
+    go (got s c) e y = absurd (false≢true (ap is_acceptance (sym y)))
+    go (refused n) e y = let z : n ≡ k = ap (or_number k) y in rw z at e

@@ -7,11 +7,10 @@ use mathlib.Core.List.{List, [], ◌∷◌}
 use lib.Dec.{ltb}
 use borrow.Author.Tests.{lt-ltb}
 use Rattle.model.specs.Lists.{tally, one_if}
-use Rattle.model.specs.Sheet.{EffectKind, Freeze, Mutate, MutateConditionally, MutateTransitive, MutateTransitiveConditionally, Capture, Alias, MaybeAlias, Assign, Create, CreateFrom, ImmutableCapture, Apply, CreateFunction, MutateFrozen, MutateGlobal, Impure, Render, InnerFunction, Effect, Block, Sheet}
-use Rattle.model.specs.Reading.{Position, got, Read}
+use Rattle.model.specs.Sheet.{EffectKind, Freeze, Mutate, MutateConditionally, MutateTransitive, MutateTransitiveConditionally, Capture, Alias, MaybeAlias, Assign, Create, CreateFrom, ImmutableCapture, Apply, CreateFunction, MutateFrozen, MutateGlobal, Impure, Render, Effect, Block, Sheet}
 use Rattle.model.specs.Effects.{Role, relation, mutation, render, diagnosis, nothing, row_of, is_apply, any_apply}
 use Rattle.model.specs.Totals.{instruction_effects}
-use Rattle.model.specs.Call.{read_with, applies}
+use Rattle.model.specs.Call.{read, IsSheet, applies}
 use Rattle.reading.specs.Judging.{Told}
 use Rattle.reading.specs.Whole.{told, acceptance, judgement_of}
 use Rattle.reading.proofs.Accepted.{accepted_told}
@@ -75,6 +74,5 @@ told-applies : (s : Sheet) → applies s ≡ ltb 0 (told s).applies
 unfolding told
 told-applies s = one_told (applies s)
 
-module _ (function : ℕ → Read InnerFunction) (ws : List ℕ) (t : Told) where
-  pub accepted_applies : judgement_of (read_with function ws) ≡ acceptance t → (s : Sheet) (c : Position) → read_with function ws ≡ got s c → applies s ≡ ltb 0 t.applies
-  accepted_applies e s c is = told-applies s ∙ ap (λ (u : Told). ltb 0 u.applies) (accepted_told function ws t e s c is)
+pub accepted_applies : (ws : List ℕ) (t : Told) → judgement_of (read ws) ≡ acceptance t → (s : Sheet) → IsSheet ws s → applies s ≡ ltb 0 t.applies
+accepted_applies ws t e s is = told-applies s ∙ ap (λ (u : Told). ltb 0 u.applies) (accepted_told ws t e s is)

@@ -7,12 +7,11 @@ use mathlib.Core.List.{List, [], ◌∷◌}
 use lib.Dec.{ltb}
 use borrow.Author.Tests.{lt-ltb}
 use Rattle.model.specs.Lists.{keep, cons_if, tally, one_if}
-use Rattle.model.specs.Sheet.{InnerFunction, Effect, Sheet}
-use Rattle.model.specs.Reading.{Position, got, Read}
+use Rattle.model.specs.Sheet.{Effect, Sheet}
 use Rattle.model.specs.Effects.{Role, row_of, is_render, is_diagnosis}
 use Rattle.model.specs.Totals.{instruction_effects, totals}
 use Rattle.model.specs.Summary.{copied}
-use Rattle.model.specs.Call.{read_with}
+use Rattle.model.specs.Call.{read, IsSheet}
 use Rattle.reading.specs.Judging.{Told}
 use Rattle.reading.specs.Whole.{diagnoses, told, acceptance, judgement_of}
 use Rattle.reading.proofs.Accepted.{accepted_told}
@@ -41,8 +40,5 @@ none_copied s h k =
     none_kept (λ (e : Effect). is_diagnosis (row_of e.kind).role) (λ (e : Effect). is_render (row_of e.kind).role) (instruction_effects s)
     (tally_effects (counts is_diagnosis) s ∙ none_told (diagnoses s) h) (tally_effects (counts is_render) s ∙ k)
 
-module _ (function : ℕ → Read InnerFunction) (ws : List ℕ) (t : Told) where
-  pub accepted_copies : judgement_of (read_with function ws) ≡ acceptance t → t.diagnoses ≡ 0 → t.renders ≡ 0 → (s : Sheet) (c : Position) → read_with function ws ≡ got s c → copied s ≡ []
-  accepted_copies e h k s c is =
-      let q : told s ≡ t = accepted_told function ws t e s c is in
-      none_copied s (ap (λ (u : Told). u.diagnoses) q ∙ h) (ap (λ (u : Told). u.renders) q ∙ k)
+pub accepted_copies : (ws : List ℕ) (t : Told) → judgement_of (read ws) ≡ acceptance t → t.diagnoses ≡ 0 → t.renders ≡ 0 → (s : Sheet) → IsSheet ws s → copied s ≡ []
+accepted_copies ws t e h k s is = let q : told s ≡ t = accepted_told ws t e s is in none_copied s (ap (λ (u : Told). u.diagnoses) q ∙ h) (ap (λ (u : Told). u.renders) q ∙ k)

@@ -3,7 +3,6 @@ pub mod TallyLaws
 pub mod BlockLaws
 pub mod OperandLaws
 pub mod SectionLaws
-pub mod InnerLaws
 pub mod WholeLaws
 pub mod TotalsLaws
 pub mod VerdictLaws

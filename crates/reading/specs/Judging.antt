@@ -106,7 +106,7 @@ abbrev pub ask_tally : Tally → Read (Unit {0})
 ask_tally (within t) = pure tt
 ask_tally passed = refuse 8
 
--- what is counted while reading, and asked at each effect; a block does not look at how an inner function is read
+-- what is counted while reading, and asked at each effect
 abbrev pub counting : Asks
 counting = record { Tally = Tally; none = nothing_yet; effect = count_kind; relation = uncounted; ask = ask_tally; inner = inner_function }
 

@@ -2,10 +2,10 @@
 use Rattle.std.specs.Prelude.{ℕ, List, length, ltb}
 use Rattle.model.specs.Limits.{most_identifiers, most_functions, most_params, most_context, returns_count, most_order, most_lvalues, most_operands}
 use Rattle.model.specs.Lists.{each, tally, one_if}
-use Rattle.model.specs.Sheet.{InnerFunction, Place, BlockId, Block, Sheet}
+use Rattle.model.specs.Sheet.{Place, BlockId, Block, Sheet}
 use Rattle.model.specs.Effects.{is_diagnosis}
 use Rattle.model.specs.Reading.{Result, got, refused, Read, ◌>>=◌, pure, fixed, at_most, counted, times_from, numbered_from}
-use Rattle.model.specs.Sections.{flags, identifier, place, instruction_value}
+use Rattle.model.specs.Sections.{flags, identifier, inner_function, place, instruction_value}
 use Rattle.model.specs.Asking.{tell_block}
 use Rattle.model.specs.Totals.{with_role, totals}
 use Rattle.model.specs.Call.{applies}
@@ -33,12 +33,12 @@ pub record Heading : Type 0 where
   pub identifiers : ℕ
   pub functions : ℕ
 
--- "Flags", "Identifiers", "Inner functions", by how an inner function is read
-unfoldable pub heading : (ℕ → Read InnerFunction) → Read Heading
-heading function = do
+-- "Flags", "Identifiers", "Inner functions"
+unfoldable pub heading : Read Heading
+heading = do
   fs ← flags
   n ← length_of (counted most_identifiers identifier)
-  m ← length_of (counted most_functions (function n))
+  m ← length_of (counted most_functions (inner_function n))
   pure (record { identifiers = n; functions = m })
 
 -- "Parameters, then context", "Returns, count 1: a place"
@@ -66,9 +66,9 @@ judged_instruction n m t = do
   instruction_effects n m t
 
 -- the sections in their order, with what refusal 8 counts
-unfoldable pub judged_sheet : (ℕ → Read InnerFunction) → Read Tally
-judged_sheet function = do
-  h ← heading function
+unfoldable pub judged_sheet : Read Tally
+judged_sheet = do
+  h ← heading
   r ← place_lists h.identifiers
   judge (blocks_of h.identifiers h.functions) (each (tell_block counting)) nothing_yet
 

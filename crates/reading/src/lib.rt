@@ -1,15 +1,14 @@
 // Reads a whole sheet and says why it is refused, or what it holds.
 ghost use Rattle.std.specs.Prelude.{◌≡◌};
-ghost use Rattle.model.specs.Call.{read_with};
+ghost use Rattle.model.specs.Call.{read};
 ghost use Rattle.hir.specs.Says.{place_says};
-ghost use Rattle.hir.specs.InnerFunctions.{inner_read, ListsOf};
 ghost use Rattle.reading.specs.TotalsSays.{totals_says};
 ghost use Rattle.reading.specs.Whole.{heading, place_lists, judged_sheet, judgement_of};
 ghost use Rattle.reading.specs.Says.{heading_says, verdict_says};
 
 use crate::blocks::{Totals, TotalsStep};
-use hir::limits::{MOST_CONTEXT, MOST_PARAMS, RETURNS_COUNT};
-use hir::{Cursor, FlagsStep, Inner, PlaceStep, WordStep};
+use hir::limits::{MOST_CONTEXT, MOST_PARAMS, MOST_SHEET, RETURNS_COUNT};
+use hir::{Cursor, FlagsStep, PlaceStep, WordStep};
 
 pub mod blocks;
 mod counts;
@@ -40,26 +39,19 @@ pub enum HeadingStep {
 // What is said of a sheet.
 #[derive(Drop)]
 pub enum Verdict {
-    // By the number of the refusal: 3 to 8, or 12.
+    // By the number of the refusal, 2 to 8.
     Refused(u32),
     // With what refusal 8 counts, and whether there is a diagnosis or an Apply.
     Accepted(Totals),
 }
 
 // Flags, identifiers, inner functions.
-fn head(c: Cursor, s: &[u32], lists: &[u32], inner: Inner) -> HeadingStep
-    requires { ListsOf lists.now inner s.now }
-    ensures { heading_says result ≡ heading (inner_read lists.now inner) s.now c.at }
+fn head(c: Cursor, s: &[u32]) -> HeadingStep
+    ensures { heading_says result ≡ heading s.now c.at }
 {
     match c.flags(s) {
         FlagsStep::Got(_, c1) => match sections::identifiers(c1, s) {
-            WordStep::Got(identifiers, c2) => match sections::functions(
-                c2,
-                s,
-                identifiers,
-                lists,
-                inner,
-            ) {
+            WordStep::Got(identifiers, c2) => match sections::functions(c2, s, identifiers) {
                 WordStep::Got(functions, c3) => {
                     let h = Heading {
                         identifiers,
@@ -92,11 +84,10 @@ fn place_lists(c: Cursor, s: &[u32], n: u32) -> PlaceStep
 }
 
 // All sections.
-fn sheet(s: &[u32], lists: &[u32], inner: Inner) -> TotalsStep
-    requires { ListsOf lists.now inner s.now }
-    ensures { totals_says result ≡ judged_sheet (inner_read lists.now inner) s.now 0 }
+pub fn sheet(s: &[u32]) -> TotalsStep
+    ensures { totals_says result ≡ judged_sheet s.now 0 }
 {
-    match head(Cursor::START, s, lists, inner) {
+    match head(Cursor::START, s) {
         HeadingStep::Got(h, c1) => {
             let n = h.identifiers;
             let m = h.functions;
@@ -109,12 +100,14 @@ fn sheet(s: &[u32], lists: &[u32], inner: Inner) -> TotalsStep
     }
 }
 
-// A sheet whose inner functions stand so: refusals 3 to 8, and 12 where they name earlier sheets, or acceptance.
-pub fn read(s: &[u32], lists: &[u32], inner: Inner) -> Verdict
-    requires { ListsOf lists.now inner s.now }
-    ensures { verdict_says result ≡ judgement_of (read_with (inner_read lists.now inner) s.now) }
+// Refusals 2 to 8, or acceptance.
+pub fn read(s: &[u32]) -> Verdict
+    ensures { verdict_says result ≡ judgement_of (read s.now) }
 {
-    match sheet(s, lists, inner) {
+    if MOST_SHEET < s.len() {
+        return Verdict::Refused(2);
+    }
+    match sheet(s) {
         TotalsStep::Got(t, c) => {
             let at = c.at;
             if at < s.len() {

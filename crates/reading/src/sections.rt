@@ -3,20 +3,17 @@ ghost use Rattle.std.specs.Prelude.{◌≡◌};
 ghost use Rattle.model.specs.Limits.{most_identifiers, most_functions, most_inner_diagnostics, most_count};
 ghost use Rattle.model.specs.Reading.{counted};
 ghost use Rattle.model.specs.Sections.{identifier, diagnostic, inner_function, place, phi};
-ghost use Rattle.model.specs.Component.{may_name, named};
 ghost use Rattle.hir.specs.Says.{word_says};
-ghost use Rattle.hir.specs.InnerFunctions.{first_in, inner_read, Offered, ListsOf};
 ghost use Rattle.reading.specs.Judging.{telling};
 ghost use Rattle.reading.specs.Parts.{part_of};
 ghost use Rattle.reading.specs.Whole.{length_of, skip};
 ghost use Rattle.reading.specs.Says.{cursor_says};
 
 use crate::CursorStep;
-use hir::functions::{context_below, past_functions};
 use hir::limits::{
     MOST_COUNT, MOST_FUNCTIONS, MOST_IDENTIFIERS, MOST_INNER_CONTEXT, MOST_INNER_DIAGNOSTICS,
 };
-use hir::{Cursor, DiagnosticStep, IdentifierStep, Inner, PlaceStep, WordStep};
+use hir::{Cursor, DiagnosticStep, IdentifierStep, PlaceStep, WordStep};
 
 // What a section has after its count.
 #[derive(Drop)]
@@ -107,7 +104,7 @@ pub fn phis(start: Cursor, s: &[u32], n: u32) -> WordStep
 }
 
 // Diagnostics, then context places.
-fn listed_function(c: Cursor, s: &[u32], n: u32) -> CursorStep
+fn inner_function(c: Cursor, s: &[u32], n: u32) -> CursorStep
     ensures { cursor_says result ≡ telling (inner_function n) skip tt s.now c.at }
 {
     match diagnostics(c, s) {
@@ -119,49 +116,9 @@ fn listed_function(c: Cursor, s: &[u32], n: u32) -> CursorStep
     }
 }
 
-// Whether an inner function may be that one of `earlier` sheets: its context has no identifier from `n` on.
-fn may_name(lists: &[u32], earlier: u32, position: u32, n: u32) -> bool
-    requires { Offered lists.now earlier }
-    ensures { result ≡ may_name (first_in lists.now earlier) n position }
-{
-    if position < earlier {
-        return context_below(lists, past_functions(lists, position), n);
-    }
-    false
-}
-
-// The position of one of `earlier` sheets, whose lists are offered.
-fn named_function(c: Cursor, s: &[u32], n: u32, lists: &[u32], earlier: u32) -> CursorStep
-    requires { Offered lists.now earlier }
-    ensures { cursor_says result ≡ telling (named (first_in lists.now earlier) n) skip tt s.now c.at }
-{
-    match c.word(s) {
-        WordStep::Got(position, c1) => {
-            if may_name(lists, earlier, position, n) {
-                CursorStep::Got(c1)
-            } else {
-                CursorStep::Refused(12)
-            }
-        }
-        WordStep::Refused(k1) => CursorStep::Refused(k1),
-    }
-}
-
-// An inner function, in either way.
-fn inner_function(c: Cursor, s: &[u32], n: u32, lists: &[u32], inner: Inner) -> CursorStep
-    requires { ListsOf lists.now inner s.now }
-    ensures { cursor_says result ≡ telling (inner_read lists.now inner n) skip tt s.now c.at }
-{
-    match inner {
-        Inner::Listed => listed_function(c, s, n),
-        Inner::Named(earlier) => named_function(c, s, n, lists, earlier),
-    }
-}
-
 // A count and the inner functions: how many there are.
-pub fn functions(start: Cursor, s: &[u32], n: u32, lists: &[u32], inner: Inner) -> WordStep
-    requires { ListsOf lists.now inner s.now }
-    ensures { word_says result ≡ length_of (counted most_functions (inner_read lists.now inner n)) s.now start.at }
+pub fn functions(start: Cursor, s: &[u32], n: u32) -> WordStep
+    ensures { word_says result ≡ length_of (counted most_functions (inner_function n)) s.now start.at }
 {
     let count: u32;
     let mut c: Cursor;
@@ -176,7 +133,7 @@ pub fn functions(start: Cursor, s: &[u32], n: u32, lists: &[u32], inner: Inner) 
     }
     let mut left = count;
     while 0 < left {
-        match inner_function(c, s, n, lists, inner) {
+        match inner_function(c, s, n) {
             CursorStep::Got(d2) => {
                 c = d2;
             }

@@ -1,24 +1,21 @@
-// Calls the service on sheets and bundles of the oracle, each for one of four callers and for callers outside the records, at several
-// lengths of the lent buffers, which hold rubbish before each call, compares every word of the answer, of the words behind it and of
-// the workspace, and prints counts.
+// Calls the service on sheets of the oracle, each for one of four callers and for callers outside the records, at several lengths
+// of the lent buffers, which hold rubbish before each call, compares every word of the answer, of the words behind it and of the
+// workspace, and prints counts.
 // The file has parts of 32,768 words; in a part stand records, each after the number of its words, then zeros.
-// A record: 0 for a sheet, 1 for a bundle; its length and words; the refusal if 18,000 answer words are lent, 0 for none; the answer's
-// length and words.
+// A record: the sheet's length and words; the refusal if 18,000 answer words are lent, 0 for none; the answer's length and words.
 ghost use Rattle.std.specs.Prelude.{◌≤◌};
 
 use files::load_words;
 use libc::STDOUT_FILENO;
-use service::{Input, Turn, turn_for};
+use service::{Turn, turn_for};
 
 // So many callers have a record.
 const CALLERS: usize = 4;
 
-// How many sheets, bundles and both together there were, how many calls, how many of these gave something else, and the serial that is next for each caller.
+// How many sheets and calls there were, how many calls gave something else, and the serial that is next for each caller.
 #[derive(Drop)]
 struct Run {
     sheets: u32,
-    bundles: u32,
-    given: u32,
     calls: u32,
     different: u32,
     serials: [u32; 4],
@@ -40,30 +37,15 @@ impl Run {
         let serials = self.serials;
         Run {
             sheets: one_more(self.sheets),
-            bundles: self.bundles,
-            given: one_more(self.given),
             calls: self.calls,
             different: self.different,
             serials,
         }
     }
 
-    // One more bundle.
-    fn bundle(self) -> Run {
-        let serials = self.serials;
-        Run {
-            sheets: self.sheets,
-            bundles: one_more(self.bundles),
-            given: one_more(self.given),
-            calls: self.calls,
-            different: self.different,
-            serials,
-        }
-    }
-
-    // The caller of what was given last.
+    // The caller of this sheet.
     fn caller(self) -> usize {
-        (self.given % 4) as usize
+        (self.sheets % 4) as usize
     }
 
     // The serial that is next for a caller, 0 for one without a record.
@@ -84,8 +66,6 @@ impl Run {
         }
         Run {
             sheets: self.sheets,
-            bundles: self.bundles,
-            given: self.given,
             calls: one_more(self.calls),
             different: if same {
                 self.different
@@ -101,8 +81,6 @@ impl Run {
         let serials = self.serials;
         Run {
             sheets: self.sheets,
-            bundles: self.bundles,
-            given: self.given,
             calls: self.calls,
             different: one_more(self.different),
             serials,
@@ -166,33 +144,31 @@ fn answered(turn: Turn, serial: u32, refusal: u32, length: usize) -> bool {
 
 // One call, before which both buffers hold rubbish.
 fn turn_on_rubbish(
-    what: Input,
     callers: usize,
     position: usize,
     serial: u32,
-    given: &[u32],
+    sheet: &[u32],
     workspace: &mut [u32],
     answer: &mut [u32],
 ) -> Turn {
     put_rubbish(workspace, serial);
     put_rubbish(answer, std::num::wrapping_add_u32(serial, 77));
-    turn_for(what, callers, position, serial, given, workspace, answer)
+    turn_for(callers, position, serial, sheet, workspace, answer)
 }
 
 // One call for one of so many callers with the buffers as lent. A refusal's expected words are none.
 fn call(
     run: Run,
-    what: Input,
     callers: usize,
     position: usize,
-    given: &[u32],
+    sheet: &[u32],
     refusal: u32,
     expected: &[u32],
     workspace: &mut [u32],
     answer: &mut [u32],
 ) -> Run {
     let serial = run.serial(position);
-    let turn = turn_on_rubbish(what, callers, position, serial, given, workspace, answer);
+    let turn = turn_on_rubbish(callers, position, serial, sheet, workspace, answer);
     let next = turn.next;
     let length = expected.len();
     let same = answered(turn, serial, refusal, length)
@@ -205,8 +181,7 @@ fn call(
 // One call with so many words of workspace and of answer.
 fn lend(
     run: Run,
-    what: Input,
-    given: &[u32],
+    sheet: &[u32],
     refusal: u32,
     expected: &[u32],
     workspace: &mut [u32],
@@ -223,10 +198,9 @@ fn lend(
     let position = run.caller();
     call(
         run,
-        what,
         CALLERS,
         position,
-        given,
+        sheet,
         refusal,
         expected,
         &mut workspace[..words],
@@ -234,22 +208,19 @@ fn lend(
     )
 }
 
-// A call for callers outside the records, whatever is given and the workspace is: one past the last, the last position that there is, and the first where no record is lent.
-fn outside(run: Run, what: Input, given: &[u32], workspace: &mut [u32], answer: &mut [u32]) -> Run {
-    let none = &given[..0];
+// A call for callers outside the records, whatever the sheet and the workspace are: one past the last, the last position that there is, and the first where no record is lent.
+fn outside(run: Run, sheet: &[u32], workspace: &mut [u32], answer: &mut [u32]) -> Run {
+    let none = &sheet[..0];
     let last: usize = 18446744073709551615;
-    let r1 = call(
-        run, what, CALLERS, CALLERS, given, 11, none, workspace, answer,
-    );
-    let r2 = call(r1, what, CALLERS, last, given, 11, none, workspace, answer);
-    call(r2, what, 0, 0, given, 11, none, workspace, answer)
+    let r1 = call(run, CALLERS, CALLERS, sheet, 11, none, workspace, answer);
+    let r2 = call(r1, CALLERS, last, sheet, 11, none, workspace, answer);
+    call(r2, 0, 0, sheet, 11, none, workspace, answer)
 }
 
-// What is accepted with an answer buffer that is one word short, far longer, and empty.
+// An accepted sheet with an answer buffer that is one word short, far longer, and empty.
 fn unequal(
     run: Run,
-    what: Input,
-    given: &[u32],
+    sheet: &[u32],
     expected: &[u32],
     workspace: &mut [u32],
     answer: &mut [u32],
@@ -259,61 +230,45 @@ fn unequal(
         return run.differs();
     }
     let none = &expected[..0];
-    let r1 = lend(
-        run,
-        what,
-        given,
-        9,
-        none,
-        workspace,
-        16384,
-        answer,
-        full - 1,
-    );
-    let r2 = lend(
-        r1, what, given, 0, expected, workspace, 18000, answer, 18000,
-    );
-    lend(r2, what, given, 9, none, workspace, 16385, answer, 0)
+    let r1 = lend(run, sheet, 9, none, workspace, 16384, answer, full - 1);
+    let r2 = lend(r1, sheet, 0, expected, workspace, 18000, answer, 18000);
+    lend(r2, sheet, 9, none, workspace, 16385, answer, 0)
 }
 
-// The calls of what is accepted: those with an answer buffer as long as the answer, and the workspace one word short and long enough; then the others.
+// The calls of an accepted sheet: those with an answer buffer as long as the answer, and the workspace one word short and long enough; then the others.
 fn accepted(
     run: Run,
-    what: Input,
-    given: &[u32],
+    sheet: &[u32],
     expected: &[u32],
     workspace: &mut [u32],
     answer: &mut [u32],
 ) -> Run {
     let full = expected.len();
     let none = &expected[..0];
-    let r1 = lend(run, what, given, 1, none, workspace, 16383, answer, full);
-    let r2 = lend(r1, what, given, 0, expected, workspace, 16384, answer, full);
-    unequal(r2, what, given, expected, workspace, answer)
+    let r1 = lend(run, sheet, 1, none, workspace, 16383, answer, full);
+    let r2 = lend(r1, sheet, 0, expected, workspace, 16384, answer, full);
+    unequal(r2, sheet, expected, workspace, answer)
 }
 
-// Anything with a workspace that is too short.
-fn short(run: Run, what: Input, given: &[u32], workspace: &mut [u32], answer: &mut [u32]) -> Run {
-    let none = &given[..0];
-    let r1 = lend(run, what, given, 1, none, workspace, 16383, answer, 300);
-    lend(r1, what, given, 1, none, workspace, 0, answer, 17)
+// Any sheet with a workspace that is too short.
+fn short(run: Run, sheet: &[u32], workspace: &mut [u32], answer: &mut [u32]) -> Run {
+    let none = &sheet[..0];
+    let r1 = lend(run, sheet, 1, none, workspace, 16383, answer, 300);
+    lend(r1, sheet, 1, none, workspace, 0, answer, 17)
 }
 
-// The calls of what is refused: workspaces that are too short, long enough and longer, answer buffers long and empty.
+// The calls of a sheet that is refused: workspaces that are too short, long enough and longer, answer buffers long and empty.
 fn refused(
     run: Run,
-    what: Input,
-    given: &[u32],
+    sheet: &[u32],
     refusal: u32,
     workspace: &mut [u32],
     answer: &mut [u32],
 ) -> Run {
-    let none = &given[..0];
-    let r1 = short(run, what, given, workspace, answer);
-    let r2 = lend(
-        r1, what, given, refusal, none, workspace, 16384, answer, 18000,
-    );
-    lend(r2, what, given, refusal, none, workspace, 18000, answer, 0)
+    let none = &sheet[..0];
+    let r1 = short(run, sheet, workspace, answer);
+    let r2 = lend(r1, sheet, refusal, none, workspace, 16384, answer, 18000);
+    lend(r2, sheet, refusal, none, workspace, 18000, answer, 0)
 }
 
 // The word at a position as a count: 0 if there is none, or if it is past 65,535.
@@ -327,46 +282,24 @@ fn count_at(words: &[u32], at: usize) -> usize
     if w < 65536 { w as usize } else { 0 }
 }
 
-// All calls of a record, from behind its first word on.
-fn replay_as(
-    run: Run,
-    what: Input,
-    words: &[u32],
-    workspace: &mut [u32],
-    answer: &mut [u32],
-) -> Run {
+// All calls of a record.
+fn replay(run: Run, words: &[u32], workspace: &mut [u32], answer: &mut [u32]) -> Run {
     let n = count_at(words, 0);
     if words.len() < n + 3 {
         return run.differs();
     }
-    let given = &words[1..n + 1];
+    let sheet = &words[1..n + 1];
     let refusal = words[n + 1];
     let expected = &words[n + 3..];
     if count_at(words, n + 2) != expected.len() {
         return run.differs();
     }
-    let r = outside(run, what, given, workspace, answer);
+    let r = outside(run.sheet(), sheet, workspace, answer);
     if refusal == 0 {
-        accepted(r, what, given, expected, workspace, answer)
+        accepted(r, sheet, expected, workspace, answer)
     } else {
-        refused(r, what, given, refusal, workspace, answer)
+        refused(r, sheet, refusal, workspace, answer)
     }
-}
-
-// All calls of a record: its first word says what is given.
-fn replay(run: Run, words: &[u32], workspace: &mut [u32], answer: &mut [u32]) -> Run {
-    if words.len() == 0 {
-        return run.differs();
-    }
-    let what = words[0];
-    let rest = &words[1..];
-    if what == 0 {
-        return replay_as(run.sheet(), Input::Sheet, rest, workspace, answer);
-    }
-    if what == 1 {
-        return replay_as(run.bundle(), Input::Bundle, rest, workspace, answer);
-    }
-    run.differs()
 }
 
 // All records of a part, each after the number of its words; 0 ends the part.
@@ -414,12 +347,10 @@ fn print_count(n: u32, what: &[u8]) {
     io::write_all(STDOUT_FILENO, what);
 }
 
-// The largest serial is next for the second caller, so that the first that it is given crosses the wrap while the others stay.
+// The largest serial is next for the second caller, so that its first sheet crosses the wrap while the others stay.
 fn start() -> Run {
     Run {
         sheets: 0,
-        bundles: 0,
-        given: 0,
         calls: 0,
         different: 0,
         serials: [0, 4294967295, 7, 4294967000],
@@ -438,7 +369,6 @@ fn main() {
     let run = parts(start(), file, &mut workspace, &mut answer);
     libc::close(file);
     print_count(run.sheets, b" sheets, ");
-    print_count(run.bundles, b" bundles, ");
     print_count(run.calls, b" calls, ");
     print_count(run.different, b" different, next serials ");
     print_count(run.serial(0), b" ");

@@ -11,9 +11,8 @@ use Rattle.writing.specs.declared.Outcome.{Outcome}
 use Rattle.writing.specs.declared.Outcome.TheVariants.{Refused, Accepted}
 use Rattle.writing.specs.Outcome.{Returned, number, length, returned_by, Filled}
 use Rattle.inference.specs.Outcome.{Came, Inferred}
-use Rattle.service.specs.Served.{caller_with, Tells, turn_of, Served}
+use Rattle.service.specs.Served.{caller_with, Tells, Served}
 use Rattle.service.specs.declared.Reply.{Reply}
-use Rattle.service.specs.declared.Turn.{Turn}
 use Rattle.service.specs.Loaded.{TellsFilled, reply_of}
 use Rattle.service.specs.Drawn.{Drawn}
 
@@ -37,37 +36,29 @@ successor n h = go (eqb n last_serial) refl
         below : n + 1 < 4294967296 → (n + 1) % 4294967296 ≡ suc n
         below q = omega (arith, q)
 
--- what is told of a call, by what it came to
-module _ {x : Outcome} (n : ℕ) where
-  pub turn_refused : {k : ℕ} → x ≡ Refused k → turn_of (Refused k) n ≡ turn_of x n
-  turn_refused e = ap (λ (y : Outcome). turn_of y n) (sym e)
-
-  pub turn_accepted : {m next : ℕ} → x ≡ Accepted m → n < 2 ^ 32 → next ≡ (n + 1) % 2 ^ 32 → ◌≡◌ {A = Turn} (record { reply = (turn_of (Accepted m) n).reply; next = next }) (turn_of x n)
-  turn_accepted {m} e h q = ap (λ (k : ℕ). record { reply = (turn_of (Accepted m) n).reply; next = k }) (q ∙ successor n h) ∙ ap (λ (y : Outcome). turn_of y n) (sym e)
-
 module _ {ws ans ws' ans' : List ℕ} (n : ℕ) where
-  refused_as : (o : TheOutcome) {k : ℕ} → Came o ws ans (Refused k) ws' ans' → Tells (serves (caller_with n) o) ws ans (turn_of (Refused k) n).reply n ws' ans'
+  refused_as : (o : TheOutcome) {k : ℕ} → Came o ws ans (Refused k) ws' ans' → Tells (serves (caller_with n) o) ws ans (record { refusal = k; serial = 0; length = 0 }) n ws' ans'
   unfolding serves returned_by
   refused_as (refusal j) c = record { refusal = ap told c.returned; serial = refl; long = refl; state = refl; answer = c.answer; workspace = c.workspace }
   refused_as (accepted a) c = absurd (false≢true (sym (ap is_number c.returned)))
 
-  accepted_as : (o : TheOutcome) {m : ℕ} → Came o ws ans (Accepted m) ws' ans' → Tells (serves (caller_with n) o) ws ans (turn_of (Accepted m) n).reply (turn_of (Accepted m) n).next ws' ans'
+  accepted_as : (o : TheOutcome) {m next : ℕ} → n < 2 ^ 32 → Came o ws ans (Accepted m) ws' ans' → next ≡ (n + 1) % 2 ^ 32
+      → Tells (serves (caller_with n) o) ws ans (record { refusal = 0; serial = n; length = m }) next ws' ans'
   unfolding serves returned_by
-  accepted_as (refusal j) c = absurd (false≢true (ap is_number c.returned))
-  accepted_as (accepted a) c = record { refusal = refl; serial = refl; long = ap told c.returned; state = refl; answer = c.answer; workspace = c.workspace }
+  accepted_as (refusal j) h c e = absurd (false≢true (ap is_number c.returned))
+  accepted_as (accepted a) h c e = record { refusal = refl; serial = refl; long = ap told c.returned; state = e ∙ successor n h; answer = c.answer; workspace = c.workspace }
 
-  -- whatever the call came to
-  pub turned : (o : TheOutcome) {x : Outcome} {r : Turn} → Came o ws ans x ws' ans' → r ≡ turn_of x n → Tells (serves (caller_with n) o) ws ans r.reply r.next ws' ans'
-  turned o {x} c e = subst (λ (t : Turn). Tells (serves (caller_with n) o) ws ans t.reply t.next ws' ans') (sym e) (go x c)
-    where
-      go : (y : Outcome) → Came o ws ans y ws' ans' → Tells (serves (caller_with n) o) ws ans (turn_of y n).reply (turn_of y n).next ws' ans'
-      go (Refused k) d = refused_as o d
-      go (Accepted m) d = accepted_as o d
+module _ (sheet ws ans : List ℕ) {r : Outcome} {ws' ans' : List ℕ} (n : ℕ) (i : Inferred sheet ws ans r ws' ans') where
+  came : {r' : Outcome} → r ≡ r' → Inferred sheet ws ans r' ws' ans'
+  came e = subst (λ (x : Outcome). Inferred sheet ws ans x ws' ans') e i
 
--- on a sheet
-pub served : {ws ans ws' ans' : List ℕ} (n : ℕ) (sheet : List ℕ) {x : Outcome} {r : Turn} → Inferred sheet ws ans x ws' ans' → r ≡ turn_of x n → Served n sheet ws ans r.reply r.next ws' ans'
-unfolding call
-served {ws} {ans} n sheet c e = turned n (outcome sheet (len ws) (len ans)) c e
+  pub served_refused : {k : ℕ} → r ≡ Refused k → Served n sheet ws ans (record { refusal = k; serial = 0; length = 0 }) n ws' ans'
+  unfolding call
+  served_refused e = refused_as n (outcome sheet (len ws) (len ans)) (came e)
+
+  pub served_accepted : {m next : ℕ} → r ≡ Accepted m → n < 2 ^ 32 → next ≡ (n + 1) % 2 ^ 32 → Served n sheet ws ans (record { refusal = 0; serial = n; length = m }) next ws' ans'
+  unfolding call
+  served_accepted e h q = accepted_as n (outcome sheet (len ws) (len ans)) h (came e) q
 
 -- ---- a call that fills one buffer and takes no serial
 module _ {a a' : List ℕ} where

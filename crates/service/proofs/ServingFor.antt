@@ -1,12 +1,12 @@
 -- A call for a caller, as the host is told it: outside the records, and inside them.
-use Rattle.std.proofs.Common.{◌≡◌, ℕ, zero, suc, ◌<◌, ◌≤◌, true, false, leb, List, [], ◌∷◌, map, length, get_or, set, refl, ap, ◌∙◌, arith, le-leb}
+use Rattle.std.proofs.Common.{◌≡◌, ℕ, zero, suc, ◌<◌, ◌≤◌, List, [], ◌∷◌, map, length, get_or, set, sym, refl, ap, ◌∙◌, subst, arith, le-leb}
 use lib.ListN.{length-map, get_or-map}
 use borrow.Author.Tests.{lt-leb}
-use Rattle.model.specs.Call.{Outcome as TheOutcome, refusal, outcome}
+use Rattle.model.specs.Call.{refusal}
 use Rattle.model.specs.Load.{load}
-use Rattle.model.specs.Service.{Caller as TheCaller, new_caller, Served as TheServed, serves, call}
-use Rattle.model.specs.Callers.{outside, replaces, serves_for, call_for, load_for}
-use Rattle.model.specs.Component.{bundle_outcome, component_for}
+use Rattle.model.specs.Service.{Caller as TheCaller, Served as TheServed, serves, call}
+use Rattle.model.specs.Callers.{ServedFor as TheServedFor, outside, replaces, load_for}
+use Rattle.model.proofs.Callers.{first_11, inside}
 use Rattle.writing.specs.declared.Outcome.{Outcome}
 use Rattle.writing.specs.declared.Outcome.TheVariants.{Refused}
 use Rattle.writing.proofs.Ending.{filled_refused}
@@ -14,11 +14,9 @@ use Rattle.workspace.specs.Sort.{cleared_from}
 use Rattle.inference.specs.Outcome.{Came}
 use Rattle.service.specs.declared.Caller.{Caller}
 use Rattle.service.specs.declared.Reply.{Reply}
-use Rattle.service.specs.declared.Input.{Input}
-use Rattle.service.specs.declared.Input.TheVariants.{Sheet, Bundle}
 use Rattle.service.specs.Loaded.{TellsFilled, reply_of, LoadedFor}
 use Rattle.service.proofs.Serving.{told_filled}
-use Rattle.service.specs.Served.{caller_with, caller_says, Tells, Served, BundleServed, Outside, ServedOf, TellsFor, ServedFor, BundleServedFor}
+use Rattle.service.specs.Served.{caller_with, caller_says, Tells, Served, Outside, ServedOf, TellsFor, ServedFor}
 
 -- the record of a caller that is not there
 abbrev pub no_caller : Caller
@@ -29,14 +27,13 @@ says_set [] i c = refl
 says_set (d ∷ l) zero c = refl
 says_set (d ∷ l) (suc i) c = ap (λ (m : List TheCaller). caller_says d ∷ m) (says_set l i c)
 
--- whatever the call comes to
-module _ (cs : List Caller) (i : ℕ) (o : TheOutcome) (ws ans : List ℕ) {r : Reply} {ws' ans' : List ℕ} where
-  outside_for : length cs ≤ i → Outside ws ans r ws' ans' → TellsFor (serves_for (map caller_says cs) i o) ws ans r cs ws' ans'
-  unfolding serves outside
-  outside_for h u =
-      let t = u 0 in
-      let e : leb (length (map caller_says cs)) i ≡ true = le-leb (length (map caller_says cs)) i (omega (arith, h, length-map cs caller_says)) in
-      rw e (record { refusal = t.refusal; serial = t.serial; long = t.long; callers = refl; answer = t.answer; workspace = t.workspace })
+module _ (cs : List Caller) (i : ℕ) (sheet ws ans : List ℕ) {r : Reply} {ws' ans' : List ℕ} where
+  pub told-outside : length cs ≤ i → Outside ws ans r ws' ans' → ServedFor cs i sheet ws ans r cs ws' ans'
+  unfolding serves
+  told-outside h o =
+      let t = o 0 in
+      subst (λ (x : TheServedFor). TellsFor x ws ans r cs ws' ans') (sym (first_11 (map caller_says cs) i sheet (length ws) (length ans) (omega (arith, h, length-map cs caller_says))))
+      (record { refusal = t.refusal; serial = t.serial; long = t.long; callers = refl; answer = t.answer; workspace = t.workspace })
 
   -- the call of one caller, as a call for it
   replaced : (t : TheServed) (next : ℕ) → Tells t ws ans r next ws' ans' → TellsFor (replaces (map caller_says cs) i t) ws ans r (set cs i (record { next = next })) ws' ans'
@@ -49,34 +46,13 @@ module _ (cs : List Caller) (i : ℕ) (o : TheOutcome) (ws ans : List ℕ) {r : 
     workspace = h.workspace;
   }
 
-  inside_for : {next : ℕ} → i < length cs → Tells (serves (caller_says (get_or cs i no_caller)) o) ws ans r next ws' ans'
-      → TellsFor (serves_for (map caller_says cs) i o) ws ans r (set cs i (record { next = next })) ws' ans'
-  unfolding outside
-  inside_for {next} h e =
-      let own : get_or (map caller_says cs) i new_caller ≡ caller_says (get_or cs i no_caller) = get_or-map caller_says cs i no_caller in
-      let n : leb (length (map caller_says cs)) i ≡ false = lt-leb (length (map caller_says cs)) i (omega (arith, h, length-map cs caller_says)) in
-      rw (n, own) (replaced _ next e)
-
-module _ (cs : List Caller) (i : ℕ) (words ws ans : List ℕ) {r : Reply} {ws' ans' : List ℕ} where
-  -- on a sheet
-  pub told-outside : length cs ≤ i → Outside ws ans r ws' ans' → ServedFor cs i words ws ans r cs ws' ans'
-  unfolding call_for
-  told-outside h u = outside_for cs i (outcome words (length ws) (length ans)) ws ans h u
-
-  pub told_inside : {next : ℕ} → i < length cs → Served (get_or cs i no_caller).next words ws ans r next ws' ans'
-      → ServedFor cs i words ws ans r (set cs i (record { next = next })) ws' ans'
-  unfolding call_for call
-  told_inside h e = inside_for cs i (outcome words (length ws) (length ans)) ws ans h e
-
-  -- on a bundle
-  pub bundle_outside : length cs ≤ i → Outside ws ans r ws' ans' → BundleServedFor cs i words ws ans r cs ws' ans'
-  unfolding component_for
-  bundle_outside h u = outside_for cs i (bundle_outcome words (length ws) (length ans)) ws ans h u
-
-  pub bundle_inside : {next : ℕ} → i < length cs → BundleServed (get_or cs i no_caller).next words ws ans r next ws' ans'
-      → BundleServedFor cs i words ws ans r (set cs i (record { next = next })) ws' ans'
-  unfolding component_for
-  bundle_inside h e = inside_for cs i (bundle_outcome words (length ws) (length ans)) ws ans h e
+  pub told_inside : {next : ℕ} → i < length cs → Served (get_or cs i no_caller).next sheet ws ans r next ws' ans'
+      → ServedFor cs i sheet ws ans r (set cs i (record { next = next })) ws' ans'
+  told_inside {next} h e =
+      let own : get_or (map caller_says cs) i (caller_with 0) ≡ caller_says (get_or cs i no_caller) = get_or-map caller_says cs i no_caller in
+      let there = inside (map caller_says cs) i sheet (length ws) (length ans) (omega (arith, h, length-map cs caller_says)) in
+      subst (λ (x : TheServedFor). TellsFor x ws ans r (set cs i (record { next = next })) ws' ans')
+      (sym (there ∙ ap (λ (c : TheCaller). replaces (map caller_says cs) i (call c sheet (length ws) (length ans))) own)) (replaced _ next e)
 
 -- a call that was refused with 11 is told so, whatever the caller's serial
 pub outside_told : {ws ans ws' ans' : List ℕ} {r : Outcome} {y : Reply} → Came (refusal 11) ws ans r ws' ans' → y ≡ reply_of r → Outside ws ans y ws' ans'
@@ -86,18 +62,14 @@ outside_told {ans = ans} {r = r} c e serial =
     record { refusal = t.refusal; serial = t.serial; long = t.long; state = refl; answer = t.words; workspace = c.workspace }
 
 -- ---- with the count of the records, the position and the serial as numbers
-module _ (what : Input) (callers i serial : ℕ) (words ws ans : List ℕ) {r : Reply} {ws' ans' : List ℕ} where
-  pub of_outside : callers ≤ i → Outside ws ans r ws' ans' → ServedOf what callers i serial words ws ans r serial ws' ans'
+module _ (callers i serial : ℕ) (sheet ws ans : List ℕ) {r : Reply} {ws' ans' : List ℕ} where
+  pub of_outside : callers ≤ i → Outside ws ans r ws' ans' → ServedOf callers i serial sheet ws ans r serial ws' ans'
   unfolding outside
   of_outside h o = rw (le-leb callers i h) (o serial)
 
-  pub of_sheet_lem : {next : ℕ} → what ≡ Sheet → i < callers → Served serial words ws ans r next ws' ans' → ServedOf what callers i serial words ws ans r next ws' ans'
-  unfolding outside call
-  of_sheet_lem e h k = rw (e, lt-leb callers i h) k
-
-  pub of_bundle : {next : ℕ} → what ≡ Bundle → i < callers → BundleServed serial words ws ans r next ws' ans' → ServedOf what callers i serial words ws ans r next ws' ans'
+  pub of_inside : {next : ℕ} → i < callers → Served serial sheet ws ans r next ws' ans' → ServedOf callers i serial sheet ws ans r next ws' ans'
   unfolding outside
-  of_bundle e h k = rw (e, lt-leb callers i h) k
+  of_inside h e = rw (lt-leb callers i h) e
 
 module _ (callers i seed n m : ℕ) (sheet : List ℕ) {r : Reply} {sheet' : List ℕ} where
   pub load-outside : callers ≤ i → sheet' ≡ cleared_from 0 sheet → r ≡ reply_of (Refused 11) → LoadedFor callers i seed n m sheet r sheet'

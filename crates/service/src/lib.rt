@@ -4,9 +4,8 @@ ghost use Rattle.model.specs.Limits.{least_workspace, most_sheet};
 ghost use Rattle.model.specs.Service.{new_caller};
 ghost use Rattle.service.specs.Drawn.{Drawn};
 ghost use Rattle.service.specs.Loaded.{reply_of, Loaded, LoadedFor};
-ghost use Rattle.service.specs.Served.{turn_of, Served, BundleServed, Outside, ServedOf, ServedFor, BundleServedFor};
+ghost use Rattle.service.specs.Served.{Served, Outside, ServedOf, ServedFor};
 
-use components::infer_components;
 use dot::draw;
 use inference::{infer_mutation_aliasing_ranges, refuse};
 use load::class_load;
@@ -29,13 +28,6 @@ pub struct Reply {
     pub length: usize,
 }
 
-// What the words of a call are.
-#[derive(Drop)]
-pub enum Input {
-    Sheet,
-    Bundle,
-}
-
 // A reply, and the serial that is next.
 #[derive(Drop)]
 pub struct Turn {
@@ -43,11 +35,11 @@ pub struct Turn {
     pub next: u32,
 }
 
-// A call that came to this, with the caller's serial as a number: an accepted one takes it.
-fn turn_of(outcome: Outcome, serial: u32) -> Turn
-    ensures { result ≡ turn_of outcome serial }
+// The whole call, with the serial as a number.
+pub fn turn_from(serial: u32, sheet: &[u32], workspace: &mut [u32], answer: &mut [u32]) -> Turn
+    ensures { Served serial sheet.now workspace.old answer.old result.reply result.next workspace.new answer.new }
 {
-    match outcome {
+    match infer_mutation_aliasing_ranges(sheet, workspace, answer) {
         Outcome::Refused(k) => {
             let reply = Reply {
                 refusal: k,
@@ -73,28 +65,6 @@ fn turn_of(outcome: Outcome, serial: u32) -> Turn
     }
 }
 
-// The whole call, with the serial as a number.
-pub fn turn_from(serial: u32, sheet: &[u32], workspace: &mut [u32], answer: &mut [u32]) -> Turn
-    ensures { Served serial sheet.now workspace.old answer.old result.reply result.next workspace.new answer.new }
-{
-    turn_of(
-        infer_mutation_aliasing_ranges(sheet, workspace, answer),
-        serial,
-    )
-}
-
-// The same on a bundle.
-pub fn component_turn(
-    serial: u32,
-    bundle: &[u32],
-    workspace: &mut [u32],
-    answer: &mut [u32],
-) -> Turn
-    ensures { BundleServed serial bundle.now workspace.old answer.old result.reply result.next workspace.new answer.new }
-{
-    turn_of(infer_components(bundle, workspace, answer), serial)
-}
-
 // The refusal of a caller outside the records.
 fn refuse_outside(workspace: &mut [u32], answer: &mut [u32]) -> Reply
     ensures { Outside workspace.old answer.old result workspace.new answer.new }
@@ -104,15 +74,14 @@ fn refuse_outside(workspace: &mut [u32], answer: &mut [u32]) -> Reply
 
 // The whole call for one of so many callers, with its serial as a number: for a program, which holds no records.
 pub fn turn_for(
-    what: Input,
     callers: usize,
     position: usize,
     serial: u32,
-    words: &[u32],
+    sheet: &[u32],
     workspace: &mut [u32],
     answer: &mut [u32],
 ) -> Turn
-    ensures { ServedOf what callers position serial words.now workspace.old answer.old result.reply result.next workspace.new answer.new }
+    ensures { ServedOf callers position serial sheet.now workspace.old answer.old result.reply result.next workspace.new answer.new }
 {
     if callers <= position {
         let reply = refuse_outside(workspace, answer);
@@ -121,10 +90,7 @@ pub fn turn_for(
             next: serial,
         };
     }
-    match what {
-        Input::Sheet => turn_from(serial, words, workspace, answer),
-        Input::Bundle => component_turn(serial, words, workspace, answer),
-    }
+    turn_from(serial, sheet, workspace, answer)
 }
 
 // The service call: it takes the serial of the caller at a position, calls the inference, and stores the successor.
@@ -143,26 +109,6 @@ pub extern "C" fn service_infer(
     }
     let serial = callers[position].next;
     let turn = turn_from(serial, sheet, workspace, answer);
-    callers[position].next = turn.next;
-    turn.reply
-}
-
-// The same on a bundle: one serial for all its sheets.
-#[unsafe(no_mangle)]
-pub extern "C" fn components_infer(
-    callers: &mut [Caller],
-    position: usize,
-    bundle: &[u32],
-    workspace: &mut [u32],
-    answer: &mut [u32],
-) -> Reply
-    ensures { BundleServedFor callers.old position bundle.now workspace.old answer.old result callers.new workspace.new answer.new }
-{
-    if callers.len() <= position {
-        return refuse_outside(workspace, answer);
-    }
-    let serial = callers[position].next;
-    let turn = component_turn(serial, bundle, workspace, answer);
     callers[position].next = turn.next;
     turn.reply
 }

@@ -211,7 +211,6 @@ turned_end {ws₀} {count} {index} {returns} {answer₀} {at} {ws} {answer} {to}
       left = λ s d.
           let a = (p.sofar s d).after in
           record {
-            places = d.places ∙ sym (tracked_kept ws₀ ws count p.places);
             counts = ap (simulated_of ws) e ∙ sym a.counts ∙ ap (λ (m : Simulated). taken_by m.walks) (over s d);
             state = sym a.state ∙ ap (λ (m : Simulated). with_handed [] m.state) (over s d);
             unused = omega (arith, d.first, e, a.index, ap (λ (m : Simulated). m.index) (over s d));

@@ -38,9 +38,8 @@ pub record Marked (s : Sheet) (ws : List ℕ) (count index returns : ℕ) : Type
   pub state : state_of ws HANDED ≡ unhanded (after_renders s)
   pub first : index ≡ (build s).index
 
--- what the simulated walks of s, `count` of them, leave: the places with their marks, the entries that each took and the state stand in the words, and `next` is the first index unused
+-- what the simulated walks of s, `count` of them, leave: the entries that each took and the state stand in the words, and `next` is the first index unused
 pub record Left (s : Sheet) (ws : List ℕ) (count next : ℕ) : Type 0 where
-  pub places : tracked s ≡ tracked_of ws count
   pub counts : simulated_of ws count ≡ map (λ (w : Walk). w.taken) (simulate s).walks
   pub state : state_of ws HANDED ≡ unhanded (simulate s).state
   pub unused : next ≡ (simulate s).index

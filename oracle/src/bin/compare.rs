@@ -1,5 +1,5 @@
 //! compare --seed S --sheets N --damaged M --loads L --drawings D --certainty C --callers K
-//!         --components B [--recreated H] [--graphviz G]
+//!         [--recreated H] [--graphviz G]
 //!         [--threads T] [--program PATH --runs R] [--files F..]
 //!
 //! Makes N accepted sheets and M damaged calls from a seed and compares the
@@ -11,8 +11,7 @@
 //! from the seed; G texts of sheets from the seed are given to Graphviz. Then how sure the
 //! mutation of each parameter is: of the fixed sheets that order 8 speaks of, and of C such
 //! sheets from the seed. Then K lists of calls by several callers, for which our library has to
-//! be there. Then bundles: the fixed ones, and B accepted and B damaged ones from the seed. Then runs
-//! of the program at PATH: on its fixed files, and R on files from the seed.
+//! be there. Then runs of the program at PATH: on its fixed files, and R on files from the seed.
 //! With files, compares those instead.
 
 use std::path::{Path, PathBuf};
@@ -22,7 +21,6 @@ use std::time::{Duration, Instant};
 use oracle::callers::{self, INSIDE, List, OUTSIDE, Server, compare_list};
 use oracle::certainty::{self, SORTS, compare_certainty};
 use oracle::compare::{Difference, Side, compare, lines, original_lines, roomy, shrink};
-use oracle::components::{Bundler, Seen, compare_bundle, shrink_bundle};
 use oracle::damage::{Call, Room, damaged};
 use oracle::drawing::{self, Drawer, compare_drawing};
 use oracle::graphviz::compare_picture;
@@ -31,9 +29,7 @@ use oracle::plain;
 use oracle::plain::sheet::{Sheet, WORKSPACE_WORDS};
 use oracle::program::{self, compare_run, file_words};
 use oracle::random::Random;
-use oracle::{
-    bundles, cases, component_cases, damage, dense, generate, held, recreated, text, totals,
-};
+use oracle::{cases, damage, dense, generate, held, recreated, text, totals};
 
 const REPORT: &str = "difference.txt";
 
@@ -47,7 +43,6 @@ struct Arguments {
     drawings: u64,
     certainty: u64,
     callers: u64,
-    components: u64,
     graphviz: u64,
     threads: u64,
     program: Option<PathBuf>,
@@ -65,7 +60,6 @@ fn arguments() -> Result<Arguments, String> {
         drawings: 10_000,
         certainty: 10_000,
         callers: 1_000,
-        components: 5_000,
         graphviz: 0,
         threads: 1,
         program: None,
@@ -93,7 +87,6 @@ fn arguments() -> Result<Arguments, String> {
             "--drawings" => arguments.drawings = number,
             "--certainty" => arguments.certainty = number,
             "--callers" => arguments.callers = number,
-            "--components" => arguments.components = number,
             "--graphviz" => arguments.graphviz = number,
             "--threads" => arguments.threads = number.max(1),
             "--runs" => arguments.runs = number,
@@ -140,17 +133,6 @@ fn servers() -> Vec<Box<dyn Server>> {
     ]
 }
 
-/// The same for bundles.
-fn bundlers() -> Vec<Box<dyn Bundler>> {
-    vec![
-        #[cfg(feature = "service")]
-        Box::new(oracle::ours::Ours::default()),
-    ]
-}
-
-/// Numbers by refusal; 0 is accepted.
-type Refusals = [u64; 13];
-
 #[derive(Default)]
 struct Counts {
     fixed: u64,
@@ -167,7 +149,7 @@ struct Counts {
     drawn: u64,
     drawn_applies: u64,
     /// By refusal of the call at its own lengths; 0 stays 0.
-    not_drawn: Refusals,
+    not_drawn: [u64; 11],
     drawing_calls: u64,
     /// Sheets of order 8, their places by kind, and the places whose kind needs a sort of steps.
     certain: u64,
@@ -178,58 +160,11 @@ struct Counts {
     runs: u64,
     /// Those of the runs that were on fixed files.
     fixed_runs: u64,
-    refusals: Refusals,
-    bundles: Bundles,
+    /// By refusal; 0 is accepted.
+    refusals: [u64; 11],
     differences: u64,
     /// That with the shortest sheet.
     shortest: Option<(Call, Difference)>,
-}
-
-/// What is counted of bundles.
-#[derive(Default)]
-struct Bundles {
-    fixed: u64,
-    made: u64,
-    damaged: u64,
-    refusals: Refusals,
-    /// Of those from the seed: sheets that were answered, those that name others, and those that show a
-    /// mark of an earlier one.
-    sheets: [u64; 3],
-    calls: u64,
-    /// The shortest that differs.
-    shortest: Option<(Call, Difference)>,
-}
-
-/// Keeps the one with fewer words.
-fn keep(shortest: &mut Option<(Call, Difference)>, call: Call, difference: Difference) {
-    let length = call.sheet.len();
-    if shortest.as_ref().is_none_or(|(other, _)| length < other.sheet.len()) {
-        *shortest = Some((call, difference));
-    }
-}
-
-impl Bundles {
-    fn add(&mut self, other: Bundles) {
-        self.fixed += other.fixed;
-        self.made += other.made;
-        self.damaged += other.damaged;
-        add(&mut self.refusals, other.refusals);
-        add(&mut self.sheets, other.sheets);
-        self.calls += other.calls;
-        if let Some((call, difference)) = other.shortest {
-            keep(&mut self.shortest, call, difference);
-        }
-    }
-
-    fn line(&self) -> String {
-        let Bundles { fixed, made, damaged, calls, .. } = self;
-        let [sheets, naming, marked] = self.sheets;
-        format!(
-            "{fixed} fixed bundles, {made} bundles, {damaged} damaged bundles ({}) ({sheets} sheets, \
-             {naming} that name others, marks visible in {marked}) ({calls} calls)",
-            by_refusal(self.refusals)
-        )
-    }
 }
 
 impl Counts {
@@ -239,7 +174,10 @@ impl Counts {
     }
 
     fn keep(&mut self, call: Call, difference: Difference) {
-        keep(&mut self.shortest, call, difference);
+        let length = call.sheet.len();
+        if self.shortest.as_ref().is_none_or(|(other, _)| length < other.sheet.len()) {
+            self.shortest = Some((call, difference));
+        }
     }
 
     fn compare(&mut self, call: Call, sides: &mut [Box<dyn Side>]) -> u32 {
@@ -321,34 +259,6 @@ impl Counts {
         }
     }
 
-    /// Every side held to the fixed bundles with their answers by hand.
-    fn hold_bundlers(&mut self, bundlers: &mut [Box<dyn Bundler>]) {
-        for bundler in bundlers {
-            let (calls, wrong) = component_cases::hold(bundler.as_mut());
-            self.bundles.calls += calls;
-            self.differences += wrong.len() as u64;
-            wrong.iter().take(3).for_each(|message| println!("{}: {message}", bundler.name()));
-        }
-    }
-
-    /// A bundle: the original's answers, the plain reader's and those of every side.
-    fn compare_bundle(&mut self, call: Call, bundlers: &mut [Box<dyn Bundler>]) -> Seen {
-        let mut seen = compare_bundle(&call, bundlers);
-        self.bundles.calls += seen.calls;
-        if let Some(difference) = seen.difference.take() {
-            self.differences += 1;
-            keep(&mut self.bundles.shortest, call, difference);
-        }
-        seen
-    }
-
-    /// The same of one from the seed, whose sheets are counted; its refusal.
-    fn count_bundle(&mut self, call: Call, bundlers: &mut [Box<dyn Bundler>]) -> u32 {
-        let seen = self.compare_bundle(call, bundlers);
-        add(&mut self.bundles.sheets, [seen.sheets, seen.naming, seen.marked]);
-        seen.refusal
-    }
-
     /// How sure each parameter's mutation is, by chains and by the answers.
     fn compare_certainty(&mut self, call: Call, sides: &mut [Box<dyn Side>]) {
         let seen = compare_certainty(&call, sides);
@@ -387,7 +297,6 @@ impl Counts {
         self.fixed_runs += other.fixed_runs;
         self.differences += other.differences;
         add(&mut self.refusals, other.refusals);
-        self.bundles.add(other.bundles);
         if let Some((call, difference)) = other.shortest {
             self.keep(call, difference);
         }
@@ -438,9 +347,6 @@ impl Counts {
                 needed.join(", ")
             ));
         }
-        if self.bundles.made > 0 {
-            parts.push(self.bundles.line());
-        }
         if self.runs > 0 {
             let fixed = self.fixed_runs;
             parts.push(format!("{} runs of the program ({fixed} on fixed files)", self.runs));
@@ -452,7 +358,7 @@ impl Counts {
 }
 
 /// Refusals with their numbers, those that came up.
-fn by_refusal(counts: Refusals) -> String {
+fn by_refusal(counts: [u64; 11]) -> String {
     let came_up = (0..).zip(counts).filter(|(_, n)| *n > 0);
     let name = |(r, n)| if r == 0 { format!("accepted:{n}") } else { format!("{r}:{n}") };
     came_up.map(name).collect::<Vec<_>>().join(" ")
@@ -476,22 +382,6 @@ fn report(call: &Call, difference: &Difference) {
     };
     let small = shrink(call, |call| again(call).is_some());
     let difference = again(&small).unwrap_or_else(|| difference.clone());
-    write(&small, &difference);
-}
-
-/// The same for the smallest differing bundle found.
-fn report_bundle(call: &Call, difference: &Difference) {
-    let mut bundlers = bundlers();
-    let mut again = |call: &Call| {
-        let found = compare_bundle(call, &mut bundlers).difference;
-        found.filter(|found| found.side == difference.side)
-    };
-    let small = shrink_bundle(call, |call| again(call).is_some());
-    let difference = again(&small).unwrap_or_else(|| difference.clone());
-    write(&small, &difference);
-}
-
-fn write(small: &Call, difference: &Difference) {
     let words: Vec<String> = small.sheet.iter().map(u32::to_string).collect();
     let mut text = format!(
         "# {} differs; workspace {}, answer room {:?}\n{}\n",
@@ -651,37 +541,6 @@ fn compare_lists(arguments: &Arguments, own: u64) -> Counts {
     counts
 }
 
-/// The fixed bundles, and accepted and damaged ones from the seed, as above.
-fn compare_bundles(arguments: &Arguments, own: u64) -> Counts {
-    let mut bundlers = bundlers();
-    let mut counts = Counts::default();
-    if own == 0 {
-        counts.hold_bundlers(&mut bundlers);
-        for call in [component_cases::calls(), component_cases::near()].concat() {
-            counts.bundles.fixed += 1;
-            counts.compare_bundle(call, &mut bundlers);
-        }
-    }
-    let mut random = Random::new(arguments.seed);
-    for i in 0..arguments.components {
-        let mut random = Random::new(random.word());
-        if i % arguments.threads != own {
-            continue;
-        }
-        counts.bundles.made += 1;
-        let call = bundles::good(&mut random);
-        let refusal = counts.count_bundle(call.clone(), &mut bundlers);
-        if refusal != 0 {
-            println!("a made bundle is refused with {refusal}: {:?}", call.sheet);
-            counts.differences += 1;
-        }
-        counts.bundles.damaged += 1;
-        let refusal = counts.count_bundle(bundles::damaged(&mut random), &mut bundlers);
-        counts.bundles.refusals[refusal as usize] += 1;
-    }
-    counts
-}
-
 /// Texts of sheets from the seed, given to Graphviz. It takes long for a graph of a thousand edges, so
 /// that only shorter texts are taken.
 fn compare_pictures(arguments: &Arguments) -> Result<Counts, String> {
@@ -775,9 +634,6 @@ fn compare_all(arguments: &Arguments) -> Result<Counts, String> {
         if arguments.callers > 0 {
             counts.add(in_threads(arguments, compare_lists));
         }
-        if arguments.components > 0 {
-            counts.add(in_threads(arguments, compare_bundles));
-        }
         counts.add(compare_pictures(arguments)?);
         if arguments.certainty > 0 {
             counts.add(in_threads(arguments, compare_certainties));
@@ -807,9 +663,6 @@ fn main() -> ExitCode {
     };
     if let Some((call, difference)) = counts.shortest.take() {
         report(&call, &difference);
-    }
-    if let Some((call, difference)) = counts.bundles.shortest.take() {
-        report_bundle(&call, &difference);
     }
     println!("{}", counts.line());
     ExitCode::from((counts.differences > 0) as u8)

@@ -7,9 +7,6 @@
 //!   workspace length, answer buffer length, refusal (0 if accepted),
 //!   answer length (0 if refused), answer words..
 //!
-//! answers/bundles.bin: the same of bundles, the fixed ones, a quarter of N made and as many damaged
-//!   ones, each with a buffer that is full, one word short and longer
-//!
 //! loads/loads.bin: records of class loads, those of src/load.rs and N made ones, each at every length
 //!   of output that makes a difference
 //!   seed, n, m, output length, refusal (0 if there is a load),
@@ -22,20 +19,18 @@
 //!   how many bytes are drawn (0 if refused), the bytes, filled up with zeros to whole words
 //!
 //! replay/{data/answers.bin,stdout}: records of src/replay.rs, with N accepted and N damaged
-//!   sheets and a quarter as many bundles, in parts of 32,768 words; and that program's line of counts
+//!   sheets, in parts of 32,768 words; and that program's line of counts
 
 use std::path::Path;
 use std::process::ExitCode;
 
-use oracle::bundles;
-use oracle::component_cases;
-use oracle::damage::{Call, Room, damaged};
+use oracle::damage::{Call, damaged};
 use oracle::drawing;
 use oracle::generate::{self, LIMITS};
 use oracle::load::{self, Load};
 use oracle::plain::dot::{Drawn, judge, lend};
 use oracle::plain::sheet::WORKSPACE_WORDS;
-use oracle::plain::{self, Outcome, component};
+use oracle::plain::{self, Outcome};
 use oracle::program::{bytes, file_words};
 use oracle::random::Random;
 use oracle::replay::{self, Recorded};
@@ -53,10 +48,10 @@ fn put_list(words: &mut Words, list: &[u32]) {
     words.extend(list);
 }
 
-/// A call on a sheet or a bundle, once it is known what that alone decides.
-fn answered(call: &Call, judged: Result<Words, u32>) -> Words {
-    let room = call.room.words(judged.as_ref().map_or(0, Vec::len));
-    let (refusal, answer) = match plain::lend(judged, call.workspace, room) {
+fn answer(call: &Call) -> Words {
+    let length = plain::read(&call.sheet).map_or(0, |s| plain::answer(&s).words().len());
+    let room = call.room.words(length);
+    let (refusal, answer) = match plain::outcome(&call.sheet, call.workspace, room) {
         Outcome::Refused(refusal) => (refusal, Vec::new()),
         Outcome::Accepted(answer) => (0, answer),
     };
@@ -65,28 +60,6 @@ fn answered(call: &Call, judged: Result<Words, u32>) -> Words {
     words.extend([call.workspace as u32, room as u32, refusal]);
     put_list(&mut words, &answer);
     words
-}
-
-fn answer(call: &Call) -> Words {
-    answered(call, plain::judge(&call.sheet))
-}
-
-/// A bundle in buffers of three lengths; none if its answer is too long for the file.
-fn bundle_answers(call: &Call) -> Option<Vec<Words>> {
-    const LONGEST: usize = 50_000;
-    let judged = component::judge(&call.sheet);
-    if judged.as_ref().is_ok_and(|answer| answer.len() > LONGEST) {
-        return None;
-    }
-    let rooms = [Room::Exact, Room::Short(1), Room::More(77)];
-    Some(rooms.map(|room| answered(&Call { room, ..call.clone() }, judged.clone())).into())
-}
-
-fn write_bundles(folder: &Path, count: usize, random: &mut Random) -> std::io::Result<()> {
-    let mut calls = component_cases::calls();
-    calls.extend((0..count).flat_map(|_| [bundles::good(random), bundles::damaged(random)]));
-    let records: Vec<Words> = calls.iter().filter_map(bundle_answers).flatten().collect();
-    write(folder, "bundles.bin", records.len(), |i| records[i].clone())
 }
 
 fn write(
@@ -116,8 +89,7 @@ fn write_answers(folder: &Path, count: usize) -> std::io::Result<()> {
         let sheet = generate::at_limit(&mut random, LIMITS[i]);
         answer(&Call::good(&sheet, &mut random))
     })?;
-    write(folder, "damaged.bin", count, |_| answer(&damaged(&mut random)))?;
-    write_bundles(folder, count / 4, &mut random)
+    write(folder, "damaged.bin", count, |_| answer(&damaged(&mut random)))
 }
 
 // =============================================================================
@@ -225,9 +197,9 @@ fn write_replay(folder: &Path, count: usize) -> std::io::Result<()> {
     std::fs::create_dir_all(folder.join("data"))?;
     std::fs::write(folder.join("data/answers.bin"), bytes(&words))?;
     std::fs::write(folder.join("stdout"), &line)?;
-    for refusal in (0..=10).chain([12]) {
+    for refusal in 0..=10 {
         let found = records.iter().filter(|r| r.refusal == refusal).count();
-        println!("refusal {refusal}: {found} sheets and bundles");
+        println!("refusal {refusal}: {found} sheets");
     }
     print!("{}: {} words, {line}", folder.display(), words.len());
     Ok(())

@@ -2,7 +2,6 @@
 //! in the order of their text. Lists and loops only; no thought of speed or of memory.
 
 pub mod building;
-pub mod component;
 pub mod dot;
 pub mod operands;
 pub mod sheet;
@@ -29,11 +28,7 @@ pub struct Whole {
 /// The sheet with its graph and its verdict; or the refusal: 2 to 8 while reading, then 8 while
 /// building.
 pub fn read_whole(words: &[u32]) -> Result<Whole, u32> {
-    whole_of(read_words(words)?)
-}
-
-/// The same of a sheet that is read.
-fn whole_of(sheet: Sheet) -> Result<Whole, u32> {
+    let sheet = read_words(words)?;
     let built = build(&sheet)?;
     let verdict = if sheet.applies() { 10 } else { 0 };
     Ok(Whole { sheet, built, verdict })
@@ -257,19 +252,10 @@ pub fn turn(
     workspace_len: usize,
     answer_len: usize,
 ) -> (Outcome, Option<u32>) {
-    turn_of(callers, position, || outcome(sheet, workspace_len, answer_len))
-}
-
-/// The same of any call that takes a serial.
-fn turn_of(
-    callers: &mut [u32],
-    position: usize,
-    call: impl FnOnce() -> Outcome,
-) -> (Outcome, Option<u32>) {
     let Some(next) = callers.get_mut(position) else {
         return (Outcome::Refused(11), None);
     };
-    let outcome = call();
+    let outcome = outcome(sheet, workspace_len, answer_len);
     match outcome {
         Outcome::Refused(_) => (outcome, None),
         Outcome::Accepted(_) => {

@@ -1,5 +1,5 @@
 //! The sheet: its parts, its words, and the reading of words (refusals 2 to 8; that of building is
-//! not among them), alone or as one of a bundle (3 to 8 and 12).
+//! not among them).
 
 pub const SHEET_WORDS: usize = 16_384;
 pub const WORKSPACE_WORDS: usize = 16_384;
@@ -374,31 +374,19 @@ fn put_block(words: &mut Vec<u32>, block: &Block) {
     }
 }
 
-fn put_function(words: &mut Vec<u32>, function: &InnerFunction) {
-    words.push(function.diagnostics.len() as u32);
-    function.diagnostics.iter().for_each(|d| put_diagnostic(words, d));
-    put_places(words, &function.context);
-}
-
 impl Sheet {
     pub fn words(&self) -> Vec<u32> {
-        self.words_with(&self.functions, put_function)
-    }
-
-    /// The words of the sheet as one of a bundle, where an inner function is the position of an earlier
-    /// sheet.
-    pub fn words_naming(&self, names: &[u32]) -> Vec<u32> {
-        self.words_with(names, |words, name| words.push(*name))
-    }
-
-    fn words_with<F>(&self, functions: &[F], put: fn(&mut Vec<u32>, &F)) -> Vec<u32> {
         let mut words = vec![2, self.function_expression as u32, self.validations as u32];
         words.push(self.identifiers.len() as u32);
         for identifier in &self.identifiers {
             words.extend([identifier.start, identifier.end, identifier.type_]);
         }
-        words.push(functions.len() as u32);
-        functions.iter().for_each(|function| put(&mut words, function));
+        words.push(self.functions.len() as u32);
+        for function in &self.functions {
+            words.push(function.diagnostics.len() as u32);
+            function.diagnostics.iter().for_each(|d| put_diagnostic(&mut words, d));
+            put_places(&mut words, &function.context);
+        }
         put_places(&mut words, &self.params);
         put_places(&mut words, &self.context);
         put_places(&mut words, &[self.returns]);
@@ -417,10 +405,6 @@ impl Sheet {
 struct Reader<'s> {
     words: &'s [u32],
     at: usize,
-    /// What the earlier sheets of a bundle are to one that names them; none if the sheet stands alone.
-    earlier: Option<&'s [InnerFunction]>,
-    /// The positions named so far.
-    names: Vec<u32>,
     /// Number of identifiers and of inner functions, once read.
     identifiers: u32,
     functions: u32,
@@ -484,31 +468,11 @@ impl Reader<'_> {
         Ok(Diagnostic { identity, instance })
     }
 
-    /// The one part of a sheet that is read otherwise in a bundle.
     fn function(&mut self) -> Read<InnerFunction> {
-        match self.earlier {
-            None => self.listed_function(),
-            Some(earlier) => self.named_function(earlier),
-        }
-    }
-
-    fn listed_function(&mut self) -> Read<InnerFunction> {
         let count = self.count(MAX_FUNCTION_DIAGNOSTICS)?;
         let diagnostics = self.times(count, Self::diagnostic)?;
         let context = self.places()?;
         Ok(InnerFunction { diagnostics, context })
-    }
-
-    /// "12, a named position is not an earlier one, or that sheet's context has an identifier not below
-    /// the naming sheet's N, at that word in place of 5"
-    fn named_function(&mut self, earlier: &[InnerFunction]) -> Read<InnerFunction> {
-        let name = self.word()?;
-        let function = earlier.get(name as usize).ok_or(12_u32)?;
-        if function.context.iter().any(|place| place.identifier >= self.identifiers) {
-            return Err(12);
-        }
-        self.names.push(name);
-        Ok(function.clone())
     }
 
     /// The effect of the kind read last counts, in an instruction.
@@ -671,19 +635,8 @@ pub fn read_words(words: &[u32]) -> Result<Sheet, u32> {
     if words.len() > SHEET_WORDS {
         return Err(2);
     }
-    let (sheet, _) = read_all(words, None)?;
-    Ok(sheet)
-}
-
-/// The same of a sheet of a bundle, after the earlier ones: with the lists of the sheets that it names
-/// filled in, and the positions of these; or the refusal, 3 to 8 or 12.
-pub fn read_naming(words: &[u32], earlier: &[InnerFunction]) -> Result<(Sheet, Vec<u32>), u32> {
-    read_all(words, Some(earlier))
-}
-
-fn read_all(words: &[u32], earlier: Option<&[InnerFunction]>) -> Result<(Sheet, Vec<u32>), u32> {
-    let (names, totals) = (Vec::new(), Totals::default());
-    let mut reader = Reader { words, at: 0, earlier, names, identifiers: 0, functions: 0, totals };
+    let totals = Totals::default();
+    let mut reader = Reader { words, at: 0, identifiers: 0, functions: 0, totals };
     let sheet = reader.sheet()?;
-    if reader.at < words.len() { Err(7) } else { Ok((sheet, reader.names)) }
+    if reader.at < words.len() { Err(7) } else { Ok(sheet) }
 }

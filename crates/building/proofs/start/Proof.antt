@@ -3,9 +3,9 @@ use Rattle.building.proofs.Ends.{started}
 use borrow.Author.Rules.{rules}
 use Rattle.building.proofs.start.Statement.{statement}
 use Rattle.building.proofs.start.Tie as tie
-
-mul-clear : tie.Need-overflow-mul-clear
-mul-clear c = search rules
+use Rattle.building.proofs.start.Reads as reads
+use Rattle.building.proofs.start.Lts as lts
+use Rattle.workspace.proofs.clear.Reads as clear_reads
 
 clear-requires : tie.Need-clear-requires
 clear-requires c κs = search rules
@@ -19,4 +19,4 @@ returns c =
     started _ _ b5.requires c.before.before.clear.ensures
 
 pub start_spec : {M : Type 1} → statement M
-start_spec = tie.close (tie.spec mul-clear clear-requires same_length returns)
+start_spec = tie.close (tie.spec clear-requires same_length returns)

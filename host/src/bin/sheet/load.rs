@@ -20,7 +20,7 @@ pub fn load(file: &Path) -> Result<Form, String> {
     form(bytes)
 }
 
-/// Only words have a byte 0, and those of every sheet and every bundle have one: the first is at most 32.
+/// Only words have a byte 0, and every sheet's words have one: the first word is 2.
 fn form(bytes: Vec<u8>) -> Result<Form, String> {
     if bytes.is_empty() {
         return Err("expected a sheet, found nothing".to_string());
@@ -38,7 +38,7 @@ fn form(bytes: Vec<u8>) -> Result<Form, String> {
     })
 }
 
-/// Text of another encoding than UTF-8, by what it begins with. No words of a sheet or a bundle begin so.
+/// Text of another encoding than UTF-8, by what it begins with. No sheet's words begin so.
 fn other_encoding(bytes: &[u8]) -> Option<&'static str> {
     let letter = |byte: u8| byte.is_ascii_graphic() || byte.is_ascii_whitespace();
     match *bytes {

@@ -1,40 +1,37 @@
-use native.Mathlib.Omega.{arith}
 use Rattle.dataflow.proofs.Before.{flags_inside, identifiers_begin, ends_ready, functions_begin, functions_ready, top_read}
 use borrow.Author.Rules.{rules}
 use Rattle.dataflow.proofs.header.read_top.Statement.{statement}
 use Rattle.dataflow.proofs.header.read_top.Tie as tie
 
 flags-at-requires : tie.Need-flags-at-requires
-flags-at-requires c κs =
-    let b3 = c.before.before.before in
-    flags_inside b3.requires.0.0
+flags-at-requires c κs = flags_inside c.before.before.requires.0
 
 records-errors-requires : tie.Need-records-errors-requires
 records-errors-requires c κs = search rules
 
 list-at-requires : tie.Need-list-at-requires
 list-at-requires c κs =
-    let b5 = c.before.before.before.before.before in
-    identifiers_begin b5.requires.0.0
+    let b4 = c.before.before.before.before in
+    identifiers_begin b4.requires.0
 
 read-ends-requires : tie.Need-read-ends-requires
 read-ends-requires c κs =
-    let b7 = c.before.before.before.before.before.before.before in
-    let r = ends_ready b7.requires.0.0 c.before.list_at.ensures in
-    (r.0, (r.1, b7.requires.1))
+    let b6 = c.before.before.before.before.before.before in
+    let r = ends_ready b6.requires.0 c.before.list_at.ensures in
+    (r.0, (r.1, b6.requires.1))
 
 list-at-requires-2 : tie.Need-list-at-requires-2
 list-at-requires-2 c κs =
     let b4 = c.before.before.before.before in
-    let b10 = b4.before.before.before.before.before.before in
-    functions_begin b10.requires.0.0 b4.list_at.ensures c.before.before.read-ends.ensures
+    let b9 = b4.before.before.before.before.before in
+    functions_begin b9.requires.0 b4.list_at.ensures c.before.before.read-ends.ensures
 
 read-functions-requires : tie.Need-read-functions-requires
 read-functions-requires c κs =
     let b4 = c.before.before.before.before in
     let b6 = b4.before.before in
-    let b12 = b6.before.before.before.before.before.before in
-    (functions_ready b12.requires.0.1 b12.requires.0.0 b6.list_at.ensures b4.read-ends.ensures c.before.list-at2.ensures, omega (arith, b4.read-ends.auto.1.1.0, b12.requires.1))
+    let b11 = b6.before.before.before.before.before in
+    functions_ready b11.requires.0 b6.list_at.ensures b4.read-ends.ensures c.before.list-at2.ensures b11.requires.1
 
 same_length : tie.Need-same-length
 same_length c = search rules
@@ -46,8 +43,8 @@ returns c =
     let b9 = b7.before.before in
     let b10 = b9.before in
     let b11 = b10.before in
-    let b15 = b11.before.before.before.before in
-    top_read b15.requires.0.1 b15.requires.0.0 b9.list_at.ensures b7.read-ends.ensures b4.list-at2.ensures b11.flags-at.ensures b10.records-errors.ensures c.before.before.read-functions.ensures
+    let b14 = b11.before.before.before in
+    top_read b14.requires.0 b9.list_at.ensures b7.read-ends.ensures b4.list-at2.ensures b11.flags-at.ensures b10.records-errors.ensures c.before.before.read-functions.ensures
 
 pub read-top-spec : {M : Type 1} → statement M
 read-top-spec =

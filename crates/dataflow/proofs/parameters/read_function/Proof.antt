@@ -10,11 +10,7 @@ start-requires : tie.Need-start-requires
 start-requires c κs = search rules
 
 read-tracked-requires : tie.Need-read-tracked-requires
-read-tracked-requires c κs =
-    let b3 = c.before.before.before in
-    let b7 = b3.before.before.before.before in
-    let b12 = b7.before.before.before.before.before in
-    ((_, record { accepted = b12.requires.0.0; is = b7.read-top.ensures.next }), b3.start.ensures.sound)
+read-tracked-requires c κs = search rules
 
 same_length : tie.Need-same-length
 same_length c = search rules
@@ -24,8 +20,8 @@ returns c =
     let b6 = c.before.before.before.before.before.before in
     let b10 = b6.before.before.before.before in
     let b14 = b10.before.before.before.before in
-    let b19 = b14.before.before.before.before.before in
-    function-read b19.requires.0.1 b19.requires.0.0 b19.requires.1 b14.read-top.ensures b10.start.ensures (b6.read-tracked.ensures _ (record { accepted = b19.requires.0.0; is = b14.read-top.ensures.next }))
+    let b18 = b14.before.before.before.before in
+    function-read b18.requires.0 b18.requires.1 b14.read-top.ensures b10.start.ensures b6.read-tracked.ensures
 
 pub read-function-spec : {M : Type 1} → statement M
 read-function-spec =

@@ -3,7 +3,7 @@ use Rattle.reading.proofs.JudgeLaws.{times_next, times_stop, times_done}
 use Rattle.reading.specs.Says.{cursor_says}
 use Rattle.hir.specs.Says.{word_says}
 use Rattle.reading.specs.Whole.{passing}
-use Rattle.hir.specs.InnerFunctions.{inner_read}
+use Rattle.model.specs.Sections.{inner_function}
 use native.Mathlib.Omega.{arith}
 use mathlib.Core.Path.{◌≡◌, ◌∙◌, sym, refl}
 use borrow.Author.Rules.{rules}
@@ -12,10 +12,10 @@ use Rattle.reading.proofs.sections.functions.Statement.{statement}
 use Rattle.reading.proofs.sections.functions.Tie as tie
 
 abbrev invariant-loop : tie.invariant-loop
-invariant-loop s n lists inner count c₀ left₀ c left = passing left₀ (inner_read lists inner n) s c₀.at ≡ passing left (inner_read lists inner n) s c.at
+invariant-loop s n count c₀ left₀ c left = passing left₀ (inner_function n) s c₀.at ≡ passing left (inner_function n) s c.at
 
 abbrev decreases-loop : tie.decreases-loop
-decreases-loop s n lists inner count c₀ left₀ c left = left
+decreases-loop s n count c₀ left₀ c left = left
 
 count-requires : tie.Need-count-requires invariant-loop decreases-loop
 count-requires c κs = tt
@@ -33,7 +33,7 @@ loop-holds : tie.Need-loop-init invariant-loop decreases-loop
 loop-holds c = refl
 
 inner-function-requires : tie.Need-inner-function-requires invariant-loop decreases-loop
-inner-function-requires c κs = search rules
+inner-function-requires c κs = tt
 
 enum-known-d2 : tie.Need-enum-known-d2 invariant-loop decreases-loop
 enum-known-d2 c = search rules
