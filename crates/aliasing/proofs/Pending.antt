@@ -3,7 +3,7 @@ use Prim.Native.Nat.{ℕ, zero, suc, ◌+◌, ◌-◌, ◌*◌, ◌/◌, ◌%◌
 use native.Mathlib.Omega.{arith}
 use native.Mathlib.Numerals.{add-one}
 use mathlib.Core.Bool.{Bool}
-use mathlib.Core.List.{List, [], ◌∷◌, ◌++◌, map, append_assoc, append_nil}
+use mathlib.Core.List.{List, [], ◌∷◌, ◌++◌, map, append_assoc, append-nil}
 use mathlib.Core.Path.{◌≡◌, refl, sym, ap, subst, ◌∙◌}
 use lib.ListN.{length, get_or, set, drop, length-set}
 use lib.Seq.{get_or-set_same, get_or-set_other, drop-set-lt}
@@ -208,7 +208,7 @@ process_end errors ws₀ count ws i hand p done =
     let nil : drop i (mutations_of ws₀ count) ≡ [] = mutations_end ws₀ count i done in
     record {
       state = sym (after_end (real errors) (state_of ws hand)) ∙ ap (λ (l : List Mutation). after (real errors) l (state_of ws hand)) (sym nil) ∙ p.state;
-      counts = ap (taken_of ws) e ∙ sym (append_nil (taken_of ws i)) ∙ ap (λ (l : List ℕ). taken_of ws i ++ l) (sym (walks_end (real errors) (state_of ws hand)))
+      counts = ap (taken_of ws) e ∙ sym (append-nil (taken_of ws i)) ∙ ap (λ (l : List ℕ). taken_of ws i ++ l) (sym (walks_end (real errors) (state_of ws hand)))
           ∙ ap (λ (l : List Mutation). taken_of ws i ++ takens (walks_of (real errors) l (state_of ws hand))) (sym nil) ∙ p.counts;
       graph = p.graph;
       behind = drop_more (MUTATIONS + 3 * i) RENDERS ws ws₀ (omega (arith, p.mid, p.pending.few)) p.rest;

@@ -1,4 +1,6 @@
 // The walk of a mutation over the graph in the lent workspace (the original's `mutate`), and the loop over the pending mutations.
+#![tactic(auto)]
+
 ghost use Rattle.std.specs.Prelude.{◌≡◌, ◌+◌, ◌-◌, ◌*◌, ◌≤◌, ◌<◌, max, length, get_or};
 ghost use Rattle.model.specs.Limits.{most_identifiers, most_order};
 ghost use Rattle.workspace.specs.Layout.{LEAST, BASE, MUTATIONS, QUEUE, VALUE};
@@ -21,14 +23,14 @@ use workspace::{
 pub mod pushes;
 
 // The original's `MutationKind`.
-#[derive(Drop)]
+#[derive(Clone, Copy)]
 pub enum MutationKind {
     Conditional,
     Definite,
 }
 
 // What `mutate` is called with. A simulated mutation has its end unset and records no errors; reason 0 is none, 1 AssignCurrentProperty.
-#[derive(Drop)]
+#[derive(Clone, Copy)]
 pub struct Mutation {
     pub end: EvaluationOrder,
     pub transitive: bool,
@@ -44,14 +46,14 @@ pub struct Mutation {
 const MOST_BASE: u32 = 4096;
 
 // What a step leaves: the queue's top, and where the next function is to be handed over.
-#[derive(Drop)]
+#[derive(Clone, Copy)]
 pub struct StepLeft {
     pub top: usize,
     pub hand: usize,
 }
 
 // What a walk leaves: the entries taken, and where the next function is to be handed over.
-#[derive(Drop)]
+#[derive(Clone, Copy)]
 pub struct Taken {
     pub count: u32,
     pub hand: usize,

@@ -3,7 +3,7 @@ use Prim.Native.Nat.{ℕ, suc, ◌+◌, ◌≤◌, ◌<◌}
 use native.Mathlib.Omega.{arith}
 use native.Mathlib.Nat.{add-zero}
 use mathlib.Core.Bool.{Bool, true, false, true≢false}
-use mathlib.Core.List.{List, [], ◌∷◌, ◌++◌, append_nil}
+use mathlib.Core.List.{List, [], ◌∷◌, ◌++◌, append-nil}
 use mathlib.Core.Path.{◌≡◌, refl, sym, ap, ◌∙◌}
 use lib.ListN.{length, get_or, set, drop}
 use lib.Seq.{slice, slice-cons, slice_empty, drop-set-lt, append_snoc}
@@ -162,7 +162,7 @@ none_left ws₀ t at n x i q = rw (q, slice_empty (at + n) ws₀)
 
 pub leave_end : (ws₀ : List ℕ) (t at n x : ℕ) (ws : List ℕ) (i k : ℕ) → Leaving ws₀ t at n x ws i k → n ≤ i → Left t at n x ws₀ ws k
 leave_end ws₀ t at n x ws i k c h = record {
-  log = sym (append_nil (slice at (at + k) ws)) ∙ ap (λ (l : List ℕ). slice at (at + k) ws ++ l) (sym (none_left ws₀ t at n x i (omega (arith, c.mid)))) ∙ c.done;
+  log = sym (append-nil (slice at (at + k) ws)) ∙ ap (λ (l : List ℕ). slice at (at + k) ws ++ l) (sym (none_left ws₀ t at n x i (omega (arith, c.mid)))) ∙ c.done;
   kept = c.kept;
   few = omega (arith, c.low, c.mid);
 }

@@ -3,7 +3,7 @@ use Prim.Native.Nat.{ℕ, suc, ◌+◌, ◌≤◌, max}
 use native.Mathlib.Omega.{arith}
 use native.Mathlib.Decide.{ℕ_discrete}
 use mathlib.Core.Bool.{Bool, true, false, not, ◌&&◌, ◌||◌}
-use mathlib.Core.List.{List, [], ◌∷◌, ◌++◌, append_nil}
+use mathlib.Core.List.{List, [], ◌∷◌, ◌++◌, append-nil}
 use mathlib.Core.Path.{◌≡◌, refl, sym, ap, ◌∙◌}
 use lib.ListN.{length}
 use lib.Seq.{append_snoc}
@@ -59,7 +59,7 @@ module _ {A B : Type 0} where
   each_append f (a ∷ l) m b = each_append f l m (f a b)
 
   gather_last : (f : A → List B) (l : List A) (a : A) → gather f (l ++ (a ∷ [])) ≡ gather f l ++ f a
-  gather_last f [] a = append_nil (f a)
+  gather_last f [] a = append-nil (f a)
   gather_last f (x ∷ l) a = ap (λ (k : List B). f x ++ k) (gather_last f l a) ∙ sym (assoc (f x) (gather f l) (f a))
     where
       assoc : (k l m : List B) → (k ++ l) ++ m ≡ k ++ (l ++ m)
@@ -100,7 +100,7 @@ unfolding stored indexed operand
 operands_are into [] b h =
     let z : b.index ≡ b.index + 0 = omega arith in
     let m : b.held ≡ max b.held (held_in b.graph) = omega (arith, h) in
-    built_eq refl m z refl (sym (append_nil b.waiting)) refl refl
+    built_eq refl m z refl (sym (append-nil b.waiting)) refl refl
 operands_are into (o ∷ l) b h = go (operands_are into l) (among o.predecessor b.come)
   where
     first : Waiting

@@ -1,5 +1,7 @@
 // Building, up to the original's second loop over the blocks: the alias graph, the phis whose operands may wait, and the mutations and renders to come.
 // All of it lies in the lent workspace; a `Building` has the counts.
+#![tactic(auto)]
+
 ghost use Rattle.std.specs.Prelude.{◌≡◌, ℕ, ◌+◌, ◌≤◌, ◌<◌, length, eqb};
 ghost use Rattle.model.specs.Limits.{most_identifiers, most_blocks, most_mutations, most_renders, most_index};
 ghost use Rattle.model.specs.Mutation.{reason_of};
@@ -26,7 +28,7 @@ mod pending;
 mod phis;
 
 // How many forward edges and entries are held; the most of either that was held at any time, or more than there is room for.
-#[derive(Drop)]
+#[derive(Clone, Copy)]
 pub struct Held {
     pub edges: usize,
     pub entries: usize,
@@ -34,7 +36,7 @@ pub struct Held {
 }
 
 // The counts of the building so far: also the phis that have operands, the blocks that have come, and the relation effects, mutations and renders.
-#[derive(Drop)]
+#[derive(Clone, Copy)]
 pub struct Building {
     pub held: Held,
     pub phis: usize,
@@ -45,7 +47,7 @@ pub struct Building {
 }
 
 // What a node stands for.
-#[derive(Drop)]
+#[derive(Clone, Copy)]
 pub enum NodeValue {
     Object,
     Phi,

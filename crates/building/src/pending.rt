@@ -11,7 +11,7 @@ ghost use Rattle.building.specs.Built.{PushesMutation, PushesRender, PushesBlock
 use workspace::{MUTATIONS, RENDERS, SEEN};
 
 // A mutation to come. Its level is 0 for Conditional and 1 for Definite, its reason 0 for none.
-#[derive(Drop)]
+#[derive(Clone, Copy)]
 pub struct PendingMutation {
     pub index: u32,
     pub order: u32,

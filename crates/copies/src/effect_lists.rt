@@ -14,7 +14,7 @@ use hir::at::{EFFECT_WIDTH, List, effect_at, instruction_at, list_at};
 use hir::effects::{Role, diagnostic_of, role_of};
 
 // The section that effects of instructions are copied to.
-#[derive(Drop)]
+#[derive(Clone, Copy)]
 pub enum Section {
     Diagnostics,
     Effects,

@@ -1,4 +1,6 @@
 // What the answer takes over from the sheet: places and effects in words, the effects and the diagnostics of instructions, the diagnostics of inner functions, and Create for returns.
+#![tactic(auto)]
+
 ghost use Rattle.std.specs.Prelude.{◌+◌, ◌≤◌};
 ghost use Rattle.model.specs.Answer.{place_words, diagnostic_words, effect_words};
 ghost use Rattle.hir.specs.Says.{place_is, diagnostic_is, effect_is};
@@ -23,7 +25,7 @@ pub const NO_PLACE: Place = Place {
 };
 
 // Where the answer and the reading stand after a part of the sheet was copied.
-#[derive(Drop)]
+#[derive(Clone, Copy)]
 pub struct Copied {
     pub at: usize,
     pub next: usize,

@@ -3,7 +3,7 @@ use Prim.Native.Nat.{ℕ, ◌+◌, ◌-◌, ◌*◌, ◌≤◌, ◌<◌}
 use native.Mathlib.Omega.{arith}
 use native.Mathlib.Nat.{add-zero}
 use mathlib.Core.Path.{◌≡◌, refl, sym, ap, subst, ◌∙◌}
-use mathlib.Core.List.{List, [], ◌∷◌, ◌++◌, append_nil, append_assoc}
+use mathlib.Core.List.{List, [], ◌∷◌, ◌++◌, append-nil, append_assoc}
 use lib.ListN.{length, take, length-append}
 use Rattle.model.specs.Lists.{each}
 use Rattle.model.specs.Sheet.{Place}
@@ -43,7 +43,7 @@ places_none first ws b sound = record {
   mutations = refl;
   renders = refl;
   come = refl;
-  tracked = ap (tracked_of ws) (add-zero first) ∙ sym (append_nil (tracked_of ws first));
+  tracked = ap (tracked_of ws) (add-zero first) ∙ sym (append-nil (tracked_of ws first));
   low = refl;
   between = refl;
   same = refl;

@@ -61,7 +61,7 @@ fn read_functions(sheet: &[u32], list: List, ws: &mut [u32]) -> usize
 }
 
 // The flags, the identifiers and the inner functions: errors recorded or not, a function expression or not, the lists of both, and where the parameters begin.
-#[derive(Drop)]
+#[derive(Clone, Copy)]
 pub struct Top {
     pub errors: bool,
     pub function_expression: bool,

@@ -1,4 +1,6 @@
 // The original's first loop over the blocks, which builds the data flow graph: the second reading of the sheet, after it was accepted.
+#![tactic(auto)]
+
 ghost use Rattle.model.specs.Limits.{most_identifiers};
 ghost use Rattle.model.specs.Lists.{each, Every};
 ghost use Rattle.model.specs.Ranges.{PlaceBelow};

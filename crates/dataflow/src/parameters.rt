@@ -37,7 +37,7 @@ fn read_places(sheet: &[u32], list: List, first: usize, ws: &mut [u32], b: Build
 }
 
 // How many parameters and context places there are, returns, the blocks, and the building with the nodes of all of them.
-#[derive(Drop)]
+#[derive(Clone, Copy)]
 pub struct Tracked {
     pub params: u32,
     pub context: u32,

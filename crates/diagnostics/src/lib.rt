@@ -1,4 +1,6 @@
 // The section of diagnostics: those recorded while building, then those handed over by mutations and by renders.
+#![tactic(auto)]
+
 ghost use Rattle.std.specs.Prelude.{◌+◌, ◌*◌, ◌≤◌, length};
 ghost use Rattle.model.specs.Limits.{most_functions, most_renders};
 ghost use Rattle.model.specs.Sheet.{Sheet};

@@ -1,4 +1,6 @@
 // The graph of a sheet as a DOT file (document 02, order 6).
+#![tactic(auto)]
+
 ghost use Rattle.model.specs.Call.{refusal};
 ghost use Rattle.inference.specs.Outcome.{Came};
 ghost use Rattle.dot.specs.Drawn.{Drawn};

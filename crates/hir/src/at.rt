@@ -27,42 +27,42 @@ pub const DIAGNOSTIC_WIDTH: usize = 2;
 pub const FLAGS_WIDTH: usize = 3;
 
 // A list: how many parts, and where the first stands.
-#[derive(Drop)]
+#[derive(Clone, Copy)]
 pub struct List {
     pub count: u32,
     pub first: usize,
 }
 
 // A phi operand.
-#[derive(Drop)]
+#[derive(Clone, Copy)]
 pub struct Operand {
     pub predecessor: BlockId,
     pub place: Place,
 }
 
 // A phi.
-#[derive(Drop)]
+#[derive(Clone, Copy)]
 pub struct Phi {
     pub place: Place,
     pub operands: List,
 }
 
 // An instruction's value, and the position after it.
-#[derive(Drop)]
+#[derive(Clone, Copy)]
 pub struct Value {
     pub value: InstructionValue,
     pub next: usize,
 }
 
 // An instruction's effects: whether the list is there, and the list, empty if it is not.
-#[derive(Drop)]
+#[derive(Clone, Copy)]
 pub struct Effects {
     pub listed: bool,
     pub list: List,
 }
 
 // An instruction.
-#[derive(Drop)]
+#[derive(Clone, Copy)]
 pub struct Instruction {
     pub order: EvaluationOrder,
     pub lvalue: Place,
@@ -74,7 +74,7 @@ pub struct Instruction {
 }
 
 // A terminal: its operands, or its value and its effects.
-#[derive(Drop)]
+#[derive(Clone, Copy)]
 pub enum Terminal {
     Other(List),
     Return(Place, List),

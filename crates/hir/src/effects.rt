@@ -10,7 +10,7 @@ use crate::limits::{MOST_DIAGNOSTIC, MOST_KIND};
 use crate::{AliasingEffect, Cursor, Diagnostic, EffectKind, EffectStep, PlaceStep, WordStep};
 
 // What an effect of an instruction is for.
-#[derive(Drop)]
+#[derive(Clone, Copy)]
 pub enum Role {
     Relation,
     Mutation,
@@ -20,7 +20,7 @@ pub enum Role {
 }
 
 // How many places a kind uses, the largest instance of its diagnostic (0 where it has none), and its largest extra word.
-#[derive(Drop)]
+#[derive(Clone, Copy)]
 pub struct Row {
     pub kind: EffectKind,
     pub places: u32,

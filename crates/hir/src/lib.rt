@@ -1,4 +1,6 @@
 // What a sheet is made of, under the names of the original's high-level intermediate representation, and the parts that are read word by word.
+#![tactic(auto)]
+
 ghost use Rattle.std.specs.Prelude.{◌≡◌, eqb};
 ghost use Rattle.hir.specs.Numbers.{effect_number, kind_number, terminal_number, value_number, reason_number};
 
@@ -10,19 +12,19 @@ pub mod places;
 pub mod words;
 
 // An identifier's number, below the count of identifiers.
-#[derive(Drop)]
+#[derive(Clone, Copy)]
 pub struct IdentifierId(pub u32);
 
 // A block's number.
-#[derive(Drop)]
+#[derive(Clone, Copy)]
 pub struct BlockId(pub u32);
 
 // An inner function's number, below the count of inner functions.
-#[derive(Drop)]
+#[derive(Clone, Copy)]
 pub struct FunctionId(pub u32);
 
 // An instruction's order, and each end of a range.
-#[derive(Drop)]
+#[derive(Clone, Copy)]
 pub struct EvaluationOrder(pub u32);
 
 impl EvaluationOrder {
@@ -38,7 +40,7 @@ impl EvaluationOrder {
 }
 
 // How a place uses its identifier.
-#[derive(Drop)]
+#[derive(Clone, Copy)]
 pub enum Effect {
     Unknown,
     Freeze,
@@ -69,7 +71,7 @@ impl Effect {
 }
 
 // A use of an identifier. The span is 0 for none.
-#[derive(Drop)]
+#[derive(Clone, Copy)]
 pub struct Place {
     pub identifier: IdentifierId,
     pub effect: Effect,
@@ -78,7 +80,7 @@ pub struct Place {
 }
 
 // The cases of the original's `AliasingEffect`.
-#[derive(Drop)]
+#[derive(Clone, Copy)]
 pub enum EffectKind {
     Freeze,
     Mutate,
@@ -136,7 +138,7 @@ impl EffectKind {
 }
 
 // An effect: "from" is the first place, "into" the second; one that the kind does not use is all 0.
-#[derive(Drop)]
+#[derive(Clone, Copy)]
 pub struct AliasingEffect {
     pub kind: EffectKind,
     pub first: Place,
@@ -145,14 +147,14 @@ pub struct AliasingEffect {
 }
 
 // What is recorded for an error (the original's `AliasingDiagnostic`): what it says, and where it was raised.
-#[derive(Drop)]
+#[derive(Clone, Copy)]
 pub struct Diagnostic {
     pub identity: u32,
     pub instance: u32,
 }
 
 // What an instruction computes, as far as the pass over operands asks: FunctionExpression and ObjectMethod are `Function`.
-#[derive(Drop)]
+#[derive(Clone, Copy)]
 pub enum InstructionValue {
     Plain,
     Function(FunctionId),
@@ -160,7 +162,7 @@ pub enum InstructionValue {
 }
 
 // The terminals that matter here; every other one is `Other`.
-#[derive(Drop)]
+#[derive(Clone, Copy)]
 pub enum TerminalKind {
     Other,
     Return,
@@ -180,7 +182,7 @@ impl TerminalKind {
 }
 
 // What kind of value Create makes.
-#[derive(Drop)]
+#[derive(Clone, Copy)]
 pub enum ValueKind {
     Mutable,
     Frozen,
@@ -207,7 +209,7 @@ impl ValueKind {
 }
 
 // Why a value is what it is.
-#[derive(Drop)]
+#[derive(Clone, Copy)]
 pub enum ValueReason {
     KnownReturnSignature,
     State,
@@ -246,7 +248,7 @@ impl ValueReason {
 }
 
 // What the sheet knows of an identifier's type.
-#[derive(Drop)]
+#[derive(Clone, Copy)]
 pub enum IdentifierType {
     Other,
     Primitive,
@@ -254,95 +256,95 @@ pub enum IdentifierType {
 }
 
 // From the start, up to and without the end.
-#[derive(Drop)]
+#[derive(Clone, Copy)]
 pub struct MutableRange {
     pub start: EvaluationOrder,
     pub end: EvaluationOrder,
 }
 
-#[derive(Drop)]
+#[derive(Clone, Copy)]
 pub struct Identifier {
     pub mutable_range: MutableRange,
     pub kind: IdentifierType,
 }
 
-#[derive(Drop)]
+#[derive(Clone, Copy)]
 pub struct Flags {
     pub function_expression: bool,
     pub validations: bool,
 }
 
 // The reading position: the words read so far.
-#[derive(Drop)]
+#[derive(Clone, Copy)]
 pub struct Cursor {
     pub at: usize,
 }
 
 // A word and the position after it, or a refusal.
-#[derive(Drop)]
+#[derive(Clone, Copy)]
 pub enum WordStep {
     Got(u32, Cursor),
     Refused(u32),
 }
 
 // A place and the position after it, or a refusal.
-#[derive(Drop)]
+#[derive(Clone, Copy)]
 pub enum PlaceStep {
     Got(Place, Cursor),
     Refused(u32),
 }
 
 // An effect and the position after it, or a refusal.
-#[derive(Drop)]
+#[derive(Clone, Copy)]
 pub enum EffectStep {
     Got(AliasingEffect, Cursor),
     Refused(u32),
 }
 
 // An order and the position after it, or a refusal.
-#[derive(Drop)]
+#[derive(Clone, Copy)]
 pub enum OrderStep {
     Got(EvaluationOrder, Cursor),
     Refused(u32),
 }
 
 // A block's number and the position after it, or a refusal.
-#[derive(Drop)]
+#[derive(Clone, Copy)]
 pub enum BlockStep {
     Got(BlockId, Cursor),
     Refused(u32),
 }
 
 // An instruction's value and the position after it, or a refusal.
-#[derive(Drop)]
+#[derive(Clone, Copy)]
 pub enum ValueStep {
     Got(InstructionValue, Cursor),
     Refused(u32),
 }
 
 // A terminal's kind and the position after it, or a refusal.
-#[derive(Drop)]
+#[derive(Clone, Copy)]
 pub enum KindStep {
     Got(TerminalKind, Cursor),
     Refused(u32),
 }
 
 // The flags and the position after them, or a refusal.
-#[derive(Drop)]
+#[derive(Clone, Copy)]
 pub enum FlagsStep {
     Got(Flags, Cursor),
     Refused(u32),
 }
 
 // An identifier and the position after it, or a refusal.
-#[derive(Drop)]
+#[derive(Clone, Copy)]
 pub enum IdentifierStep {
     Got(Identifier, Cursor),
     Refused(u32),
 }
 
 // A diagnostic and the position after it, or a refusal.
-#[derive(Drop)]
+#[derive(Clone, Copy)]
 pub enum DiagnosticStep {
     Got(Diagnostic, Cursor),
     Refused(u32),

@@ -1,4 +1,6 @@
 // The port of `infer_mutation_aliasing_ranges`.
+#![tactic(auto)]
+
 ghost use Rattle.std.specs.Prelude.{◌+◌, ◌≤◌, length};
 ghost use Rattle.model.specs.Limits.{most_identifiers};
 ghost use Rattle.workspace.specs.Layout.{LEAST};
@@ -28,7 +30,7 @@ use workspace::{END, IDENTIFIERS, LEAST, RECORD, clear, clear_from};
 use writing::Outcome;
 
 // What a sheet comes to before its first mutation: the number of a refusal, or the function and what was built of it.
-#[derive(Drop)]
+#[derive(Clone, Copy)]
 pub enum Preparation {
     Refused(u32),
     Ready(HirFunction, Building),

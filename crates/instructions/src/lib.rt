@@ -1,4 +1,6 @@
 // What a block's instructions and its terminal do to the building: the second reading of the sheet, after it was accepted.
+#![tactic(auto)]
+
 ghost use Rattle.model.specs.Lists.{each, Every};
 ghost use Rattle.model.specs.Building.{instruction as instruction_step};
 ghost use Rattle.hir.specs.Says.{effect_is};
@@ -15,7 +17,7 @@ use hir::{AliasingEffect, EffectKind, EvaluationOrder, FunctionId};
 pub mod terminals;
 
 // The building after a part of the sheet, and the position after it.
-#[derive(Drop)]
+#[derive(Clone, Copy)]
 pub struct Built {
     pub building: Building,
     pub next: usize,

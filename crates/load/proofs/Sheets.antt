@@ -3,7 +3,7 @@ use Prim.Native.Nat.{ℕ, ◌+◌, ◌≤◌}
 use native.Mathlib.Omega.{arith}
 use mathlib.Core.Path.{◌≡◌, refl, sym, ap}
 use mathlib.Core.Bool.{true}
-use mathlib.Core.List.{List, [], ◌∷◌, ◌++◌, append_nil}
+use mathlib.Core.List.{List, [], ◌∷◌, ◌++◌, append-nil}
 use lib.ListN.{length, replicate, length-append}
 use Rattle.model.specs.Sheet.{Other}
 use Rattle.model.specs.Answer.{section}
@@ -23,7 +23,7 @@ module _ (seed n m : ℕ) where
 
   -- one block, number 0, no phis
   pub blocks_parts : 1 ∷ 0 ∷ 0 ∷ (instructions ++ terminal) ≡ section block_words (load_block seed n m ∷ [])
-  blocks_parts = ap (λ (l : List ℕ). 1 ∷ 0 ∷ 0 ∷ l) (sym (append_nil (instructions ++ terminal)))
+  blocks_parts = ap (λ (l : List ℕ). 1 ∷ 0 ∷ 0 ∷ l) (sym (append-nil (instructions ++ terminal)))
 
   pub blocks_length : length (section block_words (load_block seed n m ∷ [])) ≡ 3 + (length instructions + length terminal)
   blocks_length = omega (arith, ap (λ (l : List ℕ). length l) blocks_parts, length-append instructions terminal)

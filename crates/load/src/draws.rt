@@ -21,14 +21,14 @@ const STATES: u64 = 4294967296;
 const UPPER: u32 = 65536;
 
 // What a draw gives: the number, and the state for the next draw.
-#[derive(Drop)]
+#[derive(Clone, Copy)]
 pub struct Draw {
     pub number: u32,
     pub state: u32,
 }
 
 // An effect, and the state after its draws.
-#[derive(Drop)]
+#[derive(Clone, Copy)]
 pub struct DrawnEffect {
     pub effect: AliasingEffect,
     pub state: u32,

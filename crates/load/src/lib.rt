@@ -1,4 +1,6 @@
 // A class load (document 02, order 2): the sheet of a seed, so many identifiers and so many effects.
+#![tactic(auto)]
+
 ghost use Rattle.std.specs.Prelude.{◌≡◌, true, length};
 ghost use Rattle.model.specs.Call.{refusal};
 ghost use Rattle.model.specs.Encoder.{sheet_words};

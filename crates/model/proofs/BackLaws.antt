@@ -3,7 +3,7 @@ use Prim.Native.Nat.{ℕ, zero, suc, ◌+◌, ◌≤◌, ◌<◌}
 use native.Mathlib.Omega.{arith}
 use mathlib.Core.Path.{◌≡◌, refl, sym, ap, subst, ◌∙◌}
 use mathlib.Core.Bool.{Bool, true, false, ◌||◌}
-use mathlib.Core.List.{List, [], ◌∷◌, ◌++◌, map, append_assoc, append_nil}
+use mathlib.Core.List.{List, [], ◌∷◌, ◌++◌, map, append_assoc, append-nil}
 use mathlib.Core.Option.{Option, none, some}
 use lib.ListN.{length, get_or, drop, length-append}
 use lib.Dec.{ltb, leb, eqb}
@@ -149,7 +149,7 @@ module _ {A : Type 0} where
   times_back f w [] h = pure_back []
   times_back f w (a ∷ l) h =
       bind_back f (λ (x : A). times (length l) f >>= λ (r : List A). pure (x ∷ r)) (w a) (gather w l) a (a ∷ l) h.0
-      (subst (λ (vs : List ℕ). Back (times (length l) f >>= λ (r : List A). pure (a ∷ r)) vs (a ∷ l)) (append_nil (gather w l))
+      (subst (λ (vs : List ℕ). Back (times (length l) f >>= λ (r : List A). pure (a ∷ r)) vs (a ∷ l)) (append-nil (gather w l))
       (bind_back (times (length l) f) (λ (r : List A). pure (a ∷ r)) (gather w l) [] l (a ∷ l) (times_back f w l h.1) (pure_back (a ∷ l))))
 
   pub counted_back : (most : ℕ) (f : Read A) (w : A → List ℕ) (l : List A) → length l ≤ most → Every (λ (a : A). Back f (w a) a) l → Back (counted most f) (section w l) l
@@ -169,5 +169,5 @@ module _ {A : Type 0} where
       bind_back (new_number used) (λ (x : BlockId). f x >>= λ (y : A). numbered (length l) (x ∷ used) f >>= λ (r : List A). pure (y ∷ r)) (b ∷ []) (w a ++ words) b (a ∷ l)
       (new_number_back used b h.0.0 new.0)
       (bind_back (f b) (λ (y : A). rest >>= λ (r : List A). pure (y ∷ r)) (w a) words a (a ∷ l) h.0.1
-      (subst (λ (vs : List ℕ). Back (rest >>= λ (r : List A). pure (a ∷ r)) vs (a ∷ l)) (append_nil words)
+      (subst (λ (vs : List ℕ). Back (rest >>= λ (r : List A). pure (a ∷ r)) vs (a ∷ l)) (append-nil words)
       (bind_back rest (λ (r : List A). pure (a ∷ r)) words [] l (a ∷ l) (numbered_back f number w l (b ∷ used) h.1 (fresh number a used l new.1 apart.0) apart.1) (pure_back (a ∷ l)))))

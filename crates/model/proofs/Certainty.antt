@@ -76,7 +76,7 @@ module _ (s : Sheet) (x : ℕ) where
   unfolding real_walks reached
   highest-reached h =
       let w = highest_entry h in
-      let v = of_walk (how s) (built s) (build s).mutations (built s) refl w.0 w.1 in
+      let v = of_walk (how s) (built s) w.0 (build s).mutations (built s) refl w.1 in
       (v.0, v.1, ap (λ (l : List Item). holds x l) v.2 ∙ member_holds x w.3 w.4)
 
   reached-highest : IsReached s x → 0 < highest_level
@@ -96,7 +96,7 @@ module _ (s : Sheet) (x : ℕ) where
   mutated_reached : NoPhis s.blocks → OnlyTransitive (build s).mutations → Mutated s x → IsReached s x
   unfolding real_walks reached built
   mutated_reached v t w =
-      let r = of_walk (how s) (built s) (build s).mutations (built s) refl w.0 w.1 in
+      let r = of_walk (how s) (built s) w.0 (build s).mutations (built s) refl w.1 in
       (r.0, r.1, ap (λ (l : List Item). holds x l) r.2 ∙ transitive_reached (how s) w.0 (built s) (no_phi_lem s v) (every_member (λ (m : Mutation). m.transitive ≡ true) w.1 t) x w.2)
 
   no_records : (n y : ℕ) → get_or (replicate n no_record) y no_record ≡ no_record

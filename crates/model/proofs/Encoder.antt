@@ -3,7 +3,7 @@ use Prim.Native.Nat.{ℕ, ◌+◌, ◌≤◌}
 use native.Mathlib.Omega.{arith}
 use mathlib.Core.Path.{◌≡◌, refl, sym, ap, subst, ◌∙◌}
 use mathlib.Core.Bool.{false}
-use mathlib.Core.List.{List, [], ◌∷◌, ◌++◌, append_nil}
+use mathlib.Core.List.{List, [], ◌∷◌, ◌++◌, append-nil}
 use mathlib.Core.Option.{Option}
 use lib.ListN.{length}
 use borrow.Author.Tests.{le-ltb}
@@ -25,7 +25,7 @@ use Rattle.model.proofs.EncoderParts.{flags_back, identifier_back, place_back, p
 operand_back : (n : ℕ) (o : Operand) → OperandFits n o → Back (operand n o.predecessor) (place_words o.place) o
 unfolding operand
 operand_back n o h =
-    subst (λ (vs : List ℕ). Back (operand n o.predecessor) vs o) (append_nil (place_words o.place))
+    subst (λ (vs : List ℕ). Back (operand n o.predecessor) vs o) (append-nil (place_words o.place))
     (bind_back (place n) _ (place_words o.place) [] o.place o (place_back n o.place h.1) (pure_back o))
 
 -- no number was used before the first
@@ -40,7 +40,7 @@ phi_back n p h =
     let words : List ℕ = gather operand_words l in
     bind_back (place n) _ (place_words p.place) (length l ∷ words) p.place p (place_back n p.place h.0)
     (bind_back (count most_count) _ (length l ∷ []) words (length l) p (count_back most_count (length l) h.1)
-    (subst (λ (vs : List ℕ). Back (numbered (length l) [] (operand n) >>= λ (r : List Operand). pure (record { place = p.place; operands = r })) vs p) (append_nil words)
+    (subst (λ (vs : List ℕ). Back (numbered (length l) [] (operand n) >>= λ (r : List Operand). pure (record { place = p.place; operands = r })) vs p) (append-nil words)
     (bind_back (numbered (length l) [] (operand n)) _ words [] l p
     (numbered_back (operand n) (λ (o : Operand). o.predecessor) (λ (o : Operand). place_words o.place) l [] (every_mem (OperandFits n) _ l (λ o k f. (f.0, operand_back n o f)) h.2) (none_used (λ (o : Operand). o.predecessor) l) h.3)
     (pure_back p))))
@@ -102,7 +102,7 @@ block_back n m b h =
     bind_back (counted most_count (phi n)) _ ps (is ++ t) b.phis b (counted_back most_count (phi n) phi_words b.phis h.phi_count (every_mem (PhiFits n) _ b.phis (λ p k f. phi_back n p f) h.phis))
     (bind_back (counted most_count (instruction n m)) _ is t b.instructions b
     (counted_back most_count (instruction n m) instruction_words b.instructions h.instruction_count (every_mem (InstructionFits n m) _ b.instructions (λ i k f. instruction_back n m i f) h.instructions))
-    (subst (λ (vs : List ℕ). Back (terminal n m >>= λ (x : Terminal). pure (record { number = b.number; phis = b.phis; instructions = b.instructions; terminal = x })) vs b) (append_nil t)
+    (subst (λ (vs : List ℕ). Back (terminal n m >>= λ (x : Terminal). pure (record { number = b.number; phis = b.phis; instructions = b.instructions; terminal = x })) vs b) (append-nil t)
     (bind_back (terminal n m) _ t [] b.terminal b (terminal_back n m b.terminal h.terminal) (pure_back b))))
 
 -- ---- the sheet
@@ -132,7 +132,7 @@ sheet_back s h =
     (bind_back (fixed returns_count) _ (returns_count ∷ []) w₆ returns_count s (fixed_back returns_count)
     (bind_back (place n) _ (place_words s.returns) w₇ s.returns s (place_back n s.returns h.returns)
     (bind_back (count most_blocks) _ (length s.blocks ∷ []) bs (length s.blocks) s (count_back most_blocks (length s.blocks) h.block_count)
-    (subst (λ (vs : List ℕ). Back (numbered (length s.blocks) [] (block n m) >>= λ (l : List Block). pure (with_blocks s l)) vs s) (append_nil bs)
+    (subst (λ (vs : List ℕ). Back (numbered (length s.blocks) [] (block n m) >>= λ (l : List Block). pure (with_blocks s l)) vs s) (append-nil bs)
     (bind_back (numbered (length s.blocks) [] (block n m)) _ bs [] s.blocks s
     (numbered_back (block n m) (λ (b : Block). b.number) block_rest s.blocks [] (every_mem (BlockFits n m) _ s.blocks (λ b k f. (f.number, block_back n m b f)) h.blocks) (none_used (λ (b : Block). b.number) s.blocks) h.numbers)
     (pure_back s))))))))))
@@ -141,7 +141,7 @@ sheet_back s h =
 pub reads_back : (s : Sheet) → SheetFits s → sheet (sheet_words s) 0 ≡ got s (length (sheet_words s))
 reads_back s h =
     let n : 0 + length (sheet_words s) ≡ length (sheet_words s) = omega arith in
-    sheet_back s h (sheet_words s) 0 [] (sym (append_nil (sheet_words s))) ∙ ap (got s) n
+    sheet_back s h (sheet_words s) 0 [] (sym (append-nil (sheet_words s))) ∙ ap (got s) n
 
 -- so a sheet of no more words and no higher totals than a call allows is accepted
 pub accepts-words : (s : Sheet) → SheetFits s → length (sheet_words s) ≤ most_sheet → over (totals s) ≡ false → IsSheet (sheet_words s) s

@@ -3,7 +3,7 @@ use Prim.Native.Nat.{ℕ, ◌≤◌}
 use native.Mathlib.Omega.{arith}
 use mathlib.Core.Path.{◌≡◌, refl, sym, ap, subst, ◌∙◌}
 use mathlib.Core.Bool.{Bool, true, false}
-use mathlib.Core.List.{List, [], ◌∷◌, ◌++◌, append_nil}
+use mathlib.Core.List.{List, [], ◌∷◌, ◌++◌, append-nil}
 use mathlib.Core.Option.{Option, none, some}
 use lib.ListN.{length}
 use lib.Dec.{leb}
@@ -94,7 +94,7 @@ places_back n most l h = counted_back most (place n) place_words l h.0 (every_me
 -- a part, and then nothing more
 pub last_back : {A B : Type 0} (r : Read A) (f : A → B) (ws : List ℕ) (a : A) → Back r ws a → Back (r >>= λ (x : A). pure (f x)) ws (f a)
 last_back {A} {B} r f ws a h =
-    subst (λ (vs : List ℕ). Back (r >>= λ (x : A). pure (f x)) vs (f a)) (append_nil ws) (bind_back r (λ (x : A). pure (f x)) ws [] a (f a) h (pure_back (f a)))
+    subst (λ (vs : List ℕ). Back (r >>= λ (x : A). pure (f x)) vs (f a)) (append-nil ws) (bind_back r (λ (x : A). pure (f x)) ws [] a (f a) h (pure_back (f a)))
 
 pub function_back : (n : ℕ) (f : InnerFunction) → FunctionFits n f → Back (inner_function n) (function_words f) f
 unfolding inner_function

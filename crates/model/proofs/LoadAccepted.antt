@@ -3,7 +3,7 @@ use Prim.Native.Nat.{ℕ, ◌+◌, ◌≤◌, ◌<◌}
 use native.Mathlib.Omega.{arith}
 use mathlib.Core.Path.{◌≡◌, refl, sym, ap, subst, ◌∙◌}
 use mathlib.Core.Bool.{Bool, true, false, ◌||◌, ◌&&◌}
-use mathlib.Core.List.{List, [], ◌∷◌, append_nil}
+use mathlib.Core.List.{List, [], ◌∷◌, append-nil}
 use lib.ListN.{length, replicate, length-append, length-replicate}
 use lib.Dec.{leb}
 use borrow.Author.Tests.{leb-true}
@@ -199,7 +199,7 @@ module _ (seed n m : ℕ) (h : Loadable n m) where
   load_places =
       let before : Pass = phis (first_order instructions (Other (m + 1) [])) [] (before_pass (class_load seed n m)) in
       let a = instructions_added [] instructions before in
-      (omega (arith, a.instructions, one_place_lem), (a.phis, (append_nil (each (instruction []) instructions before).terminals ∙ a.terminals, a.contexts)))
+      (omega (arith, a.instructions, one_place_lem), (a.phis, (append-nil (each (instruction []) instructions before).terminals ∙ a.terminals, a.contexts)))
 
   no_inner : (cs : List (List Place)) → length cs ≡ 0 → length (gather (λ (l : List Place). l) cs) ≡ 0
   no_inner [] e = refl

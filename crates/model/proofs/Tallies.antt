@@ -24,6 +24,7 @@ module _ {A : Type 0} (f : A → ℕ) where
 
   -- a member counts at most what all do; where something counts, a member does
   pub tally_member : {a : A} {l : List A} → Memᴰ a l → f a ≤ tally f l
+  tally_member {a = a} {l = []} m = elim m [ ]
   tally_member {l = b ∷ l} (Memᴰ.head e) = omega (arith, ap f e)
   tally_member {l = b ∷ l} (Memᴰ.tail m) = omega (arith, tally_member m)
 
@@ -37,6 +38,7 @@ module _ {A : Type 0} (f : A → ℕ) where
 
   -- each at most one, and one of them nothing
   pub tally_but_one : {a : A} {l : List A} → Memᴰ a l → f a ≡ 0 → Every (λ (b : A). f b ≤ 1) l → suc (tally f l) ≤ length l
+  tally_but_one {a = a} {l = []} m z h = elim m [ ]
   tally_but_one {l = b ∷ l} (Memᴰ.head e) z h = omega (arith, ap f e, tally_most 1 l h.1)
   tally_but_one {l = b ∷ l} (Memᴰ.tail m) z h = omega (arith, h.0, tally_but_one m z h.1)
 

@@ -1,7 +1,7 @@
 -- A step of the pass adds places at the end of a section, and looks at none that are there.
 use mathlib.Core.Bool.{Bool}
 use mathlib.Core.Path.{◌≡◌, refl, sym, ap, ◌∙◌}
-use mathlib.Core.List.{List, [], ◌∷◌, ◌++◌, append_nil, append_assoc}
+use mathlib.Core.List.{List, [], ◌∷◌, ◌++◌, append-nil, append_assoc}
 use Rattle.model.specs.Lists.{each}
 use Rattle.model.specs.Sheet.{EvaluationOrder, InnerFunction, Place, Phi, Instruction, Terminal, Block}
 use Rattle.model.specs.Operands.{Pass, phis, instruction, terminal, block, first_order}
@@ -23,19 +23,19 @@ none_in Terminals p = refl
 pub phis_adds : (section : Section) (o : EvaluationOrder) (l : List Phi) → Adds section (phis o l)
 unfolding phis forget
 phis_adds Phis o l = record { state = λ p. refl; places = λ p. refl }
-phis_adds Instructions o l = record { state = λ p. refl; places = λ p. sym (append_nil p.instructions) }
-phis_adds Terminals o l = record { state = λ p. refl; places = λ p. sym (append_nil p.terminals) }
+phis_adds Instructions o l = record { state = λ p. refl; places = λ p. sym (append-nil p.instructions) }
+phis_adds Terminals o l = record { state = λ p. refl; places = λ p. sym (append-nil p.terminals) }
 
 pub instruction_adds : (section : Section) (fs : List InnerFunction) (i : Instruction) → Adds section (instruction fs i)
 unfolding instruction forget
-instruction_adds Phis fs i = record { state = λ p. refl; places = λ p. sym (append_nil p.phis) }
+instruction_adds Phis fs i = record { state = λ p. refl; places = λ p. sym (append-nil p.phis) }
 instruction_adds Instructions fs i = record { state = λ p. refl; places = λ p. refl }
-instruction_adds Terminals fs i = record { state = λ p. refl; places = λ p. sym (append_nil p.terminals) }
+instruction_adds Terminals fs i = record { state = λ p. refl; places = λ p. sym (append-nil p.terminals) }
 
 pub terminal_adds : (section : Section) (fe : Bool) (t : Terminal) → Adds section (terminal fe t)
 unfolding terminal forget
-terminal_adds Phis fe t = record { state = λ p. refl; places = λ p. sym (append_nil p.phis) }
-terminal_adds Instructions fe t = record { state = λ p. refl; places = λ p. sym (append_nil p.instructions) }
+terminal_adds Phis fe t = record { state = λ p. refl; places = λ p. sym (append-nil p.phis) }
+terminal_adds Instructions fe t = record { state = λ p. refl; places = λ p. sym (append-nil p.instructions) }
 terminal_adds Terminals fe t = record { state = λ p. refl; places = λ p. refl }
 
 -- one step after another
@@ -58,7 +58,7 @@ id_adds : (section : Section) → Adds section (λ (p : Pass). p)
 unfolding forget
 id_adds section = record {
   state = λ p. refl;
-  places = λ p. sym (ap (λ (l : List Place). places_in section p ++ l) (none_in section p) ∙ append_nil (places_in section p));
+  places = λ p. sym (ap (λ (l : List Place). places_in section p ++ l) (none_in section p) ∙ append-nil (places_in section p));
 }
 
 -- a step for each member of a list

@@ -3,7 +3,7 @@ use Prim.Native.Nat.{ℕ, ◌+◌, ◌*◌, ◌<◌}
 use native.Mathlib.Omega.{arith}
 use mathlib.Core.Logic.{inl, inr}
 use mathlib.Core.Path.{◌≡◌, refl, sym, ap, subst, ◌∙◌}
-use mathlib.Core.List.{List, [], ◌∷◌, ◌++◌, map, append_nil}
+use mathlib.Core.List.{List, [], ◌∷◌, ◌++◌, map, append-nil}
 use lib.ListN.{length, get_or, length-map}
 use types.Run.{OneOf}
 use denote.Enum.Declared.{tag_of}
@@ -118,7 +118,7 @@ last_by fs o ps r v = store_value o (value_is v) (starts_of o (ps ++ context_of 
 
 -- no places more
 operands_only : (o : EvaluationOrder) (ps : List Place) (r : Ranges) → starts_of o ps r ≡ starts_of o (ps ++ []) r
-operands_only o ps r = ap (λ (l : List Place). starts_of o l r) (sym (append_nil ps))
+operands_only o ps r = ap (λ (l : List Place). starts_of o l r) (sym (append-nil ps))
 
 module _ {sheet lists : List ℕ} {i : Instruction} {ws ws₁ : List ℕ} (h : Ranged (starts_of i.order.0 (places_at sheet i.operands).what) ws ws₁) where
   pub plain_started : i.value ≡ Plain → AllStarted sheet lists i ws ws₁

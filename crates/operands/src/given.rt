@@ -16,7 +16,7 @@ use hir::places::effect_in;
 use hir::{Effect, Place};
 
 // A place keeps its effect, or gets a mark.
-#[derive(Drop)]
+#[derive(Clone, Copy)]
 pub enum Given {
     Kept,
     Marked(Effect),

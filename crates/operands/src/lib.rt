@@ -1,5 +1,7 @@
 // The pass over operands: the original's second loop over the blocks. It gives every operand its effect and sets range starts, and ends that nothing else set.
 // It runs once for each section of places, since the answer has them one after another.
+#![tactic(auto)]
+
 ghost use Rattle.std.specs.Prelude.{◌≡◌, ◌+◌, ◌≤◌, length};
 ghost use Rattle.model.specs.Sheet.{Sheet};
 ghost use Rattle.dataflow.specs.Function.{Limited};
@@ -25,7 +27,7 @@ mod terminals;
 pub const RANGE_WIDTH: usize = 2;
 
 // Which places are written.
-#[derive(Drop)]
+#[derive(Clone, Copy)]
 pub enum Section {
     Phis,
     Instructions,

@@ -1,4 +1,6 @@
 // Reads a sheet from standard input and prints the answer, a line for each section, or the refusal's number.
+#![tactic(auto)]
+
 ghost use Rattle.std.specs.Prelude.{◌≤◌, length};
 
 use files::load_words;

@@ -20,7 +20,7 @@ use hir::{
 };
 
 // The mutations and renders so far, each no higher than one above its limit; 1 if an instruction had a diagnosis; 1 if one had an Apply.
-#[derive(Drop)]
+#[derive(Clone, Copy)]
 pub struct Totals {
     pub mutations: u32,
     pub renders: u32,
@@ -29,7 +29,7 @@ pub struct Totals {
 }
 
 // The totals and the position after a part of the sheet, or a refusal.
-#[derive(Drop)]
+#[derive(Clone, Copy)]
 pub enum TotalsStep {
     Got(Totals, Cursor),
     Refused(u32),

@@ -1,4 +1,6 @@
 // Reads a whole sheet and says why it is refused, or what it holds.
+#![tactic(auto)]
+
 ghost use Rattle.std.specs.Prelude.{◌≡◌};
 ghost use Rattle.model.specs.Call.{read};
 ghost use Rattle.hir.specs.Says.{place_says};
@@ -16,28 +18,28 @@ mod phis;
 mod sections;
 
 // The position after a part of the sheet, or a refusal.
-#[derive(Drop)]
+#[derive(Clone, Copy)]
 pub enum CursorStep {
     Got(Cursor),
     Refused(u32),
 }
 
 // How many identifiers and inner functions there are.
-#[derive(Drop)]
+#[derive(Clone, Copy)]
 pub struct Heading {
     pub identifiers: u32,
     pub functions: u32,
 }
 
 // The heading and the position after it, or a refusal.
-#[derive(Drop)]
+#[derive(Clone, Copy)]
 pub enum HeadingStep {
     Got(Heading, Cursor),
     Refused(u32),
 }
 
 // What is said of a sheet.
-#[derive(Drop)]
+#[derive(Clone, Copy)]
 pub enum Verdict {
     // By the number of the refusal, 2 to 8.
     Refused(u32),

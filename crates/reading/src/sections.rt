@@ -16,7 +16,7 @@ use hir::limits::{
 use hir::{Cursor, DiagnosticStep, IdentifierStep, PlaceStep, WordStep};
 
 // What a section has after its count.
-#[derive(Drop)]
+#[derive(Clone, Copy)]
 enum Part {
     Identifier,
     Diagnostic,

@@ -1,4 +1,6 @@
 // The render walk over the graph in the lent workspace (the original's `render`).
+#![tactic(auto)]
+
 ghost use Rattle.std.specs.Prelude.{◌≡◌, ◌<◌};
 ghost use Rattle.model.specs.Limits.{most_identifiers};
 ghost use Rattle.workspace.specs.Layout.{QUEUE};

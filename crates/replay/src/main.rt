@@ -3,6 +3,8 @@
 // workspace, and prints counts.
 // The file has parts of 32,768 words; in a part stand records, each after the number of its words, then zeros.
 // A record: the sheet's length and words; the refusal if 18,000 answer words are lent, 0 for none; the answer's length and words.
+#![tactic(auto)]
+
 ghost use Rattle.std.specs.Prelude.{◌≤◌};
 
 use files::load_words;
@@ -13,7 +15,7 @@ use service::{Turn, turn_for};
 const CALLERS: usize = 4;
 
 // How many sheets and calls there were, how many calls gave something else, and the serial that is next for each caller.
-#[derive(Drop)]
+#[derive(Clone, Copy)]
 struct Run {
     sheets: u32,
     calls: u32,

@@ -1,4 +1,6 @@
 // The service: calls over the records that the host lends, one for each caller.
+#![tactic(auto)]
+
 ghost use Rattle.std.specs.Prelude.{◌≡◌, length as ListN·length};
 ghost use Rattle.model.specs.Limits.{least_workspace, most_sheet};
 ghost use Rattle.model.specs.Service.{new_caller};
@@ -14,14 +16,14 @@ use writing::Outcome;
 
 // A caller's record: its next serial.
 #[repr(C)]
-#[derive(Drop)]
+#[derive(Clone, Copy)]
 pub struct Caller {
     pub next: u32,
 }
 
 // The refusal's number, 0 for none; the serial of an accepted call, else 0; the answer's length. A class load and a drawing take no serial; the length is the sheet's in words, the text's in bytes.
 #[repr(C)]
-#[derive(Drop)]
+#[derive(Clone, Copy)]
 pub struct Reply {
     pub refusal: u32,
     pub serial: u32,
@@ -29,7 +31,7 @@ pub struct Reply {
 }
 
 // A reply, and the serial that is next.
-#[derive(Drop)]
+#[derive(Clone, Copy)]
 pub struct Turn {
     pub reply: Reply,
     pub next: u32,

@@ -2,7 +2,7 @@
 use Prim.Native.Nat.{ℕ, zero, suc, ◌+◌, ◌/◌, ◌%◌, ◌≤◌, ◌<◌, ◌*◌}
 use native.Mathlib.Omega.{arith}
 use mathlib.Core.Path.{◌≡◌, refl, sym, ap, ◌∙◌}
-use mathlib.Core.List.{List, [], ◌∷◌, ◌++◌, append_nil}
+use mathlib.Core.List.{List, [], ◌∷◌, ◌++◌, append-nil}
 use lib.ListN.{length, get_or, drop, length-append}
 use Rattle.model.specs.Limits.{most_identifiers, effect_width}
 use Rattle.model.specs.Lists.{gather}
@@ -70,7 +70,7 @@ level_definite (suc (suc k)) c d x p a b = refl
 
 -- one effect
 pub one-effect : (e : Effect) → effect_words e ≡ gather effect_words (e ∷ [])
-one-effect e = sym (append_nil (effect_words e))
+one-effect e = sym (append-nil (effect_words e))
 
 -- ---- both records of a place
 module _ (ws : List ℕ) (p : Place) (b : p.identifier < most_identifiers) where
@@ -104,7 +104,7 @@ module _ (ws : List ℕ) (p : Place) (b : p.identifier < most_identifiers) where
       ++ gather effect_words (level_effects (word / 4 % 4) MutateTransitiveConditionally MutateTransitive 0 (with_span p (get_or ws (TSPAN + x) 0)))) e
       ∙ sym (gather_append effect_words (level_effects (word % 4) MutateConditionally Mutate (reason_word (reason_of (word / 16 % 2))) (with_span p (get_or ws (LSPAN + x) 0)))
       (level_effects (word / 4 % 4) MutateTransitiveConditionally MutateTransitive 0 (with_span p (get_or ws (TSPAN + x) 0))))
-      ∙ ap (gather effect_words) (sym (collect_words t h) ∙ sym (append_nil (collect_param_effects t p))))
+      ∙ ap (gather effect_words) (sym (collect_words t h) ∙ sym (append-nil (collect_param_effects t p))))
 
   -- at most sixteen words
   pub collect_length : (t : State) → Holds ws t → length (gather effect_words (collect_param_effects t p)) ≤ 2 * effect_width
@@ -126,7 +126,7 @@ module _ (ws : List ℕ) (p : Place) (b : p.identifier < most_identifiers) where
   collected_most {a} {at} {a'} {at'} v =
       let s : State = state_of ws 0 in
       let e : length (gather effect_words (collect_param_effects s p ++ [])) ≡ length (gather effect_words (collect_param_effects s p)) =
-      ap (λ (l : List Effect). length (gather effect_words l)) (append_nil (collect_param_effects s p)) in
+      ap (λ (l : List Effect). length (gather effect_words l)) (append-nil (collect_param_effects s p)) in
       omega (arith, (v s (held ws 0)).next, collect_length s (held ws 0), e)
 
 -- ---- many places
@@ -148,7 +148,7 @@ module _ (ws : List ℕ) (first count : ℕ) where
       → Collected ws (p ∷ []) a at a' at' → Collecting a₀ at₀ (i + 1) a' at'
   collecting_turn i {p = p} v z e c t h =
       table_turn (record_words t) count (λ (j : ℕ). tracked_at ws (first + j)) i (v t h) z
-      (wrote_as (c t h) (ap (gather effect_words) (append_nil (collect_param_effects t p)) ∙ ap (record_words t) e))
+      (wrote_as (c t h) (ap (gather effect_words) (append-nil (collect_param_effects t p)) ∙ ap (record_words t) e))
 
   pub collecting_end : {a₀ : List ℕ} {at₀ : ℕ} (i : ℕ) {a : List ℕ} {at : ℕ} → Collecting a₀ at₀ i a at → count ≤ i → Collected ws (tracked_from ws first count) a₀ at₀ a at
   unfolding tracked_from

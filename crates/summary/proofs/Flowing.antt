@@ -3,7 +3,7 @@ use Prim.Native.Nat.{ℕ, ◌+◌, ◌/◌, ◌≤◌, ◌<◌}
 use native.Mathlib.Omega.{arith}
 use mathlib.Core.Path.{◌≡◌, refl, sym, ap, ◌∙◌}
 use mathlib.Core.Bool.{Bool, true, false, ◌&&◌, not}
-use mathlib.Core.List.{List, [], ◌∷◌, append_nil}
+use mathlib.Core.List.{List, [], ◌∷◌, append-nil}
 use lib.ListN.{length, drop, get_or}
 use lib.Dec.{eqb}
 use borrow.Author.Tests.{eq-eqb, ne_eqb}
@@ -75,7 +75,7 @@ module _ (ws : List ℕ) (from into : Place) (index returns : ℕ) (b : from.ide
       let j : k ≡ pick (eqb into.identifier r.identifier) Alias Capture = g ∙ ap (λ (x : ℕ). pick (eqb into.identifier x) Alias Capture) (sym e) in
       wrote_as w
       (ap (λ (z : EffectKind). effect_words (record { kind = z; first = from; second = into; extra = 0 })) j
-      ∙ sym (append_nil (effect_words (flow_effect r into from)))
+      ∙ sym (append-nil (effect_words (flow_effect r into from)))
       ∙ ap (λ (x : Bool). gather effect_words (pick x (flow_effect r into from ∷ []) [])) (sym f))
 
   -- at most eight words, in any case

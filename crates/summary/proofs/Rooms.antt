@@ -3,7 +3,7 @@ use Prim.Native.Nat.{ℕ, zero, suc, ◌+◌, ◌*◌, ◌≤◌}
 use native.Mathlib.Omega.{arith}
 use native.Mathlib.Nat.{mul-suc}
 use mathlib.Core.Path.{◌≡◌, refl, ap, ◌∙◌}
-use mathlib.Core.List.{List, [], ◌∷◌, ◌++◌, map, append_nil}
+use mathlib.Core.List.{List, [], ◌∷◌, ◌++◌, map, append-nil}
 use lib.ListN.{length, length-append}
 use Rattle.model.specs.Limits.{place_width, effect_width}
 use Rattle.model.specs.Lists.{pick, gather}
@@ -47,7 +47,7 @@ module _ {a : List ℕ} {at : ℕ} {a' : List ℕ} {r : ℕ} where
 gather_most : (w : Place → List ℕ) (k : ℕ) (l : List Place) (n : ℕ) (p : Place) → length (gather w l) ≤ k * n → length (w p) ≤ k → length (gather w (l ++ (p ∷ []))) ≤ k * suc n
 gather_most w k l n p h b =
     let e : length (gather w (l ++ (p ∷ []))) ≡ length (gather w l) + length (w p) =
-    ap (λ (z : List ℕ). length z) (gather_append w l (p ∷ [])) ∙ length-append (gather w l) (w p ++ []) ∙ ap (λ (z : List ℕ). length (gather w l) + length z) (append_nil (w p)) in
+    ap (λ (z : List ℕ). length z) (gather_append w l (p ∷ [])) ∙ length-append (gather w l) (w p ++ []) ∙ ap (λ (z : List ℕ). length (gather w l) + length z) (append-nil (w p)) in
     omega (arith, e, h, b, mul-suc k n)
 
 tab_most : (w : Place → List ℕ) (k n : ℕ) (f : ℕ → Place) → ((i : ℕ) → length (w (f i)) ≤ k) → length (gather w (tab n f)) ≤ k * n

@@ -3,7 +3,7 @@ use Prim.Native.Nat.{ℕ, zero, suc, ◌+◌, ◌*◌, ◌/◌, ◌%◌, ◌≤�
 use native.Mathlib.Omega.{arith}
 use native.Mathlib.Nat.{add-zero, add-suc}
 use native.Mathlib.Numerals.{add-one}
-use mathlib.Core.List.{List, [], ◌∷◌, ◌++◌, append_nil, append_assoc}
+use mathlib.Core.List.{List, [], ◌∷◌, ◌++◌, append-nil, append_assoc}
 use mathlib.Core.Path.{◌≡◌, sym, ap, ◌∙◌}
 use lib.ListN.{length, get_or, set, take, drop, length-set}
 use lib.Seq.{get_or-set_same, get_or-set_other}
@@ -40,7 +40,7 @@ place-below w s = omega arith
 module _ {A : Type 0} where
   tab_parts : (p c : ℕ) (f : ℕ → A) → tab (p + c) f ≡ tab p f ++ tab c (λ (i : ℕ). f (p + i))
   unfolding tab
-  tab_parts p zero f = ap (λ (n : ℕ). tab n f) (add-zero p) ∙ sym (append_nil (tab p f))
+  tab_parts p zero f = ap (λ (n : ℕ). tab n f) (add-zero p) ∙ sym (append-nil (tab p f))
   tab_parts p (suc c) f =
       ap (λ (n : ℕ). tab n f) (add-suc p c)
       ∙ ap (λ (l : List A). l ++ (f (p + c) ∷ [])) (tab_parts p c f)

@@ -1,10 +1,12 @@
 // The answer's words, or a text's bytes, written one after another into a lent buffer. What has no room is counted all the same, so that the length is known at any length.
+#![tactic(auto)]
+
 ghost use Rattle.std.specs.Prelude.{◌≡◌, [], ◌∷◌, ◌+◌, ◌<◌, set};
 ghost use Rattle.workspace.specs.Sort.{cleared_from};
 ghost use Rattle.writing.specs.Wrote.{Wrote, farthest};
 
 // What is said of a call that fills a buffer: the number of a refusal, or the length of what was written.
-#[derive(Drop)]
+#[derive(Clone, Copy)]
 pub enum Outcome {
     Refused(u32),
     Accepted(usize),
