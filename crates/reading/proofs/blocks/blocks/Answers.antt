@@ -3,7 +3,6 @@ use Rattle.reading.proofs.JudgeLaws.{numbered_next, numbered_refused, numbered_s
 use Rattle.reading.specs.TotalsSays.{totals_says}
 use Rattle.hir.specs.Says.{word_says, block_says}
 use Rattle.model.proofs.ReadLaws.{count_reads, at_most_reads}
-use Rattle.model.specs.Asking.{block}
 use lib.ListN.{length, length-set, replicate}
 use Prim.Native.Nat.{◌≤◌}
 use native.Mathlib.Omega.{arith}
@@ -36,7 +35,7 @@ repeated-requires c =
       from_in_bounds = omega (arith, c.loop-left.invariant.3);
       every = c.loop-left.invariant.4;
       number_le_most_block_number =
-          at_most_reads most_block_number _ _ _ _ (says block_says c.in-Got-block_number.is c.block_number.ensures)
+          at_most_reads most_block_number _ _ _ _ (says block_says c.in-Got-block_number.is c.block_number.ensures);
     }
 
 pub returns-then-repeated : goal.returns-then-repeated

@@ -1,7 +1,7 @@
 use Rattle.reading.proofs.JudgeLaws.{times_next, section_stop, section_done, section_refused}
 use Rattle.reading.specs.TotalsSays.{totals_says}
 use Rattle.hir.specs.Says.{word_says}
-use Rattle.model.specs.Asking.{effect, effects}
+use Rattle.model.specs.Asking.{effects}
 use mathlib.Core.Path.{◌∙◌, sym, refl}
 use Rattle.hir.proofs.Answers.{says}
 use Rattle.reading.proofs.blocks.effects.Goals as goal

@@ -1,7 +1,6 @@
 use Rattle.reading.proofs.JudgeLaws.{times_next, section_stop, section_done, section_refused}
 use Rattle.reading.specs.TotalsSays.{totals_says}
 use Rattle.hir.specs.Says.{word_says}
-use Rattle.model.specs.Asking.{instruction}
 use mathlib.Core.Path.{◌∙◌, sym, refl}
 use Rattle.hir.proofs.Answers.{says}
 use Rattle.reading.proofs.blocks.instructions.Goals as goal

@@ -3,7 +3,7 @@ use Rattle.reading.specs.Operands.{predecessors}
 use native.Mathlib.Omega.{arith}
 use Rattle.model.specs.Lists.{among}
 use mathlib.Core.Path.{◌≡◌, ◌∙◌, sym, ap, refl}
-use Prim.Native.Nat.{ℕ, ◌-◌}
+use Prim.Native.Nat.{ℕ}
 use Rattle.reading.proofs.phis.among_operands.Goals as goal
 
 pub loop-i-init : goal.loop-i-init

@@ -2,7 +2,6 @@ use Rattle.reading.proofs.BlockLaws.{listed_next, listed_end}
 use native.Mathlib.Omega.{arith}
 use lib.ListN.{length}
 use mathlib.Core.Path.{◌≡◌, ◌∙◌, refl, sym}
-use Prim.Native.Nat.{◌-◌}
 use Rattle.reading.proofs.phis.listed.Goals as goal
 
 pub loop-i-init : goal.loop-i-init

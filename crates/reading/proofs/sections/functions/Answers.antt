@@ -2,7 +2,6 @@ use Rattle.reading.proofs.SectionLaws.{section-read, section_stopped, count_stop
 use Rattle.reading.proofs.JudgeLaws.{times_next, times_stop, times_done}
 use Rattle.reading.specs.Says.{cursor_says}
 use Rattle.hir.specs.Says.{word_says}
-use Rattle.model.specs.Sections.{inner_function}
 use mathlib.Core.Path.{◌∙◌, sym, refl}
 use Rattle.hir.proofs.Answers.{says}
 use Rattle.reading.proofs.sections.functions.Goals as goal
