@@ -1,0 +1,14 @@
+use Rattle.model.specs.Limits.{effect_width}
+use Rattle.hir.specs.Words.{wide, effect_at}
+use Rattle.hir.specs.Numbers.{effect_number}
+use Rattle.operands.specs.Ranges.{ranges_of}
+use Rattle.operands.specs.Known.{IntoBelow}
+use Rattle.operands.proofs.Folding.{Folding}
+use Rattle.operands.proofs.Marked.{mark_by}
+use Rattle.operands.proofs.marks.mark_of.Given as goal
+
+abbrev pub invariant-loop-left : goal.invariant-loop-left
+invariant-loop-left l = Folding (wide effect_width effect_at) IntoBelow (mark_by (ranges_of l.ws).ends l.order.0 l.x.0) l.sheet l.initial.left l.initial.next (effect_number l.initial.mark) l.left l.next (effect_number l.mark)
+
+abbrev pub decreases-loop-left : goal.decreases-loop-left
+decreases-loop-left l = l.left
