@@ -1,0 +1,11 @@
+use Rattle.instructions.proofs.Instruction.{effects_ready, instruction_builds}
+use Rattle.instructions.proofs.build_instruction.Goals as goal
+
+pub instruction_at-i-requires : goal.instruction_at-i-requires
+instruction_at-i-requires c = c.requires.inside
+
+pub build_effects-requires : goal.build_effects-requires
+build_effects-requires c = effects_ready c.instruction_at-i.ensures c.requires
+
+pub returns : goal.returns
+returns c = instruction_builds c.instruction_at-i.ensures c.build_effects.ensures

@@ -1,0 +1,14 @@
+use mathlib.Core.Path.{ap}
+use Rattle.model.specs.Answer.{place_words}
+use Rattle.writing.proofs.Writing.{wrote_then, wrote_as}
+use Rattle.load.proofs.parts.put_instruction.Goals as goal
+
+pub returns : goal.returns
+returns c =
+    wrote_then
+    c.put-a.ensures
+    (wrote_then
+    (wrote_as c.put_place-b.ensures (ap place_words c.plain_place.ensures))
+    (wrote_then
+    c.put-c.ensures
+    (wrote_then c.put-d.ensures (wrote_then c.put-e.ensures (wrote_then c.put-f.ensures c.put_effect.ensures)))))
