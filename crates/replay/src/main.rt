@@ -8,11 +8,18 @@
 ghost use Rattle.std.specs.Prelude.{◌≤◌};
 
 use files::load_words;
-use libc::STDOUT_FILENO;
 use service::{Turn, turn_for};
+use std::alloc::Global;
+use std::fs;
+use std::io::{self, Read};
 
 // So many callers have a record.
 const CALLERS: usize = 4;
+
+// The file has at most so many parts, each of so many bytes.
+const PARTS: usize = 48;
+
+const PART_BYTES: u64 = 131072;
 
 // How many sheets and calls there were, how many calls gave something else, and the serial that is next for each caller.
 #[derive(Clone, Copy)]
@@ -325,28 +332,37 @@ fn replay_part(run: Run, part: &[u32], workspace: &mut [u32], answer: &mut [u32]
 }
 
 // The next part of the file.
-fn next_part(run: Run, file: i32, workspace: &mut [u32], answer: &mut [u32]) -> Run {
-    let mut bytes = [0u8; 131072];
-    let n = io::read_full(file, &mut bytes);
+fn next_part<R: Read>(
+    alloc: Global,
+    run: Run,
+    file: &mut R,
+    workspace: &mut [u32],
+    answer: &mut [u32],
+) -> io::Result<Run> {
+    let mut bytes = Vec::new(alloc);
+    file.take(PART_BYTES).read_to_end(&mut bytes)?;
     let mut words = [0u32; 32768];
-    let count = load_words(&bytes[..n], &mut words);
-    replay_part(run, &words[..count], workspace, answer)
+    let count = load_words(&bytes, &mut words);
+    Ok(replay_part(run, &words[..count], workspace, answer))
 }
 
-// The parts of the file, up to 48.
-fn parts(run: Run, file: i32, workspace: &mut [u32], answer: &mut [u32]) -> Run {
+// The parts of the file.
+fn parts<R: Read>(
+    alloc: Global,
+    run: Run,
+    file: &mut R,
+    workspace: &mut [u32],
+    answer: &mut [u32],
+) -> io::Result<Run> {
     let mut r = run;
-    let mut left: usize = 48;
-    while 0 < left {
-        r = next_part(r, file, workspace, answer);
-        left -= 1;
+    for _ in 0..PARTS {
+        r = next_part(alloc, r, file, workspace, answer)?;
     }
-    r
+    Ok(r)
 }
 
-fn print_count(n: u32, what: &[u8]) {
-    io::print_decimal(STDOUT_FILENO, n as u64);
-    io::write_all(STDOUT_FILENO, what);
+fn print_count(rt: &impl Print, n: u32, what: &str) -> io::Result<()> {
+    print!(rt; "{n}{what}")
 }
 
 // The largest serial is next for the second caller, so that its first sheet crosses the wrap while the others stay.
@@ -359,22 +375,16 @@ fn start() -> Run {
     }
 }
 
-fn main() {
+fn main(rt: HostRuntime) -> io::Result<()> {
     let mut workspace = [0u32; 18000];
     let mut answer = [0u32; 18000];
-    let path = b"answers.bin";
-    let file = os::open_read(path);
-    if file < 0 {
-        os::fail(path);
-        return;
-    }
-    let run = parts(start(), file, &mut workspace, &mut answer);
-    libc::close(file);
-    print_count(run.sheets, b" sheets, ");
-    print_count(run.calls, b" calls, ");
-    print_count(run.different, b" different, next serials ");
-    print_count(run.serial(0), b" ");
-    print_count(run.serial(1), b" ");
-    print_count(run.serial(2), b" ");
-    print_count(run.serial(3), b"\n");
+    let mut file = fs::open(&rt, "answers.bin")?;
+    let run = parts(rt.alloc(), start(), &mut file, &mut workspace, &mut answer)?;
+    print_count(&rt, run.sheets, " sheets, ")?;
+    print_count(&rt, run.calls, " calls, ")?;
+    print_count(&rt, run.different, " different, next serials ")?;
+    print_count(&rt, run.serial(0), " ")?;
+    print_count(&rt, run.serial(1), " ")?;
+    print_count(&rt, run.serial(2), " ")?;
+    print_count(&rt, run.serial(3), "\n")
 }

@@ -96,8 +96,7 @@ pub fn turn_for(
 }
 
 // The service call: it takes the serial of the caller at a position, calls the inference, and stores the successor.
-#[unsafe(no_mangle)]
-pub extern "C" fn service_infer(
+pub fn service_infer(
     callers: &mut [Caller],
     position: usize,
     sheet: &[u32],
@@ -134,8 +133,7 @@ fn reply_of(outcome: Outcome) -> Reply
 }
 
 // A class load: the sheet of a seed, n identifiers and m effects. It takes no serial.
-#[unsafe(no_mangle)]
-pub extern "C" fn service_load(seed: u32, n: u32, m: u32, sheet: &mut [u32]) -> Reply
+pub fn service_load(seed: u32, n: u32, m: u32, sheet: &mut [u32]) -> Reply
     ensures { Loaded seed n m sheet.old result sheet.new }
 {
     reply_of(class_load(seed, n, m, sheet))
@@ -153,8 +151,7 @@ fn load_from(callers: usize, position: usize, seed: u32, n: u32, m: u32, sheet: 
 }
 
 // A class load for the caller at a position. It takes no serial, and leaves every record.
-#[unsafe(no_mangle)]
-pub extern "C" fn service_load_for(
+pub fn service_load_for(
     callers: &[Caller],
     position: usize,
     seed: u32,
@@ -168,32 +165,28 @@ pub extern "C" fn service_load_for(
 }
 
 // A drawing: the graph of a sheet as a DOT file. It takes no serial.
-#[unsafe(no_mangle)]
-pub extern "C" fn service_dot(sheet: &[u32], workspace: &mut [u32], text: &mut [u8]) -> Reply
+pub fn service_dot(sheet: &[u32], workspace: &mut [u32], text: &mut [u8]) -> Reply
     ensures { Drawn sheet.now workspace.old text.old result workspace.new text.new }
 {
     reply_of(draw(sheet, workspace, text))
 }
 
 // A new record.
-#[unsafe(no_mangle)]
-pub extern "C" fn service_new() -> Caller
+pub fn service_new() -> Caller
     ensures { result.next ≡ new_caller.next }
 {
     Caller { next: 0 }
 }
 
 // How many words a workspace has at least.
-#[unsafe(no_mangle)]
-pub extern "C" fn service_least_workspace() -> usize
+pub fn service_least_workspace() -> usize
     ensures { result ≡ least_workspace }
 {
     16384
 }
 
 // How many words a sheet has at most.
-#[unsafe(no_mangle)]
-pub extern "C" fn service_most_sheet() -> usize
+pub fn service_most_sheet() -> usize
     ensures { result ≡ most_sheet }
 {
     16384
