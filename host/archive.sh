@@ -8,6 +8,6 @@ cd "$(dirname "$0")/.."
 root=$PWD
 if [ -z "${SERVICE_ARCHIVE:-}" ]; then
     SERVICE_ARCHIVE=$root/target/staticlib
-    [ -f "$SERVICE_ARCHIVE/libservice.a" ] || rt staticlib service >&2
+    [ -f "$SERVICE_ARCHIVE/libservice.a" ] || tools/archive >&2
 fi
 export SERVICE_ARCHIVE

@@ -1,5 +1,5 @@
 //! Finds libservice.a: in the folder that SERVICE_ARCHIVE names, else in the repository's
-//! target/staticlib, where `rt staticlib service` writes it.
+//! target/staticlib, where `tools/archive` writes it.
 
 use std::path::{Path, PathBuf};
 
@@ -17,7 +17,7 @@ fn main() {
     // Documentation is made without the archive, so that its absence is no error here.
     if !archive.is_file() {
         println!(
-            "cargo::warning={} is not there: run `rt staticlib service` in the repository, \
+            "cargo::warning={} is not there: run `tools/archive` in the repository, \
              or name the folder that has libservice.a in SERVICE_ARCHIVE",
             archive.display()
         );

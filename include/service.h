@@ -1,6 +1,6 @@
 /* The proved inference of mutable ranges, for hosts in C and C++.
  *
- * Link with target/staticlib/libservice.a, which `rt staticlib service` writes (x86-64).
+ * Link with target/staticlib/libservice.a, which `tools/archive` writes (x86-64).
  *
  * A host keeps one record, struct Caller, for each of its callers. It lends the records, a workspace
  * and an answer buffer to every call, which names its caller by position, from 0; class loads and
