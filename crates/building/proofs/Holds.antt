@@ -13,7 +13,6 @@ use Rattle.model.specs.Limits.{most_identifiers, most_relations}
 use mathlib.Core.Option.{Option, none, some}
 use Rattle.model.specs.Lists.{is_some, map_option}
 use Rattle.model.specs.Graph.{Node, Graph, has_node, change}
-use Rattle.model.specs.Size.{edges, entries}
 use Rattle.model.specs.Built.{held_in}
 use Rattle.workspace.specs.Layout.{VALUE, FBOUND, MARKS, EDGES, ENTRIES, PHIS}
 use Rattle.workspace.specs.Graph.{MISSING}

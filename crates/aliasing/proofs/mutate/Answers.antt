@@ -19,17 +19,17 @@ bounds-ws-7683 c =
 pub walk-requires : goal.walk-requires
 walk-requires c =
     let begins_here : (Started c.args.m c.args.ws.now c.args.hand c.take_base-base.result (set c.take_base-base.new.ws QUEUE c.entry.result)) =
-        started c.args.ws.now c.args.hand c.args.m c.requires.indexed c.requires.handing c.requires.callable c.take_base-base.new.ws c.take_base-base.result c.take_base-base.ensures c.entry.result c.bit_of.result c.kind_bit-kind.result c.bit_of.ensures c.kind_bit-kind.ensures c.entry.ensures in
+    started c.args.ws.now c.args.hand c.args.m c.requires.indexed c.requires.handing c.requires.callable c.take_base-base.new.ws c.take_base-base.result c.take_base-base.ensures c.entry.result c.bit_of.result c.kind_bit-kind.result c.bit_of.ensures c.kind_bit-kind.ensures c.entry.ensures in
     record { ready = begins_here.ready; callable = c.requires.callable }
 
 pub shape_of-ws : goal.shape_of-ws
 shape_of-ws c =
     let begins_here : (Started c.args.m c.args.ws.now c.args.hand c.take_base-base.result (set c.take_base-base.new.ws QUEUE c.entry.result)) =
-        started c.args.ws.now c.args.hand c.args.m c.requires.indexed c.requires.handing c.requires.callable c.take_base-base.new.ws c.take_base-base.result c.take_base-base.ensures c.entry.result c.bit_of.result c.kind_bit-kind.result c.bit_of.ensures c.kind_bit-kind.ensures c.entry.ensures in
+    started c.args.ws.now c.args.hand c.args.m c.requires.indexed c.requires.handing c.requires.callable c.take_base-base.new.ws c.take_base-base.result c.take_base-base.ensures c.entry.result c.bit_of.result c.kind_bit-kind.result c.bit_of.ensures c.kind_bit-kind.ensures c.entry.ensures in
     c.walk.auto.ws ∙ begins_here.same
 
 pub returns : goal.returns
 returns c =
     let begins_here : (Started c.args.m c.args.ws.now c.args.hand c.take_base-base.result (set c.take_base-base.new.ws QUEUE c.entry.result)) =
-        started c.args.ws.now c.args.hand c.args.m c.requires.indexed c.requires.handing c.requires.callable c.take_base-base.new.ws c.take_base-base.result c.take_base-base.ensures c.entry.result c.bit_of.result c.kind_bit-kind.result c.bit_of.ensures c.kind_bit-kind.ensures c.entry.ensures in
+    started c.args.ws.now c.args.hand c.args.m c.requires.indexed c.requires.handing c.requires.callable c.take_base-base.new.ws c.take_base-base.result c.take_base-base.ensures c.entry.result c.bit_of.result c.kind_bit-kind.result c.bit_of.ensures c.kind_bit-kind.ensures c.entry.ensures in
     begins_here.mutated c.walk.new.ws c.walk.result.count c.walk.result.hand c.walk.ensures

@@ -1,5 +1,4 @@
 use Rattle.aliasing.proofs.Pending.{cleared_start, cleared_end, order_few, long, process_turn, process_end}
-use Prim.Native.Nat.{◌-◌}
 use mathlib.Core.Path.{◌∙◌}
 use Rattle.aliasing.proofs.process_mutations.Goals as goal
 

@@ -8,19 +8,19 @@ use Rattle.aliasing.proofs.record.Goals as goal
 pub overflow_mul-rest-2 : goal.overflow_mul-rest-2
 overflow_mul-rest-2 c =
     let rest_below_here : 16 * c.larger.result + 32 * c.larger-2.result ≤ 4294967280 =
-        omega (arith, c.slice_known-2-1.given (RECORD + c.args.x)) in
+    omega (arith, c.slice_known-2-1.given (RECORD + c.args.x)) in
     omega (arith, rest_below_here)
 
 pub overflow_add-rest : goal.overflow_add-rest
 overflow_add-rest c =
     let rest_below_here : 16 * c.larger.result + 32 * c.larger-2.result ≤ 4294967280 =
-        omega (arith, c.slice_known-2-1.given (RECORD + c.args.x)) in
+    omega (arith, c.slice_known-2-1.given (RECORD + c.args.x)) in
     omega (arith, rest_below_here)
 
 pub overflow_add-ws-then-kind-level : goal.overflow_add-ws-then-kind-level
 overflow_add-ws-then-kind-level c =
     let rest_below_here : 16 * c.larger.result + 32 * c.larger-2.result ≤ 4294967280 =
-        omega (arith, c.slice_known-2-1.given (RECORD + c.args.x)) in
+    omega (arith, c.slice_known-2-1.given (RECORD + c.args.x)) in
     omega (arith, rest_below_here)
 
 pub bounds-ws-x-then-kind-level-2 : goal.bounds-ws-x-then-kind-level-2
@@ -29,13 +29,13 @@ bounds-ws-x-then-kind-level-2 c = simp length-set (omega arith)
 pub overflow_add-ws-else-kind-level-2 : goal.overflow_add-ws-else-kind-level-2
 overflow_add-ws-else-kind-level-2 c =
     let rest_below_here : 16 * c.larger.result + 32 * c.larger-2.result ≤ 4294967280 =
-        omega (arith, c.slice_known-2-1.given (RECORD + c.args.x)) in
+    omega (arith, c.slice_known-2-1.given (RECORD + c.args.x)) in
     omega (arith, rest_below_here)
 
 pub overflow_add-ws-then-local-level-2 : goal.overflow_add-ws-then-local-level-2
 overflow_add-ws-then-local-level-2 c =
     let rest_below_here : 16 * c.larger.result + 32 * c.larger-2.result ≤ 4294967280 =
-        omega (arith, c.slice_known-2-1.given (RECORD + c.args.x)) in
+    omega (arith, c.slice_known-2-1.given (RECORD + c.args.x)) in
     omega (arith, rest_below_here)
 
 pub bounds-ws-x-then-local-level-2 : goal.bounds-ws-x-then-local-level-2
@@ -44,7 +44,7 @@ bounds-ws-x-then-local-level-2 c = simp length-set (omega arith)
 pub overflow_add-ws-else-local-level-2 : goal.overflow_add-ws-else-local-level-2
 overflow_add-ws-else-local-level-2 c =
     let rest_below_here : 16 * c.larger.result + 32 * c.larger-2.result ≤ 4294967280 =
-        omega (arith, c.slice_known-2-1.given (RECORD + c.args.x)) in
+    omega (arith, c.slice_known-2-1.given (RECORD + c.args.x)) in
     omega (arith, rest_below_here)
 
 pub returns-then-kind-level : goal.returns-then-kind-level

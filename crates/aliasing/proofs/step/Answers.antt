@@ -14,13 +14,13 @@ enter-requires c = (omega arith, (omega arith, omega (arith, c.requires.ready.fe
 pub returns-then-not-enter : goal.returns-then-not-enter
 returns-then-not-enter c =
     let enters_here : (Entering c.args.m c.args.base c.args.ws.now c.args.top c.args.hand c.enter.new.ws c.enter.result) =
-        step_enters c.args.m c.args.base c.args.ws.now c.args.top c.args.hand c.requires.ready c.requires.callable c.requires.lt_top c.enter.ensures in
+    step_enters c.args.m c.args.base c.args.ws.now c.args.top c.args.hand c.requires.ready c.requires.callable c.requires.lt_top c.enter.ensures in
     enters_here.passed (not-true _ (ap not c.if-not-enter.true))
 
 pub shape_of-ws-then-not-enter : goal.shape_of-ws-then-not-enter
 shape_of-ws-then-not-enter c =
     let enters_here : (Entering c.args.m c.args.base c.args.ws.now c.args.top c.args.hand c.enter.new.ws c.enter.result) =
-        step_enters c.args.m c.args.base c.args.ws.now c.args.top c.args.hand c.requires.ready c.requires.callable c.requires.lt_top c.enter.ensures in
+    step_enters c.args.m c.args.base c.args.ws.now c.args.top c.args.hand c.requires.ready c.requires.callable c.requires.lt_top c.enter.ensures in
     (enters_here.passed (not-true _ (ap not c.if-not-enter.true))).aside.same
 
 pub record_errors-h-requires : goal.record_errors-h-requires
@@ -34,23 +34,23 @@ accept-requires c =
 pub push_all-r-requires : goal.push_all-r-requires
 push_all-r-requires c =
     let accepts_here : (Accepting c.args.m c.args.base c.args.ws.now c.args.top c.args.hand c.record_errors-h.result c.accept.new.ws) =
-        let enters_here : (Entering c.args.m c.args.base c.args.ws.now c.args.top c.args.hand c.enter.new.ws c.enter.result) =
-        step_enters c.args.m c.args.base c.args.ws.now c.args.top c.args.hand c.requires.ready c.requires.callable c.requires.lt_top c.enter.ensures in
+    let enters_here : (Entering c.args.m c.args.base c.args.ws.now c.args.top c.args.hand c.enter.new.ws c.enter.result) =
+    step_enters c.args.m c.args.base c.args.ws.now c.args.top c.args.hand c.requires.ready c.requires.callable c.requires.lt_top c.enter.ensures in
     enters_here.accepted (not-false _ (ap not c.if-not-enter.false)) c.record_errors-h.new.ws c.record_errors-h.result c.record_errors-h.ensures c.accept.new.ws c.accept.ensures in
     record { room = accepts_here.room; x_lt_most_identifiers = (omega arith, (omega arith, omega arith)) }
 
 pub returns : goal.returns
 returns c =
     let accepts_here : (Accepting c.args.m c.args.base c.args.ws.now c.args.top c.args.hand c.record_errors-h.result c.accept.new.ws) =
-        let enters_here : (Entering c.args.m c.args.base c.args.ws.now c.args.top c.args.hand c.enter.new.ws c.enter.result) =
-        step_enters c.args.m c.args.base c.args.ws.now c.args.top c.args.hand c.requires.ready c.requires.callable c.requires.lt_top c.enter.ensures in
+    let enters_here : (Entering c.args.m c.args.base c.args.ws.now c.args.top c.args.hand c.enter.new.ws c.enter.result) =
+    step_enters c.args.m c.args.base c.args.ws.now c.args.top c.args.hand c.requires.ready c.requires.callable c.requires.lt_top c.enter.ensures in
     enters_here.accepted (not-false _ (ap not c.if-not-enter.false)) c.record_errors-h.new.ws c.record_errors-h.result c.record_errors-h.ensures c.accept.new.ws c.accept.ensures in
     accepts_here.stepped c.push_all-r.new.ws c.push_all-r.result c.push_all-r.ensures
 
 pub shape_of-ws : goal.shape_of-ws
 shape_of-ws c =
     let accepts_here : (Accepting c.args.m c.args.base c.args.ws.now c.args.top c.args.hand c.record_errors-h.result c.accept.new.ws) =
-        let enters_here : (Entering c.args.m c.args.base c.args.ws.now c.args.top c.args.hand c.enter.new.ws c.enter.result) =
-        step_enters c.args.m c.args.base c.args.ws.now c.args.top c.args.hand c.requires.ready c.requires.callable c.requires.lt_top c.enter.ensures in
+    let enters_here : (Entering c.args.m c.args.base c.args.ws.now c.args.top c.args.hand c.enter.new.ws c.enter.result) =
+    step_enters c.args.m c.args.base c.args.ws.now c.args.top c.args.hand c.requires.ready c.requires.callable c.requires.lt_top c.enter.ensures in
     enters_here.accepted (not-false _ (ap not c.if-not-enter.false)) c.record_errors-h.new.ws c.record_errors-h.result c.record_errors-h.ensures c.accept.new.ws c.accept.ensures in
     (accepts_here.stepped c.push_all-r.new.ws c.push_all-r.result c.push_all-r.ensures).aside.same

@@ -28,59 +28,59 @@ process_renders-a3-requires c =
 pub overflow_sub-a3 : goal.overflow_sub-a3
 overflow_sub-a3 c =
     let joined_here : (HandedPut c.args.sheet.now c.args.lists.now c.args.ws.now c.args.f c.args.renders c.args.hand c.put_recorded-a2.new.answer c.put_recorded-a2.result c.if-f.ws c.if-f.answer c.if-f.a3) =
-        let k = c.requires.describes.1 in
+    let k = c.requires.describes.1 in
     let g = functions_again k.1.functions k.0.m in
     let same = c.put_handed-a3.auto.answer in
     elim c.if-f.branch [
-      then-f w ↦ handed_as (handed_put _ _ _ _ _ g c.requires.renders_le_most_renders.1.0 c.requires.indexed.size c.put_handed-a3.ensures same w.if-f.true c.requires.renders_le_most_renders.0 w.process_renders-a3.ensures w.process_renders-a3.auto.answer) w.ws-is w.answer-is w.a3-is
-    | else-f w ↦ handed_as (handed_not _ _ _ _ _ g c.requires.renders_le_most_renders.1.0 c.requires.indexed.size c.put_handed-a3.ensures same w.if-f.false) w.ws-is w.answer-is w.a3-is
+      | then-f w ↦ handed_as (handed_put _ _ _ _ _ g c.requires.renders_le_most_renders.1.0 c.requires.indexed.size c.put_handed-a3.ensures same w.if-f.true c.requires.renders_le_most_renders.0 w.process_renders-a3.ensures w.process_renders-a3.auto.answer) w.ws-is w.answer-is w.a3-is
+      | else-f w ↦ handed_as (handed_not _ _ _ _ _ g c.requires.renders_le_most_renders.1.0 c.requires.indexed.size c.put_handed-a3.ensures same w.if-f.false) w.ws-is w.answer-is w.a3-is
     ] in
     count_least c.requires.describes c.put-a1.ensures c.put_recorded-a2.ensures joined_here
 
 pub overflow_cast-a3 : goal.overflow_cast-a3
 overflow_cast-a3 c =
     let joined_here : (HandedPut c.args.sheet.now c.args.lists.now c.args.ws.now c.args.f c.args.renders c.args.hand c.put_recorded-a2.new.answer c.put_recorded-a2.result c.if-f.ws c.if-f.answer c.if-f.a3) =
-        let k = c.requires.describes.1 in
+    let k = c.requires.describes.1 in
     let g = functions_again k.1.functions k.0.m in
     let same = c.put_handed-a3.auto.answer in
     elim c.if-f.branch [
-      then-f w ↦ handed_as (handed_put _ _ _ _ _ g c.requires.renders_le_most_renders.1.0 c.requires.indexed.size c.put_handed-a3.ensures same w.if-f.true c.requires.renders_le_most_renders.0 w.process_renders-a3.ensures w.process_renders-a3.auto.answer) w.ws-is w.answer-is w.a3-is
-    | else-f w ↦ handed_as (handed_not _ _ _ _ _ g c.requires.renders_le_most_renders.1.0 c.requires.indexed.size c.put_handed-a3.ensures same w.if-f.false) w.ws-is w.answer-is w.a3-is
+      | then-f w ↦ handed_as (handed_put _ _ _ _ _ g c.requires.renders_le_most_renders.1.0 c.requires.indexed.size c.put_handed-a3.ensures same w.if-f.true c.requires.renders_le_most_renders.0 w.process_renders-a3.ensures w.process_renders-a3.auto.answer) w.ws-is w.answer-is w.a3-is
+      | else-f w ↦ handed_as (handed_not _ _ _ _ _ g c.requires.renders_le_most_renders.1.0 c.requires.indexed.size c.put_handed-a3.ensures same w.if-f.false) w.ws-is w.answer-is w.a3-is
     ] in
     omega (arith, c.put-a1.ensures.next, section_few c.requires.describes c.put-a1.ensures c.put_recorded-a2.ensures joined_here)
 
 pub shape_of-ws : goal.shape_of-ws
 shape_of-ws c =
     let joined_here : (HandedPut c.args.sheet.now c.args.lists.now c.args.ws.now c.args.f c.args.renders c.args.hand c.put_recorded-a2.new.answer c.put_recorded-a2.result c.if-f.ws c.if-f.answer c.if-f.a3) =
-        let k = c.requires.describes.1 in
+    let k = c.requires.describes.1 in
     let g = functions_again k.1.functions k.0.m in
     let same = c.put_handed-a3.auto.answer in
     elim c.if-f.branch [
-      then-f w ↦ handed_as (handed_put _ _ _ _ _ g c.requires.renders_le_most_renders.1.0 c.requires.indexed.size c.put_handed-a3.ensures same w.if-f.true c.requires.renders_le_most_renders.0 w.process_renders-a3.ensures w.process_renders-a3.auto.answer) w.ws-is w.answer-is w.a3-is
-    | else-f w ↦ handed_as (handed_not _ _ _ _ _ g c.requires.renders_le_most_renders.1.0 c.requires.indexed.size c.put_handed-a3.ensures same w.if-f.false) w.ws-is w.answer-is w.a3-is
+      | then-f w ↦ handed_as (handed_put _ _ _ _ _ g c.requires.renders_le_most_renders.1.0 c.requires.indexed.size c.put_handed-a3.ensures same w.if-f.true c.requires.renders_le_most_renders.0 w.process_renders-a3.ensures w.process_renders-a3.auto.answer) w.ws-is w.answer-is w.a3-is
+      | else-f w ↦ handed_as (handed_not _ _ _ _ _ g c.requires.renders_le_most_renders.1.0 c.requires.indexed.size c.put_handed-a3.ensures same w.if-f.false) w.ws-is w.answer-is w.a3-is
     ] in
     joined_here.unmoved.aside.same
 
 pub shape_of-answer : goal.shape_of-answer
 shape_of-answer c =
     let joined_here : (HandedPut c.args.sheet.now c.args.lists.now c.args.ws.now c.args.f c.args.renders c.args.hand c.put_recorded-a2.new.answer c.put_recorded-a2.result c.if-f.ws c.if-f.answer c.if-f.a3) =
-        let k = c.requires.describes.1 in
+    let k = c.requires.describes.1 in
     let g = functions_again k.1.functions k.0.m in
     let same = c.put_handed-a3.auto.answer in
     elim c.if-f.branch [
-      then-f w ↦ handed_as (handed_put _ _ _ _ _ g c.requires.renders_le_most_renders.1.0 c.requires.indexed.size c.put_handed-a3.ensures same w.if-f.true c.requires.renders_le_most_renders.0 w.process_renders-a3.ensures w.process_renders-a3.auto.answer) w.ws-is w.answer-is w.a3-is
-    | else-f w ↦ handed_as (handed_not _ _ _ _ _ g c.requires.renders_le_most_renders.1.0 c.requires.indexed.size c.put_handed-a3.ensures same w.if-f.false) w.ws-is w.answer-is w.a3-is
+      | then-f w ↦ handed_as (handed_put _ _ _ _ _ g c.requires.renders_le_most_renders.1.0 c.requires.indexed.size c.put_handed-a3.ensures same w.if-f.true c.requires.renders_le_most_renders.0 w.process_renders-a3.ensures w.process_renders-a3.auto.answer) w.ws-is w.answer-is w.a3-is
+      | else-f w ↦ handed_as (handed_not _ _ _ _ _ g c.requires.renders_le_most_renders.1.0 c.requires.indexed.size c.put_handed-a3.ensures same w.if-f.false) w.ws-is w.answer-is w.a3-is
     ] in
     c.patch.auto.answer ∙ joined_here.same ∙ c.put_recorded-a2.auto.answer ∙ c.put-a1.auto.answer
 
 pub returns : goal.returns
 returns c =
     let joined_here : (HandedPut c.args.sheet.now c.args.lists.now c.args.ws.now c.args.f c.args.renders c.args.hand c.put_recorded-a2.new.answer c.put_recorded-a2.result c.if-f.ws c.if-f.answer c.if-f.a3) =
-        let k = c.requires.describes.1 in
+    let k = c.requires.describes.1 in
     let g = functions_again k.1.functions k.0.m in
     let same = c.put_handed-a3.auto.answer in
     elim c.if-f.branch [
-      then-f w ↦ handed_as (handed_put _ _ _ _ _ g c.requires.renders_le_most_renders.1.0 c.requires.indexed.size c.put_handed-a3.ensures same w.if-f.true c.requires.renders_le_most_renders.0 w.process_renders-a3.ensures w.process_renders-a3.auto.answer) w.ws-is w.answer-is w.a3-is
-    | else-f w ↦ handed_as (handed_not _ _ _ _ _ g c.requires.renders_le_most_renders.1.0 c.requires.indexed.size c.put_handed-a3.ensures same w.if-f.false) w.ws-is w.answer-is w.a3-is
+      | then-f w ↦ handed_as (handed_put _ _ _ _ _ g c.requires.renders_le_most_renders.1.0 c.requires.indexed.size c.put_handed-a3.ensures same w.if-f.true c.requires.renders_le_most_renders.0 w.process_renders-a3.ensures w.process_renders-a3.auto.answer) w.ws-is w.answer-is w.a3-is
+      | else-f w ↦ handed_as (handed_not _ _ _ _ _ g c.requires.renders_le_most_renders.1.0 c.requires.indexed.size c.put_handed-a3.ensures same w.if-f.false) w.ws-is w.answer-is w.a3-is
     ] in
     diagnostics_put c.requires.describes c.put-a1.ensures c.put_recorded-a2.ensures joined_here c.patch.ensures

@@ -1,4 +1,3 @@
-use Prim.Native.Nat.{◌-◌}
 use native.Mathlib.Omega.{arith}
 use mathlib.Core.Path.{◌∙◌}
 use Rattle.workspace.proofs.Clearing.{clear_start, clear_turn, clear_end, cleared_rest, cleared_none}

@@ -1,4 +1,3 @@
-use Prim.Native.Nat.{◌-◌}
 use Rattle.aliasing.proofs.Pushing.{push_start, entries_turn, entries-skipped, entries_done}
 use Rattle.aliasing.proofs.pushes.push_entries.Goals as goal
 

@@ -1,4 +1,3 @@
-use Prim.Native.Nat.{◌-◌}
 use Rattle.aliasing.proofs.Pushing.{push_start, forward_turn, forward_stopped, forward_done}
 use Rattle.aliasing.proofs.pushes.push_forward.Goals as goal
 

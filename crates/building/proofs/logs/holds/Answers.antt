@@ -1,7 +1,6 @@
 use mathlib.Core.Bool.{false}
 use Rattle.building.proofs.Loops.{test_start, test_found, test_turn, test_end}
 use mathlib.Core.Path.{sym, ◌∙◌}
-use Prim.Native.Nat.{◌-◌}
 use borrow.Author.Tests.{eq-eqb, ne_eqb}
 use native.Mathlib.Omega.{arith}
 use Rattle.building.proofs.logs.holds.Goals as goal

@@ -1,6 +1,5 @@
 use Rattle.building.proofs.Loops.{leave_start, leave_keep, leave_drop, leave_end}
 use mathlib.Core.Path.{refl, sym, ◌∙◌}
-use Prim.Native.Nat.{◌-◌}
 use Rattle.building.proofs.logs.leave.Goals as goal
 
 pub others-first-requires : goal.others-first-requires

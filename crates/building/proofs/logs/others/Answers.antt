@@ -1,6 +1,5 @@
 use Rattle.building.proofs.Loops.{others_start, others_turn}
 use mathlib.Core.Path.{sym, ◌∙◌}
-use Prim.Native.Nat.{◌-◌}
 use Rattle.building.proofs.logs.others.Goals as goal
 
 pub loop-i-init : goal.loop-i-init

@@ -1,5 +1,4 @@
 use native.Mathlib.Omega.{arith}
-use Prim.Native.Nat.{◌-◌}
 use Rattle.building.proofs.Storing.{waking_start, waking_done, waking_turn, phi_known}
 use Rattle.building.proofs.phis.wake.Goals as goal
 

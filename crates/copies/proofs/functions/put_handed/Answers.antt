@@ -1,5 +1,4 @@
 use native.Mathlib.Omega.{arith}
-use Prim.Native.Nat.{◌-◌}
 use Rattle.copies.proofs.Errors.{handing_start, handing_turn, handing_end}
 use Rattle.copies.proofs.Loops.{leaves_same}
 use Rattle.copies.proofs.functions.put_handed.Goals as goal

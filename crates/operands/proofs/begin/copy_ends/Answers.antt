@@ -1,5 +1,4 @@
 use native.Mathlib.Omega.{arith}
-use Prim.Native.Nat.{◌-◌}
 use Rattle.workspace.specs.Layout.{END, SEEN, ENDS}
 use Rattle.operands.proofs.CopiedWords.{words-start, words_turn, words_end}
 use Rattle.operands.proofs.begin.copy_ends.Goals as goal

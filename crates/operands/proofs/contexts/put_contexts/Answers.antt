@@ -1,4 +1,3 @@
-use Prim.Native.Nat.{◌-◌}
 use native.Mathlib.Omega.{arith}
 use Rattle.copies.proofs.Loops.{leaves_same}
 use Rattle.operands.proofs.InnerPut.{all_start, all_turn, all_room, all_end}

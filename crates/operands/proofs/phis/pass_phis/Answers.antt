@@ -24,11 +24,11 @@ shape_of-answer c =
     let joined_here : (let l = c.list_at-list.result in
     let a = c.args in
     PlacesPut (phi_in a.section (phis_marked (ranges_of a.ws.now) a.order.0 [] (phis_in a.sheet.now l).what)) l.first (phis_in a.sheet.now l).next a.answer.now a.at c.match-section.answer c.match-section.to) =
-        let a = c.args in
+    let a = c.args in
     let l = c.list_at-list.result in
     elim c.match-section.branch [
-      in-Phis w ↦ put_as (phi_there a.section w.in-Phis.is w.put_phis-to.ensures) w.answer-is w.to-is
-    | in_default w ↦ put_as (phi_idle a.section (phis_marked (ranges_of a.ws.now) a.order.0 [] (phis_in a.sheet.now l).what) _ l _ _ (opened w.in_default.in_default-own.keys2)) w.answer-is w.to-is
+      | in-Phis w ↦ put_as (phi_there a.section w.in-Phis.is w.put_phis-to.ensures) w.answer-is w.to-is
+      | in_default w ↦ put_as (phi_idle a.section (phis_marked (ranges_of a.ws.now) a.order.0 [] (phis_in a.sheet.now l).what) _ l _ _ (opened w.in_default.in_default-own.keys2)) w.answer-is w.to-is
     ] in
     put_same joined_here
 
@@ -37,10 +37,10 @@ returns c =
     let joined_here : (let l = c.list_at-list.result in
     let a = c.args in
     PlacesPut (phi_in a.section (phis_marked (ranges_of a.ws.now) a.order.0 [] (phis_in a.sheet.now l).what)) l.first (phis_in a.sheet.now l).next a.answer.now a.at c.match-section.answer c.match-section.to) =
-        let a = c.args in
+    let a = c.args in
     let l = c.list_at-list.result in
     elim c.match-section.branch [
-      in-Phis w ↦ put_as (phi_there a.section w.in-Phis.is w.put_phis-to.ensures) w.answer-is w.to-is
-    | in_default w ↦ put_as (phi_idle a.section (phis_marked (ranges_of a.ws.now) a.order.0 [] (phis_in a.sheet.now l).what) _ l _ _ (opened w.in_default.in_default-own.keys2)) w.answer-is w.to-is
+      | in-Phis w ↦ put_as (phi_there a.section w.in-Phis.is w.put_phis-to.ensures) w.answer-is w.to-is
+      | in_default w ↦ put_as (phi_idle a.section (phis_marked (ranges_of a.ws.now) a.order.0 [] (phis_in a.sheet.now l).what) _ l _ _ (opened w.in_default.in_default-own.keys2)) w.answer-is w.to-is
     ] in
     λ lists. phis_passed c.list_at-list.ensures _ _ _ _ joined_here c.start_phis-next.ensures

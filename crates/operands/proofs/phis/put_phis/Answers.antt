@@ -1,4 +1,3 @@
-use Prim.Native.Nat.{◌-◌}
 use native.Mathlib.Omega.{arith}
 use Rattle.operands.proofs.PhiNames.{phi_inside}
 use Rattle.operands.proofs.MarkedPhis.{marking_start, marking_inside, done_inside, marking_below, kept_turn, marked_turn, marking_as, marking_same, marking_end}
@@ -47,8 +46,8 @@ loop-done-preserved c =
     let next = c.past_phi-next.ensures in
     let named = c.named.ensures in
     elim c.if-named.branch [
-      then-named w ↦ marking_as (kept_turn c.loop-done.invariant c.loop-done-test.true phi next named w.if-named.true w.put_phi-to.ensures) w.answer-is w.to-is
-    | else-named w ↦ marking_as (marked_turn c.loop-done.invariant c.loop-done-test.true phi next named w.if-named.false w.capture_or_read-effect.result w.capture_or_read-effect.ensures w.put_phi-to-else-named.ensures) w.answer-is w.to-is
+      | then-named w ↦ marking_as (kept_turn c.loop-done.invariant c.loop-done-test.true phi next named w.if-named.true w.put_phi-to.ensures) w.answer-is w.to-is
+      | else-named w ↦ marking_as (marked_turn c.loop-done.invariant c.loop-done-test.true phi next named w.if-named.false w.capture_or_read-effect.result w.capture_or_read-effect.ensures w.put_phi-to-else-named.ensures) w.answer-is w.to-is
     ]
 
 pub shape_of-answer : goal.shape_of-answer

@@ -1,7 +1,6 @@
 use native.Mathlib.Omega.{arith}
 use mathlib.Core.Path.{refl}
 use Rattle.model.specs.Limits.{place_width}
-use Rattle.model.specs.Operands.{name_lvalue}
 use Rattle.hir.specs.Words.{place_at}
 use Rattle.hir.proofs.Widths.{wide_rises}
 use Rattle.operands.proofs.RangeLoops.{ranging_start, ranging_inside, ranging_below, ranging_turn, ranging_end}

@@ -1,5 +1,4 @@
 use mathlib.Core.Path.{◌∙◌}
-use Prim.Native.Nat.{◌-◌}
 use Rattle.copies.proofs.Loops.{leaves_same}
 use Rattle.operands.proofs.RangesPut.{ranges_start, ranges_turn, ranges_end}
 use Rattle.operands.proofs.ranges.put_ranges.Goals as goal

@@ -19,10 +19,10 @@ shape_of-answer c =
     let joined_here : (let a = c.args in
     let t = terminal_from a.sheet.now a.from in
     PlacesPut (terminal_in a.section (terminal_places a.expression t.what)) a.from t.next a.answer.now a.at c.match-section.answer c.match-section.to) =
-        let a = c.args in
+    let a = c.args in
     elim c.match-section.branch [
-      in-Terminals w ↦ put_as (terminal_there a.section w.in-Terminals.is w.put_terminal-to.ensures) w.answer-is w.to-is
-    | in_default w ↦ put_as (terminal_idle a.section a.expression _ _ _ _ (opened w.in_default.in_default-own.keys2)) w.answer-is w.to-is
+      | in-Terminals w ↦ put_as (terminal_there a.section w.in-Terminals.is w.put_terminal-to.ensures) w.answer-is w.to-is
+      | in_default w ↦ put_as (terminal_idle a.section a.expression _ _ _ _ (opened w.in_default.in_default-own.keys2)) w.answer-is w.to-is
     ] in
     put_same joined_here
 
@@ -31,9 +31,9 @@ returns c =
     let joined_here : (let a = c.args in
     let t = terminal_from a.sheet.now a.from in
     PlacesPut (terminal_in a.section (terminal_places a.expression t.what)) a.from t.next a.answer.now a.at c.match-section.answer c.match-section.to) =
-        let a = c.args in
+    let a = c.args in
     elim c.match-section.branch [
-      in-Terminals w ↦ put_as (terminal_there a.section w.in-Terminals.is w.put_terminal-to.ensures) w.answer-is w.to-is
-    | in_default w ↦ put_as (terminal_idle a.section a.expression _ _ _ _ (opened w.in_default.in_default-own.keys2)) w.answer-is w.to-is
+      | in-Terminals w ↦ put_as (terminal_there a.section w.in-Terminals.is w.put_terminal-to.ensures) w.answer-is w.to-is
+      | in_default w ↦ put_as (terminal_idle a.section a.expression _ _ _ _ (opened w.in_default.in_default-own.keys2)) w.answer-is w.to-is
     ] in
     λ lists. terminal_passed _ _ _ joined_here c.past_terminal-next.ensures

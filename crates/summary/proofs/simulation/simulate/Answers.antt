@@ -1,6 +1,5 @@
 use native.Mathlib.Omega.{arith}
 use mathlib.Core.Path.{◌∙◌}
-use Prim.Native.Nat.{◌-◌}
 use Rattle.workspace.proofs.Places.{is_below}
 use Rattle.summary.proofs.Turns.{cleared_start, cleared_marked, cleared_end, long, stored_size, turned_turn, turned_end}
 use Rattle.summary.proofs.simulation.simulate.Goals as goal

@@ -2,7 +2,6 @@ use Rattle.summary.proofs.Marking.{mark-below}
 use Rattle.workspace.proofs.Places.{is_below}
 use Rattle.summary.proofs.Marking.{marking_start, marking_turn, marking_end}
 use native.Mathlib.Omega.{arith}
-use Prim.Native.Nat.{◌-◌}
 use Rattle.summary.proofs.tracked.mark_tracked.Goals as goal
 
 pub loop-i-init : goal.loop-i-init

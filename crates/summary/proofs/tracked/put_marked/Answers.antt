@@ -2,7 +2,6 @@ use Rattle.workspace.proofs.Places.{is_below}
 use Rattle.summary.proofs.Marking.{putting_start, putting_turn, putting_end}
 use native.Mathlib.Omega.{arith}
 use mathlib.Core.Path.{refl, ◌∙◌}
-use Prim.Native.Nat.{◌-◌}
 use Rattle.summary.proofs.tracked.put_marked.Goals as goal
 
 pub loop-i-init : goal.loop-i-init
@@ -12,13 +11,12 @@ pub marked-requires : goal.marked-requires
 marked-requires c = (is_below _ _ c.tracked-p.ensures, omega arith)
 
 pub loop-i-preserved : goal.loop-i-preserved
-loop-i-preserved c =
-    (
-      putting_turn _ _ _ _ c.loop-i.invariant.0 c.loop-i-test.true c.tracked-p.ensures c.marked.ensures c.put_place-to.ensures,
-      omega (arith, c.put_place-to.ensures.next),
-      c.put_place-to.auto.answer
-          ∙ c.loop-i.invariant.2,
-    )
+loop-i-preserved c = (
+  putting_turn _ _ _ _ c.loop-i.invariant.0 c.loop-i-test.true c.tracked-p.ensures c.marked.ensures c.put_place-to.ensures,
+  omega (arith, c.put_place-to.ensures.next),
+  c.put_place-to.auto.answer
+      ∙ c.loop-i.invariant.2,
+)
 
 pub shape_of-answer : goal.shape_of-answer
 shape_of-answer c =
