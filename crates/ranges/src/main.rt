@@ -21,12 +21,7 @@ fn least(a: usize, b: usize) -> usize
 }
 
 // So many words from `at` on, or as many as there are; where they end.
-fn print_words<W: Write>(
-    out: &mut W,
-    words: &[u32],
-    at: usize,
-    count: usize,
-) -> io::Result<usize>
+fn print_words<W: Write>(out: &mut W, words: &[u32], at: usize, count: usize) -> io::Result<usize>
     requires { at ≤ length words.now }
     ensures { IfOk result (λ end. end ≤ length words.now) }
 {
@@ -49,12 +44,7 @@ fn words_of(count: u32, size: u32) -> usize {
 }
 
 // The count of records at a position and their words; where they end.
-fn print_records<W: Write>(
-    out: &mut W,
-    answer: &[u32],
-    at: usize,
-    size: u32,
-) -> io::Result<usize>
+fn print_records<W: Write>(out: &mut W, answer: &[u32], at: usize, size: u32) -> io::Result<usize>
     requires { at ≤ length answer.now }
     ensures { IfOk result (λ end. end ≤ length answer.now) }
 {
