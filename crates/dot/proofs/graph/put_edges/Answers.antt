@@ -1,4 +1,3 @@
-use Prim.Native.Nat.{◌-◌}
 use Rattle.dot.proofs.Listing.{listing_same, say_start, say_room, say_turn, say_end}
 use Rattle.dot.proofs.Nodes.{edges_all, edges_next, edges_none}
 use Rattle.dot.proofs.graph.put_edges.Goals as goal

@@ -1,4 +1,3 @@
-use Prim.Native.Nat.{◌-◌}
 use Rattle.dot.proofs.Listing.{listing_same, row-start, row_room, row_turn, row_end}
 use Rattle.dot.proofs.graph.put_row.Goals as goal
 

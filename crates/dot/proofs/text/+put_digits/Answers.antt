@@ -1,5 +1,5 @@
 use native.Mathlib.Omega.{arith}
-use mathlib.Core.Path.{sym, ◌∙◌}
+use mathlib.Core.Path.{sym}
 use Rattle.model.proofs.Digits.{digits_few, digits_more}
 use Rattle.writing.proofs.Writing.{wrote_as, wrote_then}
 use Rattle.dot.proofs.Lengths.{tenth_short}

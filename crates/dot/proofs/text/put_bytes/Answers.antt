@@ -1,4 +1,3 @@
-use Prim.Native.Nat.{◌-◌}
 use Rattle.copies.proofs.Loops.{leaves_all, leaves_same}
 use Rattle.dot.proofs.Listing.{bytes_turn, bytes_room, bytes_end}
 use Rattle.dot.proofs.text.put_bytes.Goals as goal
