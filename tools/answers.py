@@ -68,44 +68,39 @@ report=[]
 ROOT=os.path.dirname(os.path.dirname(crate))
 CONTRACT={}
 SIG={}
-def contracts():
+def sources():
+    """Each file of src/ in every crate: how a path of its functions begins, and its text."""
     for cr in os.listdir(ROOT+'/crates'):
         sd=f"{ROOT}/crates/{cr}/src"
         for d,_,fs in os.walk(sd):
             for f in fs:
                 if not f.endswith('.rt'): continue
                 mod=os.path.relpath(os.path.join(d,f),sd)[:-3].replace('/','::')
-                mod='' if mod in('lib','main') else mod+'::'
-                imp=''; fn=None
-                for l in open(os.path.join(d,f)):
-                    m=re.match(r"^impl\s+(\w+)",l)
-                    if m: imp=m.group(1)+'::'
-                    if l.startswith('}'): imp=''
-                    m=re.match(r'^\s*(?:pub )?(?:extern "C" )?fn (\w+)',l)
-                    if m:
-                        fn=f"{cr}::{mod}{imp}{m.group(1)}"; CONTRACT[fn]=([],[])
-                    m=re.match(r"^\s*(requires|ensures)\*?\s*(\w+)?\s*\{",l)
-                    if m and fn: CONTRACT[fn][0 if m.group(1)=='requires' else 1].append(m.group(2))
-contracts()
-def sigs():
-    for cr in os.listdir(ROOT+'/crates'):
-        sd=f"{ROOT}/crates/{cr}/src"
-        for d,_,fs in os.walk(sd):
-            for f in fs:
-                if not f.endswith('.rt'): continue
-                mod=os.path.relpath(os.path.join(d,f),sd)[:-3].replace('/','::')
-                mod='' if mod in('lib','main') else mod+'::'
-                t=open(os.path.join(d,f)).read()
-                imps=[(m.start(),m.group(1)) for m in re.finditer(r"^impl\s+(\w+)",t,re.M)]
-                ends=[m.start() for m in re.finditer(r"^}",t,re.M)]
-                for m in re.finditer(r'^\s*(?:pub )?(?:extern "C" )?fn (\w+)\s*\(([^)]*)\)',t,re.M):
-                    imp=''
-                    for st,n in imps:
-                        e=[x for x in ends if x>st]
-                        if st<m.start() and e and m.start()<e[0]: imp=n+'::'
-                    ps=[p.strip() for p in m.group(2).split(',') if p.strip()]
-                    SIG[f"{cr}::{mod}{imp}{m.group(1)}"]=([p.split(':')[0].strip() for p in ps if '&mut' in p],[p.split(':')[0].replace('mut ','').strip() for p in ps],[p.split(':')[0].strip() for p in ps if '&' in p])
-sigs()
+                yield f"{cr}::"+('' if mod in('lib','main') else mod+'::'),open(os.path.join(d,f)).read()
+FN=r'^\s*(?:pub )?(?:extern "C" )?fn (\w+)'
+def names_of(params,which):
+    return [p.split(':')[0].replace('mut ','').strip() for p in params if which in p]
+# the names of each function's requires and ensures clauses; its &mut parameters, all parameters, and its references
+for begin,text in sources():
+    imp=''; fn=None
+    for l in text.split('\n'):
+        m=re.match(r"^impl\s+(\w+)",l)
+        if m: imp=m.group(1)+'::'
+        if l.startswith('}'): imp=''
+        m=re.match(FN,l)
+        if m:
+            fn=begin+imp+m.group(1); CONTRACT[fn]=([],[])
+        m=re.match(r"^\s*(requires|ensures)\*?\s*(\w+)?\s*\{",l)
+        if m and fn: CONTRACT[fn][0 if m.group(1)=='requires' else 1].append(m.group(2))
+    imps=[(m.start(),m.group(1)) for m in re.finditer(r"^impl\s+(\w+)",text,re.M)]
+    ends=[m.start() for m in re.finditer(r"^}",text,re.M)]
+    for m in re.finditer(FN+r'\s*\(([^)]*)\)',text,re.M):
+        imp=''
+        for st,n in imps:
+            e=[x for x in ends if x>st]
+            if st<m.start() and e and m.start()<e[0]: imp=n+'::'
+        ps=[p.strip() for p in m.group(2).split(',') if p.strip()]
+        SIG[begin+imp+m.group(1)]=(names_of(ps,'&mut'),names_of(ps,''),names_of(ps,'&'))
 def mutpath(fn,rest):
     d=1
     while d<len(rest) and rest[d] in('0','1'): d+=1
