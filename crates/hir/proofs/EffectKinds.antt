@@ -1,5 +1,9 @@
 -- The code's effect kinds by their numbers: a row of the table is known by its number.
 use mathlib.Core.Path.{◌≡◌, refl}
+use lib.Dec.{eqb}
+use denote.Enum.Bare.{sameb}
+use denote.Enum.Declared.{tag_of}
+use Rattle.hir.specs.contracts.EffectKind.{the_type}
 use Rattle.model.specs.Effects.{kind_of, row_of}
 use Rattle.hir.specs.Numbers.{kind_says, kind_number}
 use Rattle.hir.specs.declared.EffectKind.{EffectKind as Kind}
@@ -48,3 +52,27 @@ kind_of_number KindMutateFrozen = refl
 kind_of_number KindMutateGlobal = refl
 kind_of_number KindImpure = refl
 kind_of_number KindRender = refl
+
+-- the code's equality is that of the numbers
+tag_number : (k : Kind) → tag_of the_type k ≡ kind_number k
+tag_number KindFreeze = refl
+tag_number KindMutate = refl
+tag_number KindMutateConditionally = refl
+tag_number KindMutateTransitive = refl
+tag_number KindMutateTransitiveConditionally = refl
+tag_number KindCapture = refl
+tag_number KindAlias = refl
+tag_number KindMaybeAlias = refl
+tag_number KindAssign = refl
+tag_number KindCreate = refl
+tag_number KindCreateFrom = refl
+tag_number KindImmutableCapture = refl
+tag_number KindApply = refl
+tag_number KindCreateFunction = refl
+tag_number KindMutateFrozen = refl
+tag_number KindMutateGlobal = refl
+tag_number KindImpure = refl
+tag_number KindRender = refl
+
+pub kinds_equal : (a b : Kind) → sameb the_type a b ≡ eqb (kind_number a) (kind_number b)
+kinds_equal a b = rw (tag_number a, tag_number b)

@@ -3,3 +3,4 @@ pub mod Says
 pub mod Words
 pub mod Parts
 pub mod Table
+pub mod Refusals

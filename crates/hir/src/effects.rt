@@ -176,7 +176,7 @@ const ROLES: [Role; 18] = [
 pub fn role_of(kind: EffectKind) -> Role
     ensures { role_says result ≡ (row_of (kind_says kind)).role }
 {
-    let k = kind.number() as usize;
+    let k = u32::from(kind) as usize;
     ROLES[k]
 }
 
@@ -199,7 +199,7 @@ fn extra(c: Cursor, s: &[u32], m: u32, row: Row) -> WordStep
 {
     let kind = row.kind;
     let most = row.extra;
-    if kind.is(EffectKind::CreateFunction) {
+    if kind == EffectKind::CreateFunction {
         c.below(s, m)
     } else {
         c.at_most(s, most)

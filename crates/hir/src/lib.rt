@@ -9,22 +9,23 @@ pub mod effects;
 pub mod limits;
 pub mod parts;
 pub mod places;
+pub mod refusal;
 pub mod words;
 
 // An identifier's number, below the count of identifiers.
-#[derive(Clone, Copy)]
+#[derive(Clone, Copy, Debug, PartialEq, Eq)]
 pub struct IdentifierId(pub u32);
 
 // A block's number.
-#[derive(Clone, Copy)]
+#[derive(Clone, Copy, Debug, PartialEq, Eq)]
 pub struct BlockId(pub u32);
 
 // An inner function's number, below the count of inner functions.
-#[derive(Clone, Copy)]
+#[derive(Clone, Copy, Debug, PartialEq, Eq)]
 pub struct FunctionId(pub u32);
 
 // An instruction's order, and each end of a range.
-#[derive(Clone, Copy)]
+#[derive(Clone, Copy, Debug, PartialEq, Eq, PartialOrd, Ord)]
 pub struct EvaluationOrder(pub u32);
 
 impl EvaluationOrder {
@@ -34,13 +35,12 @@ impl EvaluationOrder {
     pub fn is_unset(self) -> bool
         ensures { result ≡ eqb self.0 0 }
     {
-        let unset = EvaluationOrder::UNSET;
-        self.0 == unset.0
+        self == EvaluationOrder::UNSET
     }
 }
 
 // How a place uses its identifier.
-#[derive(Clone, Copy)]
+#[derive(Clone, Copy, Debug, PartialEq, Eq)]
 pub enum Effect {
     Unknown,
     Freeze,
@@ -52,26 +52,17 @@ pub enum Effect {
     Store,
 }
 
-impl Effect {
-    // The position in the original's enum.
-    pub fn number(self) -> u32
-        ensures { result ≡ effect_number self }
-    {
-        match self {
-            Effect::Unknown => 0,
-            Effect::Freeze => 1,
-            Effect::Read => 2,
-            Effect::Capture => 3,
-            Effect::ConditionallyMutateIterator => 4,
-            Effect::ConditionallyMutate => 5,
-            Effect::Mutate => 6,
-            Effect::Store => 7,
-        }
+// The position in the original's enum.
+impl From<Effect> for u32 {
+    ghost from_gives = { λ effect n. n ≡ effect_number effect };
+
+    fn from(effect: Effect) -> u32 {
+        effect as u32
     }
 }
 
 // A use of an identifier. The span is 0 for none.
-#[derive(Clone, Copy)]
+#[derive(Clone, Copy, Debug, PartialEq, Eq)]
 pub struct Place {
     pub identifier: IdentifierId,
     pub effect: Effect,
@@ -80,7 +71,7 @@ pub struct Place {
 }
 
 // The cases of the original's `AliasingEffect`.
-#[derive(Clone, Copy)]
+#[derive(Clone, Copy, Debug, PartialEq, Eq)]
 pub enum EffectKind {
     Freeze,
     Mutate,
@@ -102,43 +93,17 @@ pub enum EffectKind {
     Render,
 }
 
-impl EffectKind {
-    // The position in the original's enum.
-    pub fn number(self) -> u32
-        ensures { result ≡ kind_number self }
-    {
-        match self {
-            EffectKind::Freeze => 0,
-            EffectKind::Mutate => 1,
-            EffectKind::MutateConditionally => 2,
-            EffectKind::MutateTransitive => 3,
-            EffectKind::MutateTransitiveConditionally => 4,
-            EffectKind::Capture => 5,
-            EffectKind::Alias => 6,
-            EffectKind::MaybeAlias => 7,
-            EffectKind::Assign => 8,
-            EffectKind::Create => 9,
-            EffectKind::CreateFrom => 10,
-            EffectKind::ImmutableCapture => 11,
-            EffectKind::Apply => 12,
-            EffectKind::CreateFunction => 13,
-            EffectKind::MutateFrozen => 14,
-            EffectKind::MutateGlobal => 15,
-            EffectKind::Impure => 16,
-            EffectKind::Render => 17,
-        }
-    }
+// The position in the original's enum.
+impl From<EffectKind> for u32 {
+    ghost from_gives = { λ kind n. n ≡ kind_number kind };
 
-    // Whether both are one kind.
-    pub fn is(self, other: EffectKind) -> bool
-        ensures { result ≡ eqb (kind_number self) (kind_number other) }
-    {
-        self.number() == other.number()
+    fn from(kind: EffectKind) -> u32 {
+        kind as u32
     }
 }
 
 // An effect: "from" is the first place, "into" the second; one that the kind does not use is all 0.
-#[derive(Clone, Copy)]
+#[derive(Clone, Copy, Debug, PartialEq, Eq)]
 pub struct AliasingEffect {
     pub kind: EffectKind,
     pub first: Place,
@@ -147,14 +112,14 @@ pub struct AliasingEffect {
 }
 
 // What is recorded for an error (the original's `AliasingDiagnostic`): what it says, and where it was raised.
-#[derive(Clone, Copy)]
+#[derive(Clone, Copy, Debug, PartialEq, Eq)]
 pub struct Diagnostic {
     pub identity: u32,
     pub instance: u32,
 }
 
 // What an instruction computes, as far as the pass over operands asks: FunctionExpression and ObjectMethod are `Function`.
-#[derive(Clone, Copy)]
+#[derive(Clone, Copy, Debug, PartialEq, Eq)]
 pub enum InstructionValue {
     Plain,
     Function(FunctionId),
@@ -162,27 +127,24 @@ pub enum InstructionValue {
 }
 
 // The terminals that matter here; every other one is `Other`.
-#[derive(Clone, Copy)]
+#[derive(Clone, Copy, Debug, PartialEq, Eq)]
 pub enum TerminalKind {
     Other,
     Return,
     MaybeThrow,
 }
 
-impl TerminalKind {
-    pub fn number(self) -> u32
-        ensures { result ≡ terminal_number self }
-    {
-        match self {
-            TerminalKind::Other => 0,
-            TerminalKind::Return => 1,
-            TerminalKind::MaybeThrow => 2,
-        }
+// The position in the original's enum.
+impl From<TerminalKind> for u32 {
+    ghost from_gives = { λ kind n. n ≡ terminal_number kind };
+
+    fn from(kind: TerminalKind) -> u32 {
+        kind as u32
     }
 }
 
 // What kind of value Create makes.
-#[derive(Clone, Copy)]
+#[derive(Clone, Copy, Debug, PartialEq, Eq)]
 pub enum ValueKind {
     Mutable,
     Frozen,
@@ -192,24 +154,17 @@ pub enum ValueKind {
     Context,
 }
 
-impl ValueKind {
-    // The position in the original's enum.
-    pub fn number(self) -> u32
-        ensures { result ≡ value_number self }
-    {
-        match self {
-            ValueKind::Mutable => 0,
-            ValueKind::Frozen => 1,
-            ValueKind::Primitive => 2,
-            ValueKind::MaybeFrozen => 3,
-            ValueKind::Global => 4,
-            ValueKind::Context => 5,
-        }
+// The position in the original's enum.
+impl From<ValueKind> for u32 {
+    ghost from_gives = { λ kind n. n ≡ value_number kind };
+
+    fn from(kind: ValueKind) -> u32 {
+        kind as u32
     }
 }
 
 // Why a value is what it is.
-#[derive(Clone, Copy)]
+#[derive(Clone, Copy, Debug, PartialEq, Eq)]
 pub enum ValueReason {
     KnownReturnSignature,
     State,
@@ -225,30 +180,17 @@ pub enum ValueReason {
     Other,
 }
 
-impl ValueReason {
-    // The position in the original's enum.
-    pub fn number(self) -> u32
-        ensures { result ≡ reason_number self }
-    {
-        match self {
-            ValueReason::KnownReturnSignature => 0,
-            ValueReason::State => 1,
-            ValueReason::ReducerState => 2,
-            ValueReason::Context => 3,
-            ValueReason::Effect => 4,
-            ValueReason::HookCaptured => 5,
-            ValueReason::HookReturn => 6,
-            ValueReason::Global => 7,
-            ValueReason::JsxCaptured => 8,
-            ValueReason::StoreLocal => 9,
-            ValueReason::ReactiveFunctionArgument => 10,
-            ValueReason::Other => 11,
-        }
+// The position in the original's enum.
+impl From<ValueReason> for u32 {
+    ghost from_gives = { λ reason n. n ≡ reason_number reason };
+
+    fn from(reason: ValueReason) -> u32 {
+        reason as u32
     }
 }
 
 // What the sheet knows of an identifier's type.
-#[derive(Clone, Copy)]
+#[derive(Clone, Copy, Debug, PartialEq, Eq)]
 pub enum IdentifierType {
     Other,
     Primitive,
@@ -256,95 +198,95 @@ pub enum IdentifierType {
 }
 
 // From the start, up to and without the end.
-#[derive(Clone, Copy)]
+#[derive(Clone, Copy, Debug, PartialEq, Eq)]
 pub struct MutableRange {
     pub start: EvaluationOrder,
     pub end: EvaluationOrder,
 }
 
-#[derive(Clone, Copy)]
+#[derive(Clone, Copy, Debug, PartialEq, Eq)]
 pub struct Identifier {
     pub mutable_range: MutableRange,
     pub kind: IdentifierType,
 }
 
-#[derive(Clone, Copy)]
+#[derive(Clone, Copy, Debug, PartialEq, Eq)]
 pub struct Flags {
     pub function_expression: bool,
     pub validations: bool,
 }
 
 // The reading position: the words read so far.
-#[derive(Clone, Copy)]
+#[derive(Clone, Copy, Debug, PartialEq, Eq)]
 pub struct Cursor {
     pub at: usize,
 }
 
 // A word and the position after it, or a refusal.
-#[derive(Clone, Copy)]
+#[derive(Clone, Copy, Debug, PartialEq, Eq)]
 pub enum WordStep {
     Got(u32, Cursor),
     Refused(u32),
 }
 
 // A place and the position after it, or a refusal.
-#[derive(Clone, Copy)]
+#[derive(Clone, Copy, Debug, PartialEq, Eq)]
 pub enum PlaceStep {
     Got(Place, Cursor),
     Refused(u32),
 }
 
 // An effect and the position after it, or a refusal.
-#[derive(Clone, Copy)]
+#[derive(Clone, Copy, Debug, PartialEq, Eq)]
 pub enum EffectStep {
     Got(AliasingEffect, Cursor),
     Refused(u32),
 }
 
 // An order and the position after it, or a refusal.
-#[derive(Clone, Copy)]
+#[derive(Clone, Copy, Debug, PartialEq, Eq)]
 pub enum OrderStep {
     Got(EvaluationOrder, Cursor),
     Refused(u32),
 }
 
 // A block's number and the position after it, or a refusal.
-#[derive(Clone, Copy)]
+#[derive(Clone, Copy, Debug, PartialEq, Eq)]
 pub enum BlockStep {
     Got(BlockId, Cursor),
     Refused(u32),
 }
 
 // An instruction's value and the position after it, or a refusal.
-#[derive(Clone, Copy)]
+#[derive(Clone, Copy, Debug, PartialEq, Eq)]
 pub enum ValueStep {
     Got(InstructionValue, Cursor),
     Refused(u32),
 }
 
 // A terminal's kind and the position after it, or a refusal.
-#[derive(Clone, Copy)]
+#[derive(Clone, Copy, Debug, PartialEq, Eq)]
 pub enum KindStep {
     Got(TerminalKind, Cursor),
     Refused(u32),
 }
 
 // The flags and the position after them, or a refusal.
-#[derive(Clone, Copy)]
+#[derive(Clone, Copy, Debug, PartialEq, Eq)]
 pub enum FlagsStep {
     Got(Flags, Cursor),
     Refused(u32),
 }
 
 // An identifier and the position after it, or a refusal.
-#[derive(Clone, Copy)]
+#[derive(Clone, Copy, Debug, PartialEq, Eq)]
 pub enum IdentifierStep {
     Got(Identifier, Cursor),
     Refused(u32),
 }
 
 // A diagnostic and the position after it, or a refusal.
-#[derive(Clone, Copy)]
+#[derive(Clone, Copy, Debug, PartialEq, Eq)]
 pub enum DiagnosticStep {
     Got(Diagnostic, Cursor),
     Refused(u32),

@@ -62,7 +62,7 @@ pub fn effect_in(word: u32) -> Effect
 pub fn traits_word(effect: Effect, reactive: bool) -> u32
     ensures { result ≡ traits_word (effect_number effect) reactive }
 {
-    let position = effect.number();
+    let position = u32::from(effect);
     if reactive {
         return position + REACTIVE;
     }

@@ -1,60 +1,43 @@
 // The answer's words, or a text's bytes, written one after another into a lent buffer. What has no room is counted all the same, so that the length is known at any length.
 #![tactic(auto)]
 
-ghost use Rattle.std.specs.Prelude.{◌≡◌, [], ◌∷◌, ◌+◌, ◌<◌, set};
-ghost use Rattle.workspace.specs.Sort.{cleared_from};
-ghost use Rattle.writing.specs.Wrote.{Wrote, farthest};
+ghost use Rattle.std.specs.Prelude.{◌≡◌, [], ◌∷◌, ◌<◌};
+ghost use Rattle.writing.specs.Wrote.{farthest, Writes, Patches};
 
-// What is said of a call that fills a buffer: the number of a refusal, or the length of what was written.
-#[derive(Clone, Copy)]
-pub enum Outcome {
-    Refused(u32),
-    Accepted(usize),
+// A lent buffer, and where the next item goes.
+#[derive(Drop)]
+pub struct Writer<'a, T> {
+    pub buffer: &'a mut [T],
+    pub at: usize,
 }
 
-// The next word of the answer.
-pub fn put(answer: &mut [u32], at: usize, word: u32) -> usize
-    requires { at < farthest }
-    ensures { Wrote (word ∷ []) answer.old at answer.new result }
-{
-    if at < answer.len() {
-        answer[at] = word;
+impl<'a, T: Copy> Writer<'a, T> {
+    // At the beginning of a buffer.
+    pub fn new(buffer: &'a mut [T]) -> Self
+        ensures at_start { result.at ≡ 0 }
+        ensures items { result.buffer.now ≡ buffer.old }
+        ensures same { result.buffer.ghost_name ≡ buffer.entry.ghost_name }
+    {
+        Writer { buffer, at: 0 }
     }
-    at + 1
-}
 
-// A word that was written before, once it is known.
-pub fn patch(answer: &mut [u32], at: usize, word: u32)
-    ensures { answer.new ≡ set answer.old at word }
-{
-    if at < answer.len() {
-        answer[at] = word;
+    // The next item.
+    pub fn put(&mut self, item: T)
+        requires { self.old.at < farthest }
+        ensures { Writes (item ∷ []) self.old self.new }
+    {
+        if self.at < self.buffer.len() {
+            self.buffer[self.at] = item;
+        }
+        self.at += 1;
     }
-}
 
-// The next byte of a text.
-pub fn put_byte(text: &mut [u8], at: usize, byte: u8) -> usize
-    requires { at < farthest }
-    ensures { Wrote (byte ∷ []) text.old at text.new result }
-{
-    if at < text.len() {
-        text[at] = byte;
-    }
-    at + 1
-}
-
-// Clears the bytes from `at` on, to the end.
-pub fn clear_bytes_from(text: &mut [u8], at: usize)
-    ensures { text.new ≡ cleared_from at text.old }
-{
-    let bytes = text.len();
-    if bytes <= at {
-        return;
-    }
-    let n = bytes - at;
-    let mut i = 0;
-    while i < n {
-        text[at + i] = 0;
-        i += 1;
+    // An item that was written before, once it is known.
+    pub fn patch(&mut self, at: usize, item: T)
+        ensures { Patches at item self.old self.new }
+    {
+        if at < self.buffer.len() {
+            self.buffer[at] = item;
+        }
     }
 }
