@@ -1,6 +1,5 @@
 -- Words written into the answer buffer, or bytes into a text, from a position on, as far as there is room.
 use Rattle.std.specs.Prelude.{ℕ, ◌+◌, ◌≡◌, List, length, set}
-use Rattle.std.specs.Borrow.{MutBor}
 use Rattle.std.proofs.lemmas.List.Edits.{sets}
 use Rattle.writing.specs.declared.Writer.{Writer}
 
