@@ -4,3 +4,4 @@ pub mod Words
 pub mod Parts
 pub mod Table
 pub mod Refusals
+pub mod Mutations

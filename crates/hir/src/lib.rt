@@ -118,6 +118,19 @@ pub struct Diagnostic {
     pub instance: u32,
 }
 
+// How sure a mutation is.
+#[derive(Clone, Copy, Debug, PartialEq, Eq, PartialOrd, Ord)]
+pub enum MutationKind {
+    Conditional,
+    Definite,
+}
+
+// Why a value is mutated, where it is known.
+#[derive(Clone, Copy, Debug, PartialEq, Eq)]
+pub enum MutationReason {
+    AssignCurrentProperty,
+}
+
 // What an instruction computes, as far as the pass over operands asks: FunctionExpression and ObjectMethod are `Function`.
 #[derive(Clone, Copy, Debug, PartialEq, Eq)]
 pub enum InstructionValue {
