@@ -15,8 +15,9 @@ use Rattle.hir.specs.Parts.{InstructionAt}
 use Rattle.hir.specs.declared.at.Instruction.{Instruction}
 use Rattle.hir.proofs.Widths.{Rises, listed_rises, InstructionParts, instruction_parts, instruction_rises, terminal_rises, block_rises}
 use Rattle.hir.proofs.Absent.{present_list, effects_are_lem}
-use Rattle.writing.specs.Wrote.{Wrote}
-use Rattle.writing.proofs.Writing.{wrote_none, wrote_as}
+use Rattle.writing.specs.declared.Writer.{Writer}
+use Rattle.writing.specs.Wrote.{Writes}
+use Rattle.writing.proofs.Writing.{writes_none, writes_as}
 use Rattle.copies.specs.Copies.{Copies}
 use Rattle.copies.specs.Words.{takes, taken_words, copy_words, instruction_words, block_words}
 use Rattle.copies.specs.declared.effect_lists.Section.{Section}
@@ -29,17 +30,17 @@ module _ (s : Section) (sheet : List ℕ) (c : Position) {e : Effect} (is : e �
   words_are = ap (λ (x : Bool). list_if x (taken_words s e)) (taken ∙ ap (takes s) role) ∙ ap (copy_words s) is
 
   -- the section, which is t, takes it
-  pub effect-taken : not b ≡ false → (t : Section) → s ≡ t → {a : List ℕ} {at : ℕ} {a' : List ℕ} {at' : ℕ} → Wrote (taken_words t e) a at a' at' → length (taken_words t e) ≤ effect_width
-      → Copies (wide effect_width effect_at) (copy_words s) sheet c a at a' at' (c + effect_width)
-  effect-taken q t p w few = record { wrote = wrote_as w (ap (λ (x : Section). taken_words x e) (sym p) ∙ sym (all b q) ∙ words_are); after = refl; few = omega (arith, w.next, few) }
+  pub effect-taken : not b ≡ false → (t : Section) → s ≡ t → {o o' : Writer ℕ} → Writes (taken_words t e) o o' → length (taken_words t e) ≤ effect_width
+      → Copies (wide effect_width effect_at) (copy_words s) sheet c o o' (c + effect_width)
+  effect-taken q t p w few = record { wrote = writes_as w (ap (λ (x : Section). taken_words x e) (sym p) ∙ sym (all b q) ∙ words_are); after = refl; few = omega (arith, w.wrote.next, few) }
     where
       all : (x : Bool) → not x ≡ false → list_if x (taken_words s e) ≡ taken_words s e
       all true h = refl
       all false h = absurd (true≢false h)
 
   -- or leaves it
-  pub effect-left : not b ≡ true → (a : List ℕ) (at : ℕ) → Copies (wide effect_width effect_at) (copy_words s) sheet c a at a at (c + effect_width)
-  effect-left q a at = record { wrote = wrote_as (wrote_none a at) (sym (none b q) ∙ words_are); after = refl; few = omega arith }
+  pub effect-left : not b ≡ true → (o : Writer ℕ) → Copies (wide effect_width effect_at) (copy_words s) sheet c o o (c + effect_width)
+  effect-left q o = record { wrote = writes_as (writes_none o) (sym (none b q) ∙ words_are); after = refl; few = omega arith }
     where
       none : (x : Bool) → not x ≡ true → list_if x (taken_words s e) ≡ []
       none true h = absurd (true≢false (sym h))
@@ -60,13 +61,13 @@ module _ {sheet : List ℕ} {c : Position} {i : Instruction} (h : InstructionAt 
   pub after_order : c ≤ i.effects.first
   after_order = omega (arith, before_effects, h.effects.first)
 
-  pub copies_instruction : (s : Section) {a : List ℕ} {at : ℕ} {a' : List ℕ} {at' d : ℕ}
-      → Copies (several i.effects.count (wide effect_width effect_at)) (gather (copy_words s)) sheet i.effects.first a at a' at' d → Copies instruction_from (instruction_words s) sheet c a at a' at' d
+  pub copies_instruction : (s : Section) {o o' : Writer ℕ} {d : ℕ}
+      → Copies (several i.effects.count (wide effect_width effect_at)) (gather (copy_words s)) sheet i.effects.first o o' d → Copies instruction_from (instruction_words s) sheet c o o' d
   unfolding instruction_from instruction_words
   copies_instruction s p =
       let e = sym (effects_are_lem sheet (effects_at sheet c) h.effects) in
       record {
-        wrote = wrote_as p.wrote (ap (λ (q : Part EffectList). gather (copy_words s) q.what) e ∙ sym (ap (gather (copy_words s)) (present_list sheet (effects_at sheet c))));
+        wrote = writes_as p.wrote (ap (λ (q : Part EffectList). gather (copy_words s) q.what) e ∙ sym (ap (gather (copy_words s)) (present_list sheet (effects_at sheet c))));
         after = p.after ∙ ap (λ (q : Part EffectList). q.next) e;
         few = omega (arith, p.few, after_order);
       }
@@ -91,11 +92,11 @@ module _ (sheet : List ℕ) (c : Position) {i : Position} (phis : i ≡ (phis_fr
   pub phis_inside : (phis_from sheet (c + 1)).next ≤ (block_from sheet c).next
   phis_inside = omega (arith, phis, listed_rises instruction_from instruction_follows sheet i, instructions_inside)
 
-  pub copies_block : (s : Section) {a : List ℕ} {at : ℕ} {a' : List ℕ} {at' j d : ℕ} → Copies instructions_from (gather (instruction_words s)) sheet i a at a' at' j → d ≡ (terminal_from sheet j).next
-      → Copies block_from (block_words s) sheet c a at a' at' d
+  pub copies_block : (s : Section) {o o' : Writer ℕ} {j d : ℕ} → Copies instructions_from (gather (instruction_words s)) sheet i o o' j → d ≡ (terminal_from sheet j).next
+      → Copies block_from (block_words s) sheet c o o' d
   unfolding block_from block_words
   copies_block s {j = j} q t = record {
-    wrote = wrote_as q.wrote (ap (λ (x : Position). gather (instruction_words s) (instructions_from sheet x).what) phis);
+    wrote = writes_as q.wrote (ap (λ (x : Position). gather (instruction_words s) (instructions_from sheet x).what) phis);
     after = t ∙ block-ends q.after;
     few = omega (arith, q.few, after-phis, t, terminal_rises sheet j);
   }

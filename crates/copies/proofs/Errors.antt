@@ -17,8 +17,9 @@ use Rattle.hir.proofs.Widths.{several_wide, places_rise, function_rises}
 use Rattle.hir.proofs.Several.{list_is, several-length}
 use Rattle.workspace.specs.Layout.{FUNCTIONS, HANDED}
 use Rattle.workspace.proofs.Tables.{tab-length, tab_at}
-use Rattle.writing.specs.Wrote.{Wrote}
-use Rattle.writing.proofs.Writing.{wrote_none, wrote_as}
+use Rattle.writing.specs.declared.Writer.{Writer}
+use Rattle.writing.specs.Wrote.{Writes}
+use Rattle.writing.proofs.Writing.{writes_none, writes_as}
 use Rattle.copies.specs.Copies.{Copies}
 use Rattle.copies.specs.Functions.{most_errors, function_at, functions_of, Functions}
 use Rattle.copies.proofs.Copying.{Copying}
@@ -30,13 +31,13 @@ use Rattle.copies.proofs.Sections.{diagnostics_length}
 abbrev pub diagnostic_from : List ℕ → Position → Part Diagnostic
 diagnostic_from = wide diagnostic_width diagnostic_at
 
-pub copies_diagnostic : {lists : List ℕ} {c : Position} {d : Diagnostic} {a : List ℕ} {at : ℕ} {a' : List ℕ} {at' : ℕ} → d ≡ diagnostic_at lists c → Wrote (diagnostic_words d) a at a' at'
-    → Copies diagnostic_from diagnostic_words lists c a at a' at' (c + diagnostic_width)
-copies_diagnostic e w = record { wrote = wrote_as w (ap diagnostic_words e); after = refl; few = omega (arith, w.next) }
+pub copies_diagnostic : {lists : List ℕ} {c : Position} {d : Diagnostic} {o o' : Writer ℕ} → d ≡ diagnostic_at lists c → Writes (diagnostic_words d) o o'
+    → Copies diagnostic_from diagnostic_words lists c o o' (c + diagnostic_width)
+copies_diagnostic e w = record { wrote = writes_as w (ap diagnostic_words e); after = refl; few = omega (arith, w.wrote.next) }
 
 -- two words a diagnostic
-pub diagnostics_room : {lists : List ℕ} {k₀ : ℕ} {c₀ : Position} {a₀ : List ℕ} {at₀ k : ℕ} {c : Position} {a : List ℕ} {at : ℕ} → Copying diagnostic_from diagnostic_words lists k₀ c₀ a₀ at₀ k c a at → at + diagnostic_width * k ≤ at₀ + diagnostic_width * k₀
-diagnostics_room {lists} {k₀} {c₀} {k = k} {c} v = omega (arith, v.few, v.next, several_wide diagnostic_width k diagnostic_at lists c, several_wide diagnostic_width k₀ diagnostic_at lists c₀)
+pub diagnostics_room : {lists : List ℕ} {n : ℕ} {c₀ : Position} {o₀ : Writer ℕ} {i : ℕ} {c : Position} {o : Writer ℕ} → Copying diagnostic_from diagnostic_words lists n c₀ o₀ i c o → o.at + diagnostic_width * (n - i) ≤ o₀.at + diagnostic_width * n
+diagnostics_room {lists} {n} {c₀} {i = i} {c} v = omega (arith, v.few, v.next, several_wide diagnostic_width (n - i) diagnostic_at lists c, several_wide diagnostic_width n diagnostic_at lists c₀)
 
 -- ---- one function
 -- its diagnostics stand at p, and its context behind them
@@ -84,10 +85,10 @@ handed_few {fs = fs} g (k ∷ l) =
     omega (arith, diagnostics_length (one ++ rest), length-append one rest, diagnostics_length rest, g.few k, handed_few g l)
 
 -- of one function that is not there
-pub errors_none : (lists ws : List ℕ) (m k : ℕ) → m ≤ k → (a : List ℕ) (at : ℕ) → Wrote (gather diagnostic_words (function_errors (functions_of lists ws m) k)) a at a at
-errors_none lists ws m k z a at =
+pub errors_none : (lists ws : List ℕ) (m k : ℕ) → m ≤ k → (o : Writer ℕ) → Writes (gather diagnostic_words (function_errors (functions_of lists ws m) k)) o o
+errors_none lists ws m k z o =
     let e : get_or (functions_of lists ws m) k no_function ≡ no_function = get_or-eq_default (functions_of lists ws m) no_function {n = k} (omega (arith, z, functions-length lists ws m)) in
-    wrote_as (wrote_none a at) (ap (λ (f : InnerFunction). gather diagnostic_words f.diagnostics) (sym e))
+    writes_as (writes_none o) (ap (λ (f : InnerFunction). gather diagnostic_words f.diagnostics) (sym e))
 
 module _ {lists ws : List ℕ} {m k : ℕ} (g : Functions lists ws (functions_of lists ws m)) (z : k < m) where
   there : k < length (functions_of lists ws m)
@@ -107,31 +108,31 @@ module _ {lists ws : List ℕ} {m k : ℕ} (g : Functions lists ws (functions_of
     pub errors_room : l.count ≤ most_listed
     errors_room = omega (arith, g.few k, ap (λ (x : List Diagnostic). length x) list_errors, several-length diagnostic_from lists l.count l.first)
 
-    pub errors_wrote : {a : List ℕ} {at : ℕ} {a' : List ℕ} {at' : ℕ} → Wrote (gather diagnostic_words (several l.count diagnostic_from lists l.first).what) a at a' at'
-        → Wrote (gather diagnostic_words (function_errors (functions_of lists ws m) k)) a at a' at'
-    errors_wrote w = wrote_as w (ap (gather diagnostic_words) list_errors)
+    pub errors_wrote : {o o' : Writer ℕ} → Writes (gather diagnostic_words (several l.count diagnostic_from lists l.first).what) o o'
+        → Writes (gather diagnostic_words (function_errors (functions_of lists ws m) k)) o o'
+    errors_wrote w = writes_as w (ap (gather diagnostic_words) list_errors)
 
 -- ---- all functions handed over, from word i on
-pub record Handing (fs : List InnerFunction) (ws : List ℕ) (hand : ℕ) (a₀ : List ℕ) (at₀ i : ℕ) (a : List ℕ) (at : ℕ) : Type 0 where
-  pub leaves : Leaves (gather diagnostic_words (gather (function_errors fs) (slice HANDED hand ws))) (gather diagnostic_words (gather (function_errors fs) (slice i hand ws))) a₀ at₀ a at
-  pub few : at + most_errors * (hand - i) ≤ at₀ + most_errors * (hand - HANDED)
+pub record Handing (fs : List InnerFunction) (ws : List ℕ) (hand : ℕ) (o₀ : Writer ℕ) (i : ℕ) (o : Writer ℕ) : Type 0 where
+  pub leaves : Leaves (gather diagnostic_words (gather (function_errors fs) (slice HANDED hand ws))) (gather diagnostic_words (gather (function_errors fs) (slice i hand ws))) o₀ o
+  pub few : o.at + most_errors * (hand - i) ≤ o₀.at + most_errors * (hand - HANDED)
 
-pub handing_start : (fs : List InnerFunction) (ws : List ℕ) (hand : ℕ) (a : List ℕ) (at : ℕ) → Handing fs ws hand a at HANDED a at
-handing_start fs ws hand a at = record { leaves = leaves_all (gather diagnostic_words (gather (function_errors fs) (slice HANDED hand ws))) a at; few = omega arith }
+pub handing_start : (fs : List InnerFunction) (ws : List ℕ) (hand : ℕ) (o : Writer ℕ) → Handing fs ws hand o HANDED o
+handing_start fs ws hand o = record { leaves = leaves_all (gather diagnostic_words (gather (function_errors fs) (slice HANDED hand ws))) o; few = omega arith }
 
-module _ {fs : List InnerFunction} {ws : List ℕ} {hand : ℕ} {a₀ : List ℕ} {at₀ i : ℕ} {a : List ℕ} {at : ℕ} (v : Handing fs ws hand a₀ at₀ i a at) where
-  pub handing_turn : {lists : List ℕ} → Functions lists ws fs → i < hand → hand ≤ length ws → {a' : List ℕ} {at' : ℕ} → Wrote (gather diagnostic_words (function_errors fs (get_or ws i 0))) a at a' at' → Handing fs ws hand a₀ at₀ (i + 1) a' at'
+module _ {fs : List InnerFunction} {ws : List ℕ} {hand : ℕ} {o₀ : Writer ℕ} {i : ℕ} {o : Writer ℕ} (v : Handing fs ws hand o₀ i o) where
+  pub handing_turn : {lists : List ℕ} → Functions lists ws fs → i < hand → hand ≤ length ws → {o' : Writer ℕ} → Writes (gather diagnostic_words (function_errors fs (get_or ws i 0))) o o' → Handing fs ws hand o₀ (i + 1) o'
   handing_turn g h k p = record {
     leaves =
         leaves_then v.leaves p
         (ap (λ (l : List ℕ). gather diagnostic_words (gather (function_errors fs) l)) (slice_next i hand ws h k) ∙ gather_append diagnostic_words (function_errors fs (get_or ws i 0)) (gather (function_errors fs) (slice (i + 1) hand ws)));
-    few = omega (arith, v.few, p.next, diagnostics_length (function_errors fs (get_or ws i 0)), g.few (get_or ws i 0), h);
+    few = omega (arith, v.few, p.wrote.next, diagnostics_length (function_errors fs (get_or ws i 0)), g.few (get_or ws i 0), h);
   }
 
-  pub handing_end : hand ≤ i → Wrote (gather diagnostic_words (gather (function_errors fs) (slice HANDED hand ws))) a₀ at₀ a at
+  pub handing_end : hand ≤ i → Writes (gather diagnostic_words (gather (function_errors fs) (slice HANDED hand ws))) o₀ o
   handing_end h = leaves_none v.leaves (ap (λ (l : List ℕ). gather diagnostic_words (gather (function_errors fs) l)) (slice_none i hand ws h))
 
 -- so many words at most
-pub handed_room : {lists ws : List ℕ} {fs : List InnerFunction} → Functions lists ws fs → (hand : ℕ) → hand ≤ length ws → {a : List ℕ} {at : ℕ} {a' : List ℕ} {at' : ℕ}
-    → Wrote (gather diagnostic_words (gather (function_errors fs) (slice HANDED hand ws))) a at a' at' → at' ≤ at + most_errors * (hand - HANDED)
-handed_room {ws = ws} g hand h w = omega (arith, w.next, handed_few g (slice HANDED hand ws), length-slice HANDED hand ws h)
+pub handed_room : {lists ws : List ℕ} {fs : List InnerFunction} → Functions lists ws fs → (hand : ℕ) → hand ≤ length ws → {o o' : Writer ℕ}
+    → Writes (gather diagnostic_words (gather (function_errors fs) (slice HANDED hand ws))) o o' → o'.at ≤ o.at + most_errors * (hand - HANDED)
+handed_room {ws = ws} g hand h w = omega (arith, w.wrote.next, handed_few g (slice HANDED hand ws), length-slice HANDED hand ws h)

@@ -29,11 +29,16 @@ phi_follows ws c = omega (arith, phi_rises ws c)
 abbrev pub PhisLeft : List ℕ → Position → ℕ → Position → Type 0
 PhisLeft ws end left c = (several left phi_from ws c).next ≡ end
 
-pub phis-start : (ws : List ℕ) (c : Position) {l : Listed} → ListAt ws c l → PhisLeft ws (phis_from ws c).next l.count l.first
-phis-start ws c h = ap (λ (p : Part (List Phi)). p.next) (sym (list_is phi_from ws c h))
+pub phis-start : (ws : List ℕ) (c : Position) {l : Listed} → ListAt ws c l → PhisLeft ws (phis_from ws c).next (l.count - 0) l.first
+phis-start ws c {l} h =
+    let k : l.count - 0 ≡ l.count = omega arith in
+    ap (λ (j : ℕ). (several j phi_from ws l.first).next) k ∙ ap (λ (p : Part (List Phi)). p.next) (sym (list_is phi_from ws c h))
 
-pub phis_turn : (ws : List ℕ) (left : ℕ) (c : Position) {d end : Position} → 0 < left → PhisLeft ws end left c → d ≡ (phi_from ws c).next → PhisLeft ws end (left - 1) d
-phis_turn ws left c z v e = ap (λ (j : Position). (several (left - 1) phi_from ws j).next) e ∙ sym (ap (λ (p : Part (List Phi)). p.next) (several_next phi_from ws left c z)) ∙ v
+pub phis_turn : (ws : List ℕ) (n i : ℕ) (c : Position) {d end : Position} → i < n → PhisLeft ws end (n - i) c → d ≡ (phi_from ws c).next → PhisLeft ws end (n - (i + 1)) d
+phis_turn ws n i c {d} z v e =
+    let k : n - (i + 1) ≡ n - i - 1 = omega arith in
+    ap (λ (j : ℕ). (several j phi_from ws d).next) k
+    ∙ ap (λ (j : Position). (several (n - i - 1) phi_from ws j).next) e ∙ sym (ap (λ (p : Part (List Phi)). p.next) (several_next phi_from ws (n - i) c (omega arith))) ∙ v
 
 pub phis_inside : (ws : List ℕ) (left : ℕ) (c : Position) {end : Position} → PhisLeft ws end left c → 0 < left → end ≤ length ws → (phi_from ws c).next ≤ length ws
 phis_inside ws left c v z h = first_inside phi_from ws left c phi_follows z (omega (arith, v, h))

@@ -4,7 +4,7 @@ use native.Mathlib.Omega.{arith}
 use mathlib.Core.Path.{◌≡◌, refl, sym, ap, ◌∙◌}
 use mathlib.Core.Bool.{true, false, ◌||◌}
 use mathlib.Core.List.{List, [], ◌∷◌, map}
-use lib.ListN.{length, set}
+use lib.ListN.{length}
 use Rattle.model.specs.Limits.{diagnostic_width}
 use Rattle.model.specs.Lists.{gather, keep}
 use Rattle.model.specs.Sheet.{Effect, Diagnostic, Instruction, list_of, Block, Sheet}
@@ -12,8 +12,9 @@ use Rattle.model.specs.Effects.{row_of, is_render, is_diagnosis, diagnostic_of}
 use Rattle.model.specs.Totals.{instruction_effects}
 use Rattle.model.specs.Summary.{errors, copied, recorded}
 use Rattle.model.specs.Answer.{diagnostic_words, effect_words, section}
-use Rattle.writing.specs.Wrote.{Wrote}
-use Rattle.writing.proofs.Writing.{patched}
+use Rattle.writing.specs.declared.Writer.{Writer}
+use Rattle.writing.specs.Wrote.{Writes, Patches}
+use Rattle.writing.proofs.Writing.{writes_as, writes_patched}
 use Rattle.copies.specs.Words.{copy_words, instruction_words, block_words}
 use Rattle.copies.specs.declared.effect_lists.Section.{Section}
 use Rattle.copies.specs.declared.effect_lists.Section.TheVariants.{Diagnostics, Effects}
@@ -60,16 +61,13 @@ pub diagnostics_length : (l : List Diagnostic) → length (gather diagnostic_wor
 diagnostics_length l = gather_length diagnostic_words diagnostic_width (λ d. refl) l
 
 -- ---- a section whose count is known only at its end
-pub section_patched : {A : Type 0} (w : A → List ℕ) (l : List A) {x : ℕ} {a b : List ℕ} {at r : ℕ} → Wrote (x ∷ gather w l) a at b r → Wrote (section w l) a at (set b at (length l)) r
-section_patched w l {x} {a} {b} {at} {r} h = record {
-  words = ap (λ (z : List ℕ). set z at (length l)) h.words ∙ patched a at x (length l) (gather w l);
-  next = h.next;
-}
+pub section_patched : {A : Type 0} (w : A → List ℕ) (l : List A) {x y : ℕ} {a b c : Writer ℕ} → Writes (x ∷ gather w l) a b → Patches a.at y b c → y ≡ length l → Writes (section w l) a c
+section_patched w l {x} {y} {a} {b} {c} h p e = writes_as (writes_patched h p) (ap (λ (n : ℕ). n ∷ gather w l) e)
 
 -- the count by the positions: of effects
-pub effects-count : (l : List Effect) {x : ℕ} {a b : List ℕ} {at r : ℕ} → Wrote (x ∷ gather effect_words l) a at b r → (r - (at + 1)) / 8 ≡ length l
-effects-count l h = omega (arith, h.next, effects-length l)
+pub effects-count : (l : List Effect) {x : ℕ} {a b : Writer ℕ} → Writes (x ∷ gather effect_words l) a b → (b.at - (a.at + 1)) / 8 ≡ length l
+effects-count l h = omega (arith, h.wrote.next, effects-length l)
 
 -- of diagnostics
-pub diagnostics_count : (l : List Diagnostic) {x : ℕ} {a b : List ℕ} {at r : ℕ} → Wrote (x ∷ gather diagnostic_words l) a at b r → (r - (at + 1)) / diagnostic_width ≡ length l
-diagnostics_count l h = omega (arith, h.next, diagnostics_length l)
+pub diagnostics_count : (l : List Diagnostic) {x : ℕ} {a b : Writer ℕ} → Writes (x ∷ gather diagnostic_words l) a b → (b.at - (a.at + 1)) / diagnostic_width ≡ length l
+diagnostics_count l h = omega (arith, h.wrote.next, diagnostics_length l)

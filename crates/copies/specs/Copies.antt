@@ -2,10 +2,11 @@
 use Rattle.std.specs.Prelude.{ℕ, ◌+◌, ◌≤◌, ◌≡◌, List}
 use Rattle.model.specs.Reading.{Position}
 use Rattle.hir.specs.Words.{Standing}
-use Rattle.writing.specs.Wrote.{Wrote}
+use Rattle.writing.specs.declared.Writer.{Writer}
+use Rattle.writing.specs.Wrote.{Writes}
 
--- the words w of the part f at c were written from `at` on, `next` is the position after the part, and at most as many words were written as were read
-pub record Copies {A : Type 0} (f : Standing A) (w : A → List ℕ) (sheet : List ℕ) (c : Position) (answer : List ℕ) (at : ℕ) (answer' : List ℕ) (at' next : ℕ) : Type 0 where
-  pub wrote : Wrote (w (f sheet c).what) answer at answer' at'
+-- the words w of the part f at c were written, `next` is the position after the part, and at most as many words were written as were read
+pub record Copies {A : Type 0} (f : Standing A) (w : A → List ℕ) (sheet : List ℕ) (c : Position) (o o' : Writer ℕ) (next : ℕ) : Type 0 where
+  pub wrote : Writes (w (f sheet c).what) o o'
   pub after : next ≡ (f sheet c).next
-  pub few : at' + c ≤ at + next
+  pub few : o'.at + c ≤ o.at + next

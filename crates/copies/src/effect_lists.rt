@@ -9,12 +9,14 @@ ghost use Rattle.copies.specs.Copies.{Copies};
 ghost use Rattle.copies.specs.Words.{takes, copy_words, instruction_words, block_words};
 
 use crate::past::{past_phis, past_terminal};
-use crate::{Copied, put_diagnostic, put_effect};
+use crate::{put_diagnostic, put_effect};
 use hir::at::{EFFECT_WIDTH, List, effect_at, instruction_at, list_at};
 use hir::effects::{Role, diagnostic_of, role_of};
+use writing::Writer;
 
 // The section that effects of instructions are copied to.
-#[derive(Clone, Copy)]
+// Kept: four functions hand it down, and what each writes is stated by it (`copy_words`); closures would need that contract at each of the four.
+#[derive(Clone, Copy, Debug, PartialEq, Eq)]
 pub enum Section {
     Diagnostics,
     Effects,
@@ -25,76 +27,53 @@ fn takes(section: Section, role: Role) -> bool
     ensures { result ≡ takes section (role_says role) }
 {
     match section {
-        Section::Diagnostics => match role {
-            Role::Diagnosis => true,
-            Role::Relation => false,
-            Role::Mutation => false,
-            Role::Render => false,
-            Role::Nothing => false,
-        },
-        Section::Effects => match role {
-            Role::Diagnosis => true,
-            Role::Render => true,
-            Role::Relation => false,
-            Role::Mutation => false,
-            Role::Nothing => false,
-        },
+        Section::Diagnostics => matches!(role, Role::Diagnosis),
+        Section::Effects => matches!(role, Role::Diagnosis | Role::Render),
     }
 }
 
 // What the section takes of the effect that stands here.
-fn copy_effect(sheet: &[u32], from: usize, section: Section, answer: &mut [u32], at: usize) -> usize
+fn copy_effect(sheet: &[u32], from: usize, section: Section, out: &mut Writer<'_, u32>)
     requires effect_width_in_bounds { from + effect_width ≤ length sheet.now }
-    requires sheet_bound { at + length sheet.now ≤ farthest + from }
-    ensures { Copies (wide effect_width effect_at) (copy_words section) sheet.now from answer.old at answer.new result (from + effect_width) }
+    requires sheet_bound { out.old.at + length sheet.now ≤ farthest + from }
+    ensures { Copies (wide effect_width effect_at) (copy_words section) sheet.now from out.old out.new (from + effect_width) }
 {
     let e = effect_at(sheet, from);
-    let kind = e.kind;
-    if !takes(section, role_of(kind)) {
-        return at;
+    if !takes(section, role_of(e.kind)) {
+        return;
     }
     match section {
-        Section::Diagnostics => put_diagnostic(answer, at, diagnostic_of(e)),
-        Section::Effects => put_effect(answer, at, e),
+        Section::Diagnostics => put_diagnostic(out, diagnostic_of(e)),
+        Section::Effects => put_effect(out, e),
     }
 }
 
-// A list of effects.
-fn copy_list(
-    sheet: &[u32],
-    effects: List,
-    section: Section,
-    answer: &mut [u32],
-    at: usize,
-) -> Copied
+// A list of effects; the position after it.
+fn copy_list(sheet: &[u32], effects: List, section: Section, out: &mut Writer<'_, u32>) -> usize
     requires first_in_bounds { (several effects.count (wide effect_width effect_at) sheet.now effects.first).next ≤ length sheet.now }
-    requires sheet_bound { at + length sheet.now ≤ farthest + effects.first }
-    ensures { Copies (several effects.count (wide effect_width effect_at)) (gather (copy_words section)) sheet.now effects.first answer.old at answer.new result.at result.next }
+    requires sheet_bound { out.old.at + length sheet.now ≤ farthest + effects.first }
+    ensures { Copies (several effects.count (wide effect_width effect_at)) (gather (copy_words section)) sheet.now effects.first out.old out.new result }
 {
-    let mut left = effects.count;
     let mut next = effects.first;
-    let mut to = at;
-    while 0 < left {
-        to = copy_effect(sheet, next, section, answer, to);
+    for _ in 0..effects.count {
+        copy_effect(sheet, next, section, out);
         next += EFFECT_WIDTH;
-        left -= 1;
     }
-    Copied { at: to, next }
+    next
 }
 
 fn copy_instruction(
     sheet: &[u32],
     from: usize,
     section: Section,
-    answer: &mut [u32],
-    at: usize,
-) -> Copied
+    out: &mut Writer<'_, u32>,
+) -> usize
     requires from_in_bounds { (instruction_from sheet.now from).next ≤ length sheet.now }
-    requires sheet_bound { at + length sheet.now ≤ farthest + from }
-    ensures { Copies instruction_from (instruction_words section) sheet.now from answer.old at answer.new result.at result.next }
+    requires sheet_bound { out.old.at + length sheet.now ≤ farthest + from }
+    ensures { Copies instruction_from (instruction_words section) sheet.now from out.old out.new result }
 {
     let i = instruction_at(sheet, from);
-    copy_list(sheet, i.effects, section, answer, at)
+    copy_list(sheet, i.effects, section, out)
 }
 
 // An instruction count and the instructions.
@@ -102,59 +81,45 @@ fn copy_instructions(
     sheet: &[u32],
     from: usize,
     section: Section,
-    answer: &mut [u32],
-    at: usize,
-) -> Copied
+    out: &mut Writer<'_, u32>,
+) -> usize
     requires from_in_bounds { (instructions_from sheet.now from).next ≤ length sheet.now }
-    requires sheet_bound { at + length sheet.now ≤ farthest + from }
-    ensures { Copies instructions_from (gather (instruction_words section)) sheet.now from answer.old at answer.new result.at result.next }
+    requires sheet_bound { out.old.at + length sheet.now ≤ farthest + from }
+    ensures { Copies instructions_from (gather (instruction_words section)) sheet.now from out.old out.new result }
 {
     let list = list_at(sheet, from);
-    let mut left = list.count;
     let mut next = list.first;
-    let mut to = at;
-    while 0 < left {
-        let r = copy_instruction(sheet, next, section, answer, to);
-        to = r.at;
-        next = r.next;
-        left -= 1;
+    for _ in 0..list.count {
+        next = copy_instruction(sheet, next, section, out);
     }
-    Copied { at: to, next }
+    next
 }
 
 // A block: its phis and its terminal are passed over.
-fn copy_block(sheet: &[u32], from: usize, section: Section, answer: &mut [u32], at: usize) -> Copied
+fn copy_block(sheet: &[u32], from: usize, section: Section, out: &mut Writer<'_, u32>) -> usize
     requires from_in_bounds { (block_from sheet.now from).next ≤ length sheet.now }
-    requires sheet_bound { at + length sheet.now ≤ farthest + from }
-    ensures { Copies block_from (block_words section) sheet.now from answer.old at answer.new result.at result.next }
+    requires sheet_bound { out.old.at + length sheet.now ≤ farthest + from }
+    ensures { Copies block_from (block_words section) sheet.now from out.old out.new result }
 {
     let inside = past_phis(sheet, from + 1);
-    let r = copy_instructions(sheet, inside, section, answer, at);
-    let next = past_terminal(sheet, r.next);
-    Copied { at: r.at, next }
+    let next = copy_instructions(sheet, inside, section, out);
+    past_terminal(sheet, next)
 }
 
-// The effects of the instructions of `count` blocks.
+// The effects of the instructions of some blocks.
 pub fn copy_effects(
     sheet: &[u32],
-    from: usize,
-    count: u32,
+    blocks: List,
     section: Section,
-    answer: &mut [u32],
-    at: usize,
-) -> Copied
-    requires from_in_bounds { (several count block_from sheet.now from).next ≤ length sheet.now }
-    requires sheet_bound { at + length sheet.now ≤ farthest + from }
-    ensures { Copies (several count block_from) (gather (block_words section)) sheet.now from answer.old at answer.new result.at result.next }
+    out: &mut Writer<'_, u32>,
+) -> usize
+    requires first_in_bounds { (several blocks.count block_from sheet.now blocks.first).next ≤ length sheet.now }
+    requires sheet_bound { out.old.at + length sheet.now ≤ farthest + blocks.first }
+    ensures { Copies (several blocks.count block_from) (gather (block_words section)) sheet.now blocks.first out.old out.new result }
 {
-    let mut left = count;
-    let mut next = from;
-    let mut to = at;
-    while 0 < left {
-        let r = copy_block(sheet, next, section, answer, to);
-        to = r.at;
-        next = r.next;
-        left -= 1;
+    let mut next = blocks.first;
+    for _ in 0..blocks.count {
+        next = copy_block(sheet, next, section, out);
     }
-    Copied { at: to, next }
+    next
 }

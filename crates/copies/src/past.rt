@@ -21,11 +21,9 @@ pub fn past_phis(sheet: &[u32], from: usize) -> usize
     ensures { result ≡ (phis_from sheet.now from).next }
 {
     let list = list_at(sheet, from);
-    let mut left = list.count;
     let mut next = list.first;
-    while 0 < left {
+    for _ in 0..list.count {
         next = past_phi(sheet, next);
-        left -= 1;
     }
     next
 }

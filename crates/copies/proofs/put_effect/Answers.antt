@@ -1,7 +1,7 @@
 use Rattle.hir.proofs.EffectKinds.{number_same}
-use Rattle.writing.proofs.Writing.{wrote_then, wrote_as}
+use Rattle.writing.proofs.Writing.{writes_then, writes_as}
 use Rattle.copies.proofs.put_effect.Goals as goal
 
 pub returns : goal.returns
 returns c =
-    wrote_as (wrote_then c.put-a.ensures (wrote_then c.put_place-b.ensures (wrote_then c.put_place-c.ensures c.put.ensures))) (rw (c.number.ensures, number_same))
+    writes_as (writes_then c.put.ensures (writes_then c.put_place.ensures (writes_then c.put_place-2.ensures c.put-2.ensures))) (rw (c.from.ensures, number_same))

@@ -10,14 +10,13 @@ overflow_add-from c = omega (arith, block_rises c.args.sheet.now c.args.from, c.
 pub past_phis-inside-requires : goal.past_phis-inside-requires
 past_phis-inside-requires c = omega (arith, phis_inside c.args.sheet.now c.args.from refl, c.requires.from_in_bounds)
 
-pub copy_instructions-r-requires : goal.copy_instructions-r-requires
-copy_instructions-r-requires c =
+pub copy_instructions-next-requires : goal.copy_instructions-next-requires
+copy_instructions-next-requires c =
     record { from_in_bounds = omega (arith, instructions_inside c.args.sheet.now c.args.from c.past_phis-inside.ensures, c.requires.from_in_bounds); sheet_bound = omega (arith, after-phis c.args.sheet.now c.args.from c.past_phis-inside.ensures, c.requires.sheet_bound) }
 
-pub past_terminal-next-requires : goal.past_terminal-next-requires
-past_terminal-next-requires c =
-    omega (arith, block-ends c.args.sheet.now c.args.from c.past_phis-inside.ensures c.copy_instructions-r.ensures.after, c.requires.from_in_bounds)
+pub past_terminal-requires : goal.past_terminal-requires
+past_terminal-requires c =
+    omega (arith, block-ends c.args.sheet.now c.args.from c.past_phis-inside.ensures c.copy_instructions-next.ensures.after, c.requires.from_in_bounds)
 
 pub returns : goal.returns
-returns c =
-    copies_block _ _ c.past_phis-inside.ensures _ c.copy_instructions-r.ensures c.past_terminal-next.ensures
+returns c = copies_block _ _ c.past_phis-inside.ensures _ c.copy_instructions-next.ensures c.past_terminal.ensures

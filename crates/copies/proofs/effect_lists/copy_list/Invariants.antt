@@ -4,8 +4,5 @@ use Rattle.copies.specs.Words.{copy_words}
 use Rattle.copies.proofs.Copying.{Copying}
 use Rattle.copies.proofs.effect_lists.copy_list.Given as goal
 
-abbrev pub invariant-loop-left : goal.invariant-loop-left
-invariant-loop-left l = Copying (wide effect_width effect_at) (copy_words l.section) l.sheet l.initial.left l.initial.next l.initial.answer l.at l.left l.next l.answer l.to
-
-abbrev pub decreases-loop-left : goal.decreases-loop-left
-decreases-loop-left l = l.left
+abbrev pub invariant-loop : goal.invariant-loop
+invariant-loop l = Copying (wide effect_width effect_at) (copy_words l.section) l.sheet l.end l.initial.next l.initial.out l.counter l.next l.out

@@ -1,10 +1,6 @@
-use Prim.Native.Nat.{◌-◌}
 use Rattle.copies.specs.Functions.{functions_of}
 use Rattle.copies.proofs.Errors.{Handing}
 use Rattle.copies.proofs.functions.put_handed.Given as goal
 
 abbrev pub invariant-loop-i : goal.invariant-loop-i
-invariant-loop-i l = Handing (functions_of l.lists l.ws l.count) l.ws l.hand l.initial.answer l.at l.i l.answer l.to
-
-abbrev pub decreases-loop-i : goal.decreases-loop-i
-decreases-loop-i l = l.hand - l.i
+invariant-loop-i l = Handing (functions_of l.lists l.ws l.count) l.ws l.hand l.initial.out l.i l.out

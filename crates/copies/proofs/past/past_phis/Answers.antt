@@ -7,15 +7,14 @@ use Rattle.copies.proofs.past.past_phis.Goals as goal
 pub list_at-list-requires : goal.list_at-list-requires
 list_at-list-requires c = omega (arith, listed_rises phi_from phi_follows c.args.sheet.now c.args.from, c.requires)
 
-pub loop-left-init : goal.loop-left-init
-loop-left-init c = phis-start _ _ c.list_at-list.ensures
+pub loop-init : goal.loop-init
+loop-init c = phis-start _ _ c.list_at-list.ensures
 
 pub past_phi-next-requires : goal.past_phi-next-requires
-past_phi-next-requires c =
-    phis_inside _ _ _ c.loop-left.invariant c.loop-left-test.true c.requires
+past_phi-next-requires c = phis_inside _ _ _ c.loop.invariant (omega (arith, c.loop-test.true)) c.requires
 
-pub loop-left-preserved : goal.loop-left-preserved
-loop-left-preserved c = phis_turn _ _ _ c.loop-left-test.true c.loop-left.invariant c.past_phi-next.ensures
+pub loop-preserved : goal.loop-preserved
+loop-preserved c = phis_turn _ _ _ _ c.loop-test.true c.loop.invariant c.past_phi-next.ensures
 
 pub returns : goal.returns
-returns c = phis_end _ _ _ c.loop-left.invariant c.loop-left-test.false
+returns c = phis_end _ _ _ c.loop.invariant (omega (arith, c.loop-test.false))

@@ -3,4 +3,4 @@ use Rattle.model.specs.Sheet.{Identifier}
 use Rattle.copies.proofs.returns.type_at.Goals as goal
 
 pub returns : goal.returns
-returns c = ap (λ (i : Identifier). i.type) c.identifier_at-i.ensures
+returns c = ap (λ (i : Identifier). i.type) c.identifier_at.ensures
