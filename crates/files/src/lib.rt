@@ -1,7 +1,7 @@
 // Files of words for the programs: four bytes a word, lowest first.
 #![tactic(auto)]
 
-ghost use Rattle.std.specs.Prelude.{◌+◌, ◌*◌, ◌≤◌, min, ◌≡◌, length, get_or};
+ghost use Rattle.std.specs.Prelude.{◌+◌, ◌*◌, ◌≤◌, ◌≡◌, length, get_or};
 ghost use Rattle.io.specs.Counts.{IsPrefixLen};
 ghost use Rattle.model.specs.Files.{file_word, file_words};
 ghost use Rattle.files.specs.Loads.{Loads};
@@ -10,7 +10,7 @@ ghost use Rattle.files.specs.Loads.{Loads};
 fn word(a: u8, b: u8, c: u8, d: u8) -> u32
     ensures { result ≡ file_word a b c d }
 {
-    (a as u32) + 256 * (b as u32) + 65536 * (c as u32) + 16777216 * (d as u32)
+    u32::from_le_bytes([a, b, c, d])
 }
 
 // The byte so far behind a position, and 0 past the end.
@@ -18,10 +18,7 @@ fn byte_at(bytes: &[u8], at: usize, k: usize) -> u8
     requires { at ≤ length bytes.now }
     ensures { result ≡ get_or bytes.now (at + k) 0 }
 {
-    if k < bytes.len() - at {
-        return bytes[at + k];
-    }
-    0
+    bytes[at..].get(k).copied().unwrap_or(0)
 }
 
 // A word of the file: a cut last word is filled up with zeros.
@@ -42,26 +39,18 @@ fn word_at(bytes: &[u8], i: usize) -> u32
 fn words_in(bytes: &[u8]) -> usize
     ensures { result ≡ length (file_words bytes.now) }
 {
-    let n = bytes.len();
-    if n % 4 == 0 { n / 4 } else { n / 4 + 1 }
-}
-
-fn least(a: usize, b: usize) -> usize
-    ensures { result ≡ min a b }
-{
-    if a < b { a } else { b }
+    bytes.len().div_ceil(4)
 }
 
 // The words of a file, as many as there is room for; how many they are. The words after them are as before.
+// Kept: it fills a lent buffer and cannot fail, which a `Vec` could (`Loads`, and `IsPrefixLen`, by which callers cut the buffer).
 pub fn load_words(bytes: &[u8], words: &mut [u32]) -> usize
     ensures prefix_len { IsPrefixLen result words.new }
     ensures loads { Loads bytes.now words.old result words.new }
 {
-    let count = least(words_in(bytes), words.len());
-    let mut i = 0;
-    while i < count {
+    let count = words_in(bytes).min(words.len());
+    for i in 0..count {
         words[i] = word_at(bytes, i);
-        i += 1;
     }
     count
 }

@@ -22,5 +22,5 @@ loop-i-preserved c = (
 
 pub returns : goal.returns
 returns c =
-    let e : c.loop-i.i ≡ c.least-count.result = omega arith
+    let e : c.loop-i.i ≡ c.min-count.result = omega arith
     in record { prefix_len = prefix_len_of_le _ _ (omega arith); loads = record { count = omega arith; loaded = rw e at c.loop-i.invariant.2 } }
