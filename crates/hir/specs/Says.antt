@@ -1,37 +1,23 @@
 -- What each answer of a reader says: the value as the definitions have it with the next position, or the refusal's number.
-use Rattle.std.specs.Prelude.{ℕ, Bool, leb}
+use Rattle.std.specs.Prelude.{ℕ, ◌≡◌, Bool, Result, Ok, Err}
 use Rattle.model.specs.Lists.{pick}
 use Rattle.model.specs.Sheet.{Place as ModelPlace, Effect as ModelEffect, Flags as ModelFlags, Identifier as ModelIdentifier, Diagnostic as ModelDiagnostic, InstructionValue as ModelValue, Plain as IsPlain, Function as IsFunction, StoreContext as IsStoreContext, EvaluationOrder as ModelOrder, BlockId as ModelBlock}
-use Rattle.model.specs.Reading.{Result, got, refused, Read, ◌>>=◌, pure, refuse, word}
+use Rattle.model.specs.Reading.{Result as Got, got, refused, Read, ◌>>=◌, pure, refuse, word}
 use Rattle.model.specs.Sections.{place, unused}
 use Rattle.hir.specs.Numbers.{effect_number, kind_says, terminal_number, type_says}
+use Rattle.hir.specs.Refusals.{refusal_number}
+use Rattle.hir.specs.declared.Cursor.{Cursor}
+use Rattle.hir.specs.declared.refusal.Refusal.{Refusal}
+use Rattle.hir.specs.declared.EvaluationOrder.{EvaluationOrder}
+use Rattle.hir.specs.declared.BlockId.{BlockId}
+use Rattle.hir.specs.declared.TerminalKind.{TerminalKind}
 use Rattle.hir.specs.declared.Place.{Place}
 use Rattle.hir.specs.declared.AliasingEffect.{AliasingEffect}
 use Rattle.hir.specs.declared.Flags.{Flags}
 use Rattle.hir.specs.declared.Identifier.{Identifier}
 use Rattle.hir.specs.declared.Diagnostic.{Diagnostic}
-use Rattle.hir.specs.declared.WordStep.{WordStep}
-use Rattle.hir.specs.declared.WordStep.TheVariants.{Got as GotWord, Refused as NoWord}
-use Rattle.hir.specs.declared.PlaceStep.{PlaceStep}
-use Rattle.hir.specs.declared.PlaceStep.TheVariants.{Got as GotPlace, Refused as NoPlace}
-use Rattle.hir.specs.declared.EffectStep.{EffectStep}
-use Rattle.hir.specs.declared.EffectStep.TheVariants.{Got as GotEffect, Refused as NoEffect}
-use Rattle.hir.specs.declared.OrderStep.{OrderStep}
-use Rattle.hir.specs.declared.OrderStep.TheVariants.{Got as GotOrder, Refused as NoOrder}
-use Rattle.hir.specs.declared.BlockStep.{BlockStep}
-use Rattle.hir.specs.declared.BlockStep.TheVariants.{Got as GotBlock, Refused as NoBlock}
 use Rattle.hir.specs.declared.InstructionValue.{InstructionValue}
 use Rattle.hir.specs.declared.InstructionValue.TheVariants.{Plain, Function, StoreContext}
-use Rattle.hir.specs.declared.ValueStep.{ValueStep}
-use Rattle.hir.specs.declared.ValueStep.TheVariants.{Got as GotValue, Refused as NoValue}
-use Rattle.hir.specs.declared.KindStep.{KindStep}
-use Rattle.hir.specs.declared.KindStep.TheVariants.{Got as GotKind, Refused as NoKind}
-use Rattle.hir.specs.declared.FlagsStep.{FlagsStep}
-use Rattle.hir.specs.declared.FlagsStep.TheVariants.{Got as GotFlags, Refused as NoFlags}
-use Rattle.hir.specs.declared.IdentifierStep.{IdentifierStep}
-use Rattle.hir.specs.declared.IdentifierStep.TheVariants.{Got as GotIdentifier, Refused as NoIdentifier}
-use Rattle.hir.specs.declared.DiagnosticStep.{DiagnosticStep}
-use Rattle.hir.specs.declared.DiagnosticStep.TheVariants.{Got as GotDiagnostic, Refused as NoDiagnostic}
 
 -- the place as the definitions have it
 abbrev pub place_is : Place → ModelPlace
@@ -59,59 +45,58 @@ value_is Plain = IsPlain
 value_is (Function f) = IsFunction f.0
 value_is (StoreContext x) = IsStoreContext x.0
 
--- a word
-abbrev pub word_says : WordStep → Result ℕ
-word_says (GotWord w c) = got w c.at
-word_says (NoWord k) = refused k
+-- a part as the definitions have it with the next position, or the refusal's number
+abbrev pub says : {T A : Type 0} → (T → A) → Result (T × Cursor) Refusal → Got A
+says f (Ok p) = got (f p.0) p.1.at
+says f (Err k) = refused (refusal_number k)
 
--- a word at most `most`, or this refusal: `count` and `at_most` of Reading are both this
-abbrev pub limited : ℕ → ℕ → Read ℕ
-limited most refusal = word >>= λ (w : ℕ). pick (leb w most) (pure w) (refuse refusal)
+-- a word
+abbrev pub word_says : Result (ℕ × Cursor) Refusal → Got ℕ
+word_says = says (λ w. w)
 
 -- a place
-abbrev pub place_says : PlaceStep → Result ModelPlace
-place_says (GotPlace w c) = got (place_is w) c.at
-place_says (NoPlace k) = refused k
+abbrev pub place_says : Result (Place × Cursor) Refusal → Got ModelPlace
+place_says = says place_is
 
 -- an effect
-abbrev pub effect_says : EffectStep → Result ModelEffect
-effect_says (GotEffect w c) = got (effect_is w) c.at
-effect_says (NoEffect k) = refused k
+abbrev pub effect_says : Result (AliasingEffect × Cursor) Refusal → Got ModelEffect
+effect_says = says effect_is
 
 -- an order
-abbrev pub order_says : OrderStep → Result ModelOrder
-order_says (GotOrder w c) = got w.0 c.at
-order_says (NoOrder k) = refused k
+abbrev pub order_says : Result (EvaluationOrder × Cursor) Refusal → Got ModelOrder
+order_says = says (λ o. o.0)
 
 -- a block's number
-abbrev pub block_says : BlockStep → Result ModelBlock
-block_says (GotBlock w c) = got w.0 c.at
-block_says (NoBlock k) = refused k
+abbrev pub block_says : Result (BlockId × Cursor) Refusal → Got ModelBlock
+block_says = says (λ b. b.0)
 
 -- an instruction's value
-abbrev pub value_says : ValueStep → Result ModelValue
-value_says (GotValue w c) = got (value_is w) c.at
-value_says (NoValue k) = refused k
+abbrev pub value_says : Result (InstructionValue × Cursor) Refusal → Got ModelValue
+value_says = says value_is
 
 -- a terminal's kind, by its number
-abbrev pub kind_step_says : KindStep → Result ℕ
-kind_step_says (GotKind w c) = got (terminal_number w) c.at
-kind_step_says (NoKind k) = refused k
+abbrev pub kind_step_says : Result (TerminalKind × Cursor) Refusal → Got ℕ
+kind_step_says = says terminal_number
 
 -- the flags
-abbrev pub flags_says : FlagsStep → Result ModelFlags
-flags_says (GotFlags w c) = got (flags_are w) c.at
-flags_says (NoFlags k) = refused k
+abbrev pub flags_says : Result (Flags × Cursor) Refusal → Got ModelFlags
+flags_says = says flags_are
 
 -- an identifier
-abbrev pub identifier_says : IdentifierStep → Result ModelIdentifier
-identifier_says (GotIdentifier w c) = got (identifier_is w) c.at
-identifier_says (NoIdentifier k) = refused k
+abbrev pub identifier_says : Result (Identifier × Cursor) Refusal → Got ModelIdentifier
+identifier_says = says identifier_is
 
 -- a diagnostic
-abbrev pub diagnostic_says : DiagnosticStep → Result ModelDiagnostic
-diagnostic_says (GotDiagnostic w c) = got (diagnostic_is w) c.at
-diagnostic_says (NoDiagnostic k) = refused k
+abbrev pub diagnostic_says : Result (Diagnostic × Cursor) Refusal → Got ModelDiagnostic
+diagnostic_says = says diagnostic_is
+
+-- what the code's test answers is the test
+abbrev pub IsTest : (ℕ → Bool → Type 0) → (ℕ → Bool) → Type 0
+IsTest post t = (w : ℕ) (b : Bool) → post w b → b ≡ t w
+
+-- a word that passes the test, or this refusal: `count`, `fixed`, `at_most` and `below` of Reading are all this
+abbrev pub tested : (ℕ → Bool) → ℕ → Read ℕ
+tested t refusal = word >>= λ (w : ℕ). pick (t w) (pure w) (refuse refusal)
 
 -- a place if the effect uses it, else three words 0, but for an instance as the first
 abbrev pub place_or_unused : Bool → ℕ → ℕ → Read ModelPlace

@@ -27,42 +27,43 @@ pub const DIAGNOSTIC_WIDTH: usize = 2;
 pub const FLAGS_WIDTH: usize = 3;
 
 // A list: how many parts, and where the first stands.
-#[derive(Clone, Copy)]
+#[derive(Clone, Copy, Debug, PartialEq, Eq)]
 pub struct List {
     pub count: u32,
     pub first: usize,
 }
 
 // A phi operand.
-#[derive(Clone, Copy)]
+#[derive(Clone, Copy, Debug, PartialEq, Eq)]
 pub struct Operand {
     pub predecessor: BlockId,
     pub place: Place,
 }
 
 // A phi.
-#[derive(Clone, Copy)]
+#[derive(Clone, Copy, Debug, PartialEq, Eq)]
 pub struct Phi {
     pub place: Place,
     pub operands: List,
 }
 
 // An instruction's value, and the position after it.
-#[derive(Clone, Copy)]
+#[derive(Clone, Copy, Debug, PartialEq, Eq)]
 pub struct Value {
     pub value: InstructionValue,
     pub next: usize,
 }
 
 // An instruction's effects: whether the list is there, and the list, empty if it is not.
-#[derive(Clone, Copy)]
+// Kept: all but one of the users go over the list and do not ask whether it is there; an Option would be opened in each.
+#[derive(Clone, Copy, Debug, PartialEq, Eq)]
 pub struct Effects {
     pub listed: bool,
     pub list: List,
 }
 
 // An instruction.
-#[derive(Clone, Copy)]
+#[derive(Clone, Copy, Debug, PartialEq, Eq)]
 pub struct Instruction {
     pub order: EvaluationOrder,
     pub lvalue: Place,
@@ -74,7 +75,7 @@ pub struct Instruction {
 }
 
 // A terminal: its operands, or its value and its effects.
-#[derive(Clone, Copy)]
+#[derive(Clone, Copy, Debug, PartialEq, Eq)]
 pub enum Terminal {
     Other(List),
     Return(Place, List),
@@ -86,28 +87,23 @@ pub fn place_at(s: &[u32], at: usize) -> Place
     ensures { place_is result ≡ place_at s.now at }
 {
     let traits = s[at + 1];
-    let effect = effect_in(traits);
-    let reactive = reactive_of(traits);
     Place {
         identifier: IdentifierId(s[at]),
-        effect,
-        reactive,
+        effect: effect_in(traits),
+        reactive: reactive_of(traits),
         span: s[at + 2],
     }
 }
 
+#[tactic(auto, using(crate::proofs::AtLaws::row_kind))]
 pub fn effect_at(s: &[u32], at: usize) -> AliasingEffect
     requires { at + effect_width ≤ length s.now }
     ensures { effect_is result ≡ effect_at s.now at }
 {
-    let row = row_of(s[at]);
-    let kind = row.kind;
-    let first = place_at(s, at + 1);
-    let second = place_at(s, at + 4);
     AliasingEffect {
-        kind,
-        first,
-        second,
+        kind: row_of(s[at]).kind,
+        first: place_at(s, at + 1),
+        second: place_at(s, at + 4),
         extra: s[at + 7],
     }
 }
@@ -116,10 +112,9 @@ pub fn operand_at(s: &[u32], at: usize) -> Operand
     requires { at + operand_width ≤ length s.now }
     ensures { operand_is result ≡ operand_at s.now at }
 {
-    let place = place_at(s, at + 1);
     Operand {
         predecessor: BlockId(s[at]),
-        place,
+        place: place_at(s, at + 1),
     }
 }
 
@@ -127,14 +122,12 @@ pub fn identifier_at(s: &[u32], at: usize) -> Identifier
     requires { at + identifier_width ≤ length s.now }
     ensures { identifier_is result ≡ identifier_at s.now at }
 {
-    let mutable_range = MutableRange {
-        start: EvaluationOrder(s[at]),
-        end: EvaluationOrder(s[at + 1]),
-    };
-    let kind = type_of(s[at + 2]);
     Identifier {
-        mutable_range,
-        kind,
+        mutable_range: MutableRange {
+            start: EvaluationOrder(s[at]),
+            end: EvaluationOrder(s[at + 1]),
+        },
+        kind: type_of(s[at + 2]),
     }
 }
 
@@ -172,9 +165,10 @@ pub fn phi_at(s: &[u32], at: usize) -> Phi
     requires { at + place_width + 1 ≤ length s.now }
     ensures { PhiAt s.now at result }
 {
-    let place = place_at(s, at);
-    let operands = list_at(s, at + PLACE_WIDTH);
-    Phi { place, operands }
+    Phi {
+        place: place_at(s, at),
+        operands: list_at(s, at + PLACE_WIDTH),
+    }
 }
 
 // The order of an instruction.
@@ -193,6 +187,7 @@ pub fn past_places(s: &[u32], list: List) -> usize
     list.first + PLACE_WIDTH * (list.count as usize)
 }
 
+#[tactic(auto, using(crate::proofs::Widths::value_rises))]
 pub fn value_at(s: &[u32], at: usize) -> Value
     requires { (value_from s.now at).next ≤ length s.now }
     ensures { ValueAt s.now at result }
@@ -222,17 +217,19 @@ fn effects_at(s: &[u32], at: usize) -> Effects
     let count = s[at];
     let first = at + 1;
     if count == ABSENT_COUNT {
-        return Effects {
+        Effects {
             listed: false,
             list: List { count: 0, first },
-        };
-    }
-    Effects {
-        listed: true,
-        list: List { count, first },
+        }
+    } else {
+        Effects {
+            listed: true,
+            list: List { count, first },
+        }
     }
 }
 
+#[tactic(auto, using(crate::proofs::Values::lvalues_inside))]
 pub fn instruction_at(s: &[u32], at: usize) -> Instruction
     requires { (instruction_from s.now at).next ≤ length s.now }
     ensures { InstructionAt s.now at result }
@@ -242,17 +239,15 @@ pub fn instruction_at(s: &[u32], at: usize) -> Instruction
     let value_lvalues = list_at(s, at + 1 + PLACE_WIDTH);
     let operands = list_at(s, past_places(s, value_lvalues));
     let v = value_at(s, past_places(s, operands));
-    let value = v.value;
     let e = effects_at(s, v.next);
-    let effects = e.list;
     Instruction {
         order,
         lvalue,
         value_lvalues,
         operands,
-        value,
+        value: v.value,
         listed: e.listed,
-        effects,
+        effects: e.list,
     }
 }
 
@@ -267,24 +262,15 @@ pub fn diagnostic_at(s: &[u32], at: usize) -> Diagnostic
     }
 }
 
+#[tactic(auto, using(crate::proofs::Widths::terminal_rises, crate::proofs::Widths::return_rises))]
 pub fn terminal_at(s: &[u32], at: usize) -> Terminal
     requires { (terminal_from s.now at).next ≤ length s.now }
     ensures { TerminalAt s.now at result }
 {
     let inside = at + 2;
     match s[at] {
-        0 => {
-            let operands = list_at(s, inside);
-            Terminal::Other(operands)
-        }
-        1 => {
-            let value = place_at(s, inside);
-            let effects = list_at(s, inside + PLACE_WIDTH);
-            Terminal::Return(value, effects)
-        }
-        _ => {
-            let list = list_at(s, inside);
-            Terminal::MaybeThrow(list)
-        }
+        0 => Terminal::Other(list_at(s, inside)),
+        1 => Terminal::Return(place_at(s, inside), list_at(s, inside + PLACE_WIDTH)),
+        _ => Terminal::MaybeThrow(list_at(s, inside)),
     }
 }

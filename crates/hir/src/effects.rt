@@ -7,10 +7,10 @@ ghost use Rattle.hir.specs.Says.{word_says, effect_says, effect_is, diagnostic_i
 ghost use Rattle.hir.specs.Table.{role_says, row_says, table_row, OwnRow};
 
 use crate::limits::{MOST_DIAGNOSTIC, MOST_KIND};
-use crate::{AliasingEffect, Cursor, Diagnostic, EffectKind, EffectStep, PlaceStep, WordStep};
+use crate::{AliasingEffect, Cursor, Diagnostic, EffectKind, Step};
 
 // What an effect of an instruction is for.
-#[derive(Clone, Copy)]
+#[derive(Clone, Copy, Debug, PartialEq, Eq)]
 pub enum Role {
     Relation,
     Mutation,
@@ -20,7 +20,7 @@ pub enum Role {
 }
 
 // How many places a kind uses, the largest instance of its diagnostic (0 where it has none), and its largest extra word.
-#[derive(Clone, Copy)]
+#[derive(Clone, Copy, Debug, PartialEq, Eq)]
 pub struct Row {
     pub kind: EffectKind,
     pub places: u32,
@@ -143,11 +143,11 @@ const ROWS: [Row; 18] = [
 pub fn row_of(number: u32) -> Row
     ensures { row_says result ≡ table_row number }
 {
-    if MOST_KIND < number {
-        return ROWS[0];
+    if number <= MOST_KIND {
+        ROWS[number as usize]
+    } else {
+        ROWS[0]
     }
-    let k = number as usize;
-    ROWS[k]
 }
 
 // What an effect of each kind is for, by the kind's number.
@@ -176,58 +176,44 @@ const ROLES: [Role; 18] = [
 pub fn role_of(kind: EffectKind) -> Role
     ensures { role_says result ≡ (row_of (kind_says kind)).role }
 {
-    let k = u32::from(kind) as usize;
-    ROLES[k]
+    ROLES[u32::from(kind) as usize]
 }
 
 // The diagnostic of an effect that is a diagnosis.
 pub fn diagnostic_of(e: AliasingEffect) -> Diagnostic
     ensures { diagnostic_is result ≡ diagnostic_of (effect_is e) }
 {
-    let second = e.second;
-    let identifier = second.identifier;
     Diagnostic {
         identity: e.extra,
-        instance: identifier.0,
+        instance: e.second.identifier.0,
     }
 }
 
 // The extra word: at most the table's; for CreateFunction below the count of inner functions.
-fn extra(c: Cursor, s: &[u32], m: u32, row: Row) -> WordStep
+fn extra(c: Cursor, s: &[u32], m: u32, row: Row) -> Step<u32>
     requires { row.extra ≡ (row_of (kind_says row.kind)).extra }
     ensures { word_says result ≡ extra m (kind_says row.kind) s.now c.at }
 {
-    let kind = row.kind;
-    let most = row.extra;
-    if kind == EffectKind::CreateFunction {
+    if row.kind == EffectKind::CreateFunction {
         c.below(s, m)
     } else {
-        c.at_most(s, most)
+        c.at_most(s, row.extra)
     }
 }
 
 // An effect after its kind, over `n` identifiers and `m` inner functions: first place, second place, extra.
-pub fn effect_after(c: Cursor, s: &[u32], n: u32, m: u32, row: Row) -> EffectStep
+pub fn effect_after(c: Cursor, s: &[u32], n: u32, m: u32, row: Row) -> Step<AliasingEffect>
     requires { OwnRow (row_says row) }
     ensures { effect_says result ≡ effect_after n m (kind_says row.kind) s.now c.at }
 {
-    let kind = row.kind;
-    match c.place_if(s, n, 1 <= row.places, 0) {
-        PlaceStep::Got(first, c1) => match c1.place_if(s, n, 2 <= row.places, row.instance) {
-            PlaceStep::Got(second, c2) => match extra(c2, s, m, row) {
-                WordStep::Got(x, c3) => {
-                    let e = AliasingEffect {
-                        kind,
-                        first,
-                        second,
-                        extra: x,
-                    };
-                    EffectStep::Got(e, c3)
-                }
-                WordStep::Refused(k3) => EffectStep::Refused(k3),
-            },
-            PlaceStep::Refused(k2) => EffectStep::Refused(k2),
-        },
-        PlaceStep::Refused(k1) => EffectStep::Refused(k1),
-    }
+    let (first, c) = c.place_if(s, n, 1 <= row.places, 0)?;
+    let (second, c) = c.place_if(s, n, 2 <= row.places, row.instance)?;
+    let (extra, c) = extra(c, s, m, row)?;
+    let effect = AliasingEffect {
+        kind: row.kind,
+        first,
+        second,
+        extra,
+    };
+    Ok((effect, c))
 }

@@ -12,6 +12,8 @@ pub mod places;
 pub mod refusal;
 pub mod words;
 
+use refusal::Refusal;
+
 // An identifier's number, below the count of identifiers.
 #[derive(Clone, Copy, Debug, PartialEq, Eq)]
 pub struct IdentifierId(pub u32);
@@ -235,72 +237,5 @@ pub struct Cursor {
     pub at: usize,
 }
 
-// A word and the position after it, or a refusal.
-#[derive(Clone, Copy, Debug, PartialEq, Eq)]
-pub enum WordStep {
-    Got(u32, Cursor),
-    Refused(u32),
-}
-
-// A place and the position after it, or a refusal.
-#[derive(Clone, Copy, Debug, PartialEq, Eq)]
-pub enum PlaceStep {
-    Got(Place, Cursor),
-    Refused(u32),
-}
-
-// An effect and the position after it, or a refusal.
-#[derive(Clone, Copy, Debug, PartialEq, Eq)]
-pub enum EffectStep {
-    Got(AliasingEffect, Cursor),
-    Refused(u32),
-}
-
-// An order and the position after it, or a refusal.
-#[derive(Clone, Copy, Debug, PartialEq, Eq)]
-pub enum OrderStep {
-    Got(EvaluationOrder, Cursor),
-    Refused(u32),
-}
-
-// A block's number and the position after it, or a refusal.
-#[derive(Clone, Copy, Debug, PartialEq, Eq)]
-pub enum BlockStep {
-    Got(BlockId, Cursor),
-    Refused(u32),
-}
-
-// An instruction's value and the position after it, or a refusal.
-#[derive(Clone, Copy, Debug, PartialEq, Eq)]
-pub enum ValueStep {
-    Got(InstructionValue, Cursor),
-    Refused(u32),
-}
-
-// A terminal's kind and the position after it, or a refusal.
-#[derive(Clone, Copy, Debug, PartialEq, Eq)]
-pub enum KindStep {
-    Got(TerminalKind, Cursor),
-    Refused(u32),
-}
-
-// The flags and the position after them, or a refusal.
-#[derive(Clone, Copy, Debug, PartialEq, Eq)]
-pub enum FlagsStep {
-    Got(Flags, Cursor),
-    Refused(u32),
-}
-
-// An identifier and the position after it, or a refusal.
-#[derive(Clone, Copy, Debug, PartialEq, Eq)]
-pub enum IdentifierStep {
-    Got(Identifier, Cursor),
-    Refused(u32),
-}
-
-// A diagnostic and the position after it, or a refusal.
-#[derive(Clone, Copy, Debug, PartialEq, Eq)]
-pub enum DiagnosticStep {
-    Got(Diagnostic, Cursor),
-    Refused(u32),
-}
+// A part and the position after it, or a refusal.
+pub type Step<T> = Result<(T, Cursor), Refusal>;

@@ -7,7 +7,7 @@ ghost use Rattle.hir.specs.Numbers.{effect_number};
 ghost use Rattle.hir.specs.Says.{place_says, place_or_unused};
 
 use crate::limits::MOST_TRAITS;
-use crate::{Cursor, Effect, IdentifierId, Place, PlaceStep, WordStep};
+use crate::{Cursor, Effect, IdentifierId, Place, Step};
 
 // The effects by their numbers.
 const EFFECTS: [Effect; 8] = [
@@ -30,9 +30,10 @@ fn position_of(traits: u32) -> u32
     ensures { result ≡ effect_of traits }
 {
     if REACTIVE <= traits {
-        return traits - REACTIVE;
+        traits - REACTIVE
+    } else {
+        traits
     }
-    traits
 }
 
 // The effect that a traits word names.
@@ -40,11 +41,11 @@ pub fn effect_of(traits: u32) -> Effect
     requires { traits ≤ most_traits }
     ensures { effect_number result ≡ effect_of traits }
 {
-    let k = position_of(traits) as usize;
-    EFFECTS[k]
+    EFFECTS[position_of(traits) as usize]
 }
 
 // Whether a traits word says reactive.
+#[tactic(auto, unfolding(model::specs::Traits::reactive_of))]
 pub fn reactive_of(traits: u32) -> bool
     ensures { result ≡ reactive_of traits }
 {
@@ -59,68 +60,54 @@ pub fn effect_in(word: u32) -> Effect
 }
 
 // The traits word of both.
+#[tactic(auto, using(crate::proofs::Ranges::effect_number_lem), unfolding(model::specs::Traits::traits_word))]
 pub fn traits_word(effect: Effect, reactive: bool) -> u32
     ensures { result ≡ traits_word (effect_number effect) reactive }
 {
     let position = u32::from(effect);
     if reactive {
-        return position + REACTIVE;
+        position + REACTIVE
+    } else {
+        position
     }
-    position
 }
 
 impl Cursor {
     // A place of an identifier below `n`.
-    pub fn place(self, s: &[u32], n: u32) -> PlaceStep
+    #[tactic(auto, unfolding(model::specs::Sections::place))]
+    pub fn place(self, s: &[u32], n: u32) -> Step<Place>
         ensures { place_says result ≡ place n s.now self.at }
     {
-        match self.below(s, n) {
-            WordStep::Got(i, c1) => match c1.at_most(s, MOST_TRAITS) {
-                WordStep::Got(traits, c2) => match c2.word(s) {
-                    WordStep::Got(span, c3) => {
-                        let effect = effect_of(traits);
-                        let reactive = reactive_of(traits);
-                        let p = Place {
-                            identifier: IdentifierId(i),
-                            effect,
-                            reactive,
-                            span,
-                        };
-                        PlaceStep::Got(p, c3)
-                    }
-                    WordStep::Refused(k3) => PlaceStep::Refused(k3),
-                },
-                WordStep::Refused(k2) => PlaceStep::Refused(k2),
-            },
-            WordStep::Refused(k1) => PlaceStep::Refused(k1),
-        }
+        let (identifier, c) = self.below(s, n)?;
+        let (traits, c) = c.at_most(s, MOST_TRAITS)?;
+        let (span, c) = c.word(s)?;
+        let place = Place {
+            identifier: IdentifierId(identifier),
+            effect: effect_of(traits),
+            reactive: reactive_of(traits),
+            span,
+        };
+        Ok((place, c))
     }
 
     // A place that an effect does not use: three words 0, but for an instance as the first.
-    fn unused(self, s: &[u32], instance: u32) -> PlaceStep
+    #[tactic(auto, unfolding(model::specs::Sections::unused))]
+    fn unused(self, s: &[u32], instance: u32) -> Step<Place>
         ensures { place_says result ≡ unused instance s.now self.at }
     {
-        match self.at_most(s, instance) {
-            WordStep::Got(i, c1) => match c1.at_most(s, 0) {
-                WordStep::Got(_, c2) => match c2.at_most(s, 0) {
-                    WordStep::Got(_, c3) => {
-                        let p = Place {
-                            identifier: IdentifierId(i),
-                            effect: Effect::Unknown,
-                            reactive: false,
-                            span: 0,
-                        };
-                        PlaceStep::Got(p, c3)
-                    }
-                    WordStep::Refused(k3) => PlaceStep::Refused(k3),
-                },
-                WordStep::Refused(k2) => PlaceStep::Refused(k2),
-            },
-            WordStep::Refused(k1) => PlaceStep::Refused(k1),
-        }
+        let (identifier, c) = self.at_most(s, instance)?;
+        let (_, c) = c.at_most(s, 0)?;
+        let (_, c) = c.at_most(s, 0)?;
+        let place = Place {
+            identifier: IdentifierId(identifier),
+            effect: Effect::Unknown,
+            reactive: false,
+            span: 0,
+        };
+        Ok((place, c))
     }
 
-    pub fn place_if(self, s: &[u32], n: u32, used: bool, instance: u32) -> PlaceStep
+    pub fn place_if(self, s: &[u32], n: u32, used: bool, instance: u32) -> Step<Place>
         ensures { place_says result ≡ place_or_unused used n instance s.now self.at }
     {
         if used {

@@ -4,26 +4,8 @@ use mathlib.Core.Path.{sym, subst, ◌∙◌}
 use lib.ListN.{length}
 use Rattle.hir.specs.Words.{value_from}
 use Rattle.model.specs.Reading.{Position}
-use Rattle.hir.proofs.Values.{list_as, value_as, effects_as, list_end, lvalues_inside, operands_inside, value_inside, effects_inside}
+use Rattle.hir.proofs.Values.{list_as, value_as, effects_as, list_end, operands_inside, value_inside, effects_inside}
 use Rattle.hir.proofs.at.instruction_at.Goals as goal
-
-pub order_at-order-requires : goal.order_at-order-requires
-order_at-order-requires c = omega (arith, lvalues_inside c.args.s.now c.args.at c.requires)
-
-pub overflow_add-at : goal.overflow_add-at
-overflow_add-at c = omega (arith, lvalues_inside c.args.s.now c.args.at c.requires)
-
-pub place_at-lvalue-requires : goal.place_at-lvalue-requires
-place_at-lvalue-requires c = omega (arith, lvalues_inside c.args.s.now c.args.at c.requires)
-
-pub overflow_add-at-2 : goal.overflow_add-at-2
-overflow_add-at-2 c = omega (arith, lvalues_inside c.args.s.now c.args.at c.requires)
-
-pub overflow_add-at-3 : goal.overflow_add-at-3
-overflow_add-at-3 c = omega (arith, lvalues_inside c.args.s.now c.args.at c.requires)
-
-pub list_at-value_lvalues-requires : goal.list_at-value_lvalues-requires
-list_at-value_lvalues-requires c = lvalues_inside c.args.s.now c.args.at c.requires
 
 pub past_places-requires : goal.past_places-requires
 past_places-requires c = omega (arith, list_end _ _ c.list_at-value_lvalues.ensures, operands_inside c.args.s.now c.args.at c.requires)

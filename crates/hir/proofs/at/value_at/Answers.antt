@@ -1,36 +1,14 @@
 use native.Mathlib.Omega.{arith}
 use mathlib.Core.Path.{sym}
-use Rattle.hir.proofs.Widths.{value_rises}
 use Rattle.hir.proofs.Standing.{part-value, part_next}
 use Rattle.hir.proofs.Values.{value_zero, value-one, value_more}
 use Rattle.hir.proofs.at.value_at.Goals as goal
 
-pub overflow_add-inside : goal.overflow_add-inside
-overflow_add-inside c = omega (arith, value_rises c.args.s.now c.args.at, c.requires)
-
-pub offset_bounds-s-at : goal.offset_bounds-s-at
-offset_bounds-s-at c = omega (arith, value_rises c.args.s.now c.args.at, c.requires)
-
-pub bounds-s-at : goal.bounds-s-at
-bounds-s-at c = omega (arith, value_rises c.args.s.now c.args.at, c.requires)
-
-pub offset_bounds-s-inside : goal.offset_bounds-s-inside
-offset_bounds-s-inside c = omega (arith, part_next (value-one c.args.s.now c.args.at c.in-1.is), c.requires)
-
 pub bounds-s-inside : goal.bounds-s-inside
 bounds-s-inside c = omega (arith, part_next (value-one c.args.s.now c.args.at c.in-1.is), c.requires)
 
-pub overflow_add-result : goal.overflow_add-result
-overflow_add-result c = omega (arith, part_next (value-one c.args.s.now c.args.at c.in-1.is), c.requires)
-
-pub offset_bounds-s-inside-in_default : goal.offset_bounds-s-inside-in_default
-offset_bounds-s-inside-in_default c = omega (arith, part_next (value_more c.args.s.now c.args.at c.in_default.in_default-own.rest), c.requires)
-
 pub bounds-s-inside-in_default : goal.bounds-s-inside-in_default
-bounds-s-inside-in_default c = omega (arith, part_next (value_more c.args.s.now c.args.at c.in_default.in_default-own.rest), c.requires)
-
-pub overflow_add-result-in_default : goal.overflow_add-result-in_default
-overflow_add-result-in_default c = omega (arith, part_next (value_more c.args.s.now c.args.at c.in_default.in_default-own.rest), c.requires)
+bounds-s-inside-in_default c = omega (arith, part_next (value_more c.args.s.now c.args.at (omega arith)), c.requires)
 
 pub returns-in-0 : goal.returns-in-0
 returns-in-0 c =
@@ -44,5 +22,5 @@ returns-in-1 c =
 
 pub returns-in_default : goal.returns-in_default
 returns-in_default c =
-    let e = value_more c.args.s.now c.args.at c.in_default.in_default-own.rest in
+    let e = value_more c.args.s.now c.args.at (omega arith) in
     record { value = sym (part-value e); next = sym (part_next e) }
