@@ -15,26 +15,21 @@ pub fn track(ws: &mut [u32], i: usize, p: Place)
     requires identifier_lt_most_identifiers { p.identifier.0 < most_identifiers }
     ensures { Tracks ws.old i (place_is p) ws.new }
 {
-    let identifier = p.identifier;
-    let effect = p.effect;
-    let traits = traits_word(effect, p.reactive);
-    ws[TRACKED + 2 * i] = identifier.0 + 512 * traits;
+    ws[TRACKED + 2 * i] = p.identifier.0 + 512 * traits_word(p.effect, p.reactive);
     ws[TRACKED + 2 * i + 1] = p.span;
 }
 
 // Place i.
+#[tactic(auto, unfolding(crate::specs::Tracked::tracked_at, crate::specs::Tracked::place_of))]
 pub fn tracked(ws: &[u32], i: usize) -> Place
     requires { (i < most_tracked) × (LEAST ≤ length ws.now) }
     ensures { place_is result ≡ tracked_at ws.now i }
 {
     let w = ws[TRACKED + 2 * i];
-    let span = ws[TRACKED + 2 * i + 1];
-    let effect = effect_in(w / 512);
-    let reactive = reactive_of(w / 512);
     Place {
         identifier: IdentifierId(w % 512),
-        effect,
-        reactive,
-        span,
+        effect: effect_in(w / 512),
+        reactive: reactive_of(w / 512),
+        span: ws[TRACKED + 2 * i + 1],
     }
 }
