@@ -1,3 +1,4 @@
+pub mod Bits
 pub mod Sizes
 pub mod Pushing
 pub mod PushLaws

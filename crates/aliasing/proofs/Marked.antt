@@ -185,7 +185,7 @@ module _ (m : Mutation) (base : ℕ) (ws : List ℕ) (top hand : ℕ) (ready : R
 
         records₃ : records_of (nodes_of ws₃) ≡ touched
         unfolding item_of
-        records₃ = ap records_of nodes₃ ∙ accept_records (nodes_of ws) (nodes_length ws ready.size) (place_at ws top) (kind_at ws top) x_below k_below m callable.reason (transitive_at ws top)
+        records₃ = ap records_of nodes₃ ∙ accept_records (nodes_of ws) (nodes_length ws ready.size) (place_at ws top) (kind_at ws top) x_below k_below m (transitive_at ws top)
 
         state₃ : state_of ws₃ h
             ≡ accepts (mode_says m) (mutation_says m) (place_at ws top) (value_of (value (rows_of ws) (place_at ws top))) (item_of (last ws top)).transitive (item_of (last ws top)).kind (state_of ws hand)

@@ -10,7 +10,7 @@ use lib.Seq.{get_or-set_same, get_or-set_other, drop-set-lt}
 use lib.Dec.{eqb}
 use Rattle.model.specs.Limits.{most_order}
 use Rattle.model.specs.Lists.{Every}
-use Rattle.model.specs.Mutation.{definite, Mutation}
+use Rattle.model.specs.Mutation.{Mutation}
 use Rattle.model.specs.State.{State, Mode, real}
 use Rattle.model.specs.Walks.{Walk, mutate}
 use Rattle.model.specs.Runs.{walks_of, after}
@@ -21,23 +21,23 @@ use Rattle.workspace.specs.Pending.{kind_of, mutation_of, mutation_at, mutations
 use Rattle.workspace.proofs.Parts.{kept_none, kept_set, drop_more, drop-word}
 use Rattle.workspace.proofs.Tables.{tab-same}
 use Rattle.workspace.proofs.Pending.{mutations_next, mutations_end, mutations_kept}
-use Rattle.aliasing.specs.declared.MutationKind.{MutationKind}
+use Rattle.std.specs.Prelude.{Option}
+use Rattle.hir.specs.declared.MutationKind.{MutationKind}
+use Rattle.hir.specs.declared.MutationReason.{MutationReason}
+use Rattle.hir.specs.Mutations.{kind_says, reason_bit}
 use Rattle.aliasing.specs.declared.Mutation.{Mutation as CodeMutation}
-use Rattle.aliasing.specs.Says.{kind_says, mode_of, mode_says, mutation_says}
+use Rattle.aliasing.specs.Says.{mode_of, mode_says, mutation_says}
 use Rattle.aliasing.specs.State.{state_of, Handing}
 use Rattle.aliasing.specs.Walks.{index_room, Unmarked, Mutated}
 use Rattle.aliasing.specs.Pending.{Pending, Made, taken_of, Processed}
+use Rattle.aliasing.proofs.Bits.{reason_is}
 use Rattle.aliasing.proofs.Parts.{slice_below, nodes_below, rows_below}
 use Rattle.aliasing.proofs.Hands.{handing_behind}
 use Rattle.aliasing.proofs.Entries.{state_same}
 use Rattle.aliasing.proofs.Begin.{Remarked, remarked, unmarked_handing}
 
 -- ---- one mutation by its words
-pub kind_definite : (b : ℕ) → (b ≡ 0 → ⊥) → definite ≡ kind_of b
-kind_definite zero h = absurd (h refl)
-kind_definite (suc b) h = refl
-
-pub made : (w order span : ℕ) (errors : Bool) (kind : MutationKind) → w / 4096 < index_room → kind_says kind ≡ kind_of (w / 1024 % 2)
+pub made : (w order span : ℕ) (errors : Bool) (kind : MutationKind) (reason : Option MutationReason) → w / 4096 < index_room → kind_says kind ≡ kind_of (w / 1024 % 2) → reason_bit reason ≡ w / 2048 % 2
     → Made w order span errors (record {
       index = w / 4096;
       start = record { 0 = w % 512 };
@@ -45,17 +45,17 @@ pub made : (w order span : ℕ) (errors : Bool) (kind : MutationKind) → w / 40
       transitive = eqb (w / 512 % 2) 1;
       kind = kind;
       span = span;
-      reason = w / 2048 % 2;
+      reason = reason;
       should_record_errors = errors;
     })
 unfolding mutation_says mode_says mutation_of
-made w order span errors kind low k =
+made w order span errors kind reason low k r =
     let e : order + 1 ≡ suc order = omega arith in
     let p : order + 1 - 1 ≡ order = omega arith in
     record {
-      is = rw (p, k);
+      is = rw (p, k, sym (reason_is reason), r);
       how = ap (λ (n : ℕ). mode_of n errors) e;
-      callable = record { start = omega arith; reason = omega arith; index = low; quiet = λ z. absurd (omega (arith, z)) };
+      callable = record { start = omega arith; index = low; quiet = λ z. absurd (omega (arith, z)) };
     }
 
 -- ---- each order

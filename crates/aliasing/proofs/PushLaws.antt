@@ -1,20 +1,20 @@
 -- One push after another, and the four pushes of an accepted node: the room that is left for each, and what they push together.
 use Prim.Native.Nat.{ℕ, ◌+◌, ◌-◌, ◌*◌, ◌≤◌, ◌<◌}
 use native.Mathlib.Omega.{arith}
-use mathlib.Core.Bool.{true, false}
+use mathlib.Core.Bool.{Bool, true, false}
 use mathlib.Core.List.{List, [], ◌++◌, append_assoc}
 use mathlib.Core.Path.{◌≡◌, sym, ap, subst, ◌∙◌}
-use lib.ListN.{length, take, drop, length-append}
+use lib.ListN.{length, get_or, take, drop, length-append}
 use lib.Seq.{slice, sets-eq, length-sets, length-take-le, take_at, drop-append-le}
-use borrow.Author.Tests.{eq-eqb, ne_eqb}
 use Rattle.model.specs.Limits.{most_identifiers}
-use Rattle.workspace.specs.Layout.{VALUE, QUEUE}
+use Rattle.workspace.specs.Layout.{LEAST, VALUE, QUEUE}
 use Rattle.workspace.specs.Rows.{rows_of, value, row_f, row_b, Good, Kept}
 use Rattle.aliasing.specs.Pushes.{Room, words_f, words_b, deg, forward_w, entries_w, blocked_w, aliases_w, captures_w, pushed_w}
 use Rattle.writing.specs.Wrote.{Wrote}
 use Rattle.writing.proofs.Writing.{wrote_then}
 use Rattle.workspace.proofs.Parts.{slice_take, take_sets, drop_sets}
-use Rattle.workspace.proofs.Rows.{rows_length}
+use Rattle.workspace.proofs.Rows.{rows_length, value_at_lem}
+use Rattle.aliasing.specs.Says.{bit}
 use Rattle.aliasing.proofs.Sizes.{deg_is, forward_le, row_f-length, list_le, aliases_le}
 
 pub pushed_length : {ws : List ℕ} {top : ℕ} {vs ws' : List ℕ} {r : ℕ} → Wrote vs ws top ws' r → length ws' ≡ length ws
@@ -58,28 +58,31 @@ room_then f a {ws} {top} {vs} {ws'} {r} room p h =
 pub pushed_on : (f : List ℕ → List ℕ) {ws : List ℕ} {top : ℕ} {a ws₁ : List ℕ} {t₁ : ℕ} {ws₂ : List ℕ} {t₂ : ℕ} → QUEUE ≤ top → Wrote a ws top ws₁ t₁ → Wrote (f (rows_of ws₁)) ws₁ t₁ ws₂ t₂ → Wrote (a ++ f (rows_of ws)) ws top ws₂ t₂
 pushed_on f {ws} {top} {a} {ws₁} {t₁} {ws₂} {t₂} h p q = wrote_then p (subst (λ (g : List ℕ). Wrote (f g) ws₁ t₁ ws₂ t₂) (pushed_graph p h) q)
 
-pub aliases_open : (g : List ℕ) (x direction index transitive kind : ℕ) → blocked_w (value g x) direction ≡ false
-    → entries_w index transitive kind (row_b g (4 * x + 1)) ++ entries_w index transitive 0 (row_b g (4 * x + 2)) ≡ aliases_w g x direction index transitive kind
-unfolding aliases_w
-aliases_open g x direction index transitive kind h = rw h
+module _ (ws : List ℕ) (size : LEAST ≤ length ws) (x direction index transitive kind : ℕ) (h : x < most_identifiers) {b : Bool} (is : b ≡ blocked_w (get_or ws (VALUE + x) 0) direction) where
+  blocked_is : blocked_w (value (rows_of ws) x) direction ≡ b
+  blocked_is = ap (λ (v : ℕ). blocked_w v direction) (value_at_lem ws size x h) ∙ sym is
 
-pub aliases_shut : (g : List ℕ) (x direction index transitive kind : ℕ) → blocked_w (value g x) direction ≡ true → [] ≡ aliases_w g x direction index transitive kind
-unfolding aliases_w
-aliases_shut g x direction index transitive kind h = rw h
+  pub aliases_open : b ≡ false → entries_w index transitive kind (row_b (rows_of ws) (4 * x + 1)) ++ entries_w index transitive 0 (row_b (rows_of ws) (4 * x + 2)) ≡ aliases_w (rows_of ws) x direction index transitive kind
+  unfolding aliases_w
+  aliases_open e = rw (blocked_is ∙ e)
 
-pub captures_open : (g : List ℕ) (x index transitive kind : ℕ) → transitive ≡ 1 → entries_w index transitive kind (row_b g (4 * x + 3)) ≡ captures_w g x index transitive kind
+  pub aliases_shut : b ≡ true → [] ≡ aliases_w (rows_of ws) x direction index transitive kind
+  unfolding aliases_w
+  aliases_shut e = rw (blocked_is ∙ e)
+
+pub captures_open : (g : List ℕ) (x index : ℕ) (transitive : Bool) (kind : ℕ) → transitive ≡ true → entries_w index (bit transitive) kind (row_b g (4 * x + 3)) ≡ captures_w g x index (bit transitive) kind
 unfolding captures_w
-captures_open g x index transitive kind h = rw (eq-eqb transitive 1 h)
+captures_open g x index transitive kind h = rw h
 
-pub captures_shut : (g : List ℕ) (x index transitive kind : ℕ) → (transitive ≡ 1 → ⊥) → [] ≡ captures_w g x index transitive kind
+pub captures_shut : (g : List ℕ) (x index : ℕ) (transitive : Bool) (kind : ℕ) → transitive ≡ false → [] ≡ captures_w g x index (bit transitive) kind
 unfolding captures_w
-captures_shut g x index transitive kind h = rw (ne_eqb transitive 1 h)
+captures_shut g x index transitive kind h = rw h
 
 pub room_less : (a b : ℕ) {ws : List ℕ} {top : ℕ} → a ≤ b → Room ws top b → Room ws top a
 room_less a b h room = record { size = room.size; low = room.low; good = room.good; room = omega (arith, room.room) }
 
 -- ---- the four pushes
-module _ (ws : List ℕ) (top x direction index transitive kind : ℕ) (room : Room ws top (deg (rows_of ws) x)) (h : x < most_identifiers) where
+module _ (ws : List ℕ) (top x index transitive kind : ℕ) (room : Room ws top (deg (rows_of ws) x)) (h : x < most_identifiers) where
   size : length (rows_of ws) ≡ QUEUE - VALUE
   size = rows_length ws room.size
 
@@ -88,9 +91,6 @@ module _ (ws : List ℕ) (top x direction index transitive kind : ℕ) (room : R
 
   pub F_le : length (forward_w index transitive kind (row_f (rows_of ws) x)) ≤ words_f (rows_of ws) x
   F_le = omega (arith, forward_le index transitive kind (row_f (rows_of ws) x), row_f-length (rows_of ws) size room.good x h)
-
-  pub room_edges : Room ws top (words_f (rows_of ws) x)
-  room_edges = room_less _ _ (omega (arith, is)) room
 
   module _ (ws₁ : List ℕ) (t₁ : ℕ) (p₁ : Wrote (forward_w index transitive kind (row_f (rows_of ws) x)) ws top ws₁ t₁) where
     pub room_created : Room ws₁ t₁ (words_b (rows_of ws₁) (4 * x))
@@ -107,7 +107,7 @@ module _ (ws : List ℕ) (top x direction index transitive kind : ℕ) (room : R
       room_aliases =
           room_then (λ g. words_b g (4 * x + 1) + words_b g (4 * x + 2)) (words_f (rows_of ws) x + words_b (rows_of ws) (4 * x)) (room_less _ _ (omega (arith, is)) room) two two_le
 
-      module _ (ws₃ : List ℕ) (t₃ : ℕ) (p₃ : Wrote (aliases_w (rows_of ws₂) x direction index transitive kind) ws₂ t₂ ws₃ t₃) where
+      module _ (direction : ℕ) (ws₃ : List ℕ) (t₃ : ℕ) (p₃ : Wrote (aliases_w (rows_of ws₂) x direction index transitive kind) ws₂ t₂ ws₃ t₃) where
         three : Wrote ((forward_w index transitive kind (row_f (rows_of ws) x) ++ entries_w index 1 kind (row_b (rows_of ws) (4 * x))) ++ aliases_w (rows_of ws) x direction index transitive kind) ws top ws₃ t₃
         three = pushed_on (λ g. aliases_w g x direction index transitive kind) room.low two p₃
 

@@ -66,75 +66,71 @@ pub entries_none : (index transitive kind f t : ℕ) (l : List ℕ) → f ≡ t 
 unfolding entries_w
 entries_none index transitive kind f t l e = rw (e, slice_empty t l)
 
--- what both loops keep, over the rule that a row is pushed by: what lies from i to `stop` is still to be pushed
-pub record PushInv (rule : List ℕ → List ℕ) (ws₀ : List ℕ) (at end top : ℕ) (ws : List ℕ) (i stop len : ℕ) : Type 0 where
-  pub mid : i ≤ stop
-  pub within : stop ≤ end
+-- what both loops keep, over the rule that a row is pushed by: what lies from i to `end` is still to be pushed
+pub record PushInv (rule : List ℕ → List ℕ) (ws₀ : List ℕ) (at end top : ℕ) (ws : List ℕ) (i len : ℕ) : Type 0 where
+  pub mid : i ≤ end
   pub clear : end ≤ top
-  pub room : len + (stop - i) ≤ length ws₀
-  pub push : Pushing ws₀ top (rule (slice at end ws₀)) ws len (rule (slice i stop ws₀))
+  pub room : len + (end - i) ≤ length ws₀
+  pub push : Pushing ws₀ top (rule (slice at end ws₀)) ws len (rule (slice i end ws₀))
 
-pub push_start : (rule : List ℕ → List ℕ) (ws : List ℕ) (at end top : ℕ) → at ≤ end → end ≤ top → top + (end - at) ≤ length ws → PushInv rule ws at end top ws at end top
-push_start rule ws at end top h k r = record { mid = h; within = omega arith; clear = k; room = r; push = pushing_start ws top _ }
+pub push_start : (rule : List ℕ → List ℕ) (ws : List ℕ) (at end top : ℕ) → at ≤ end → end ≤ top → top + (end - at) ≤ length ws → PushInv rule ws at end top ws at top
+push_start rule ws at end top h k r = record { mid = h; clear = k; room = r; push = pushing_start ws top _ }
 
-module _ {rule : List ℕ → List ℕ} {ws₀ : List ℕ} {at end top : ℕ} {ws : List ℕ} {i stop len : ℕ} (p : PushInv rule ws₀ at end top ws i stop len) where
-  onward : (rest : List ℕ) → rule (slice i stop ws₀) ≡ rest → Pushing ws₀ top (rule (slice at end ws₀)) ws len rest
+module _ {rule : List ℕ → List ℕ} {ws₀ : List ℕ} {at end top : ℕ} {ws : List ℕ} {i len : ℕ} (p : PushInv rule ws₀ at end top ws i len) where
+  onward : (rest : List ℕ) → rule (slice i end ws₀) ≡ rest → Pushing ws₀ top (rule (slice at end ws₀)) ws len rest
   onward rest q = subst (λ (l : List ℕ). Pushing ws₀ top (rule (slice at end ws₀)) ws len l) q p.push
 
-  pub push_end : rule (slice i stop ws₀) ≡ [] → Wrote (rule (slice at end ws₀)) ws₀ top ws len
+  pub push_end : rule (slice i end ws₀) ≡ [] → Wrote (rule (slice at end ws₀)) ws₀ top ws len
   push_end e = pushing_end (onward [] e)
 
-  pub push_more : (e : ℕ) → i < stop → rule (slice i stop ws₀) ≡ e ∷ rule (slice (i + 1) stop ws₀) → PushInv rule ws₀ at end top (set ws len e) (i + 1) stop (len + 1)
+  pub push_more : (e : ℕ) → i < end → rule (slice i end ws₀) ≡ e ∷ rule (slice (i + 1) end ws₀) → PushInv rule ws₀ at end top (set ws len e) (i + 1) (len + 1)
   push_more e h q = record {
     mid = omega arith;
-    within = p.within;
     clear = p.clear;
     room = omega (arith, p.room);
-    push = pushing_more (onward (e ∷ rule (slice (i + 1) stop ws₀)) q);
+    push = pushing_more (onward (e ∷ rule (slice (i + 1) end ws₀)) q);
   }
 
-  pub push_skip : (stop' : ℕ) → i < stop → i + 1 ≤ stop' → stop' ≤ stop → rule (slice i stop ws₀) ≡ rule (slice (i + 1) stop' ws₀) → PushInv rule ws₀ at end top ws (i + 1) stop' len
-  push_skip stop' h k l q = record {
-    mid = k;
-    within = omega (arith, p.within);
+  pub push_skip : i < end → rule (slice i end ws₀) ≡ rule (slice (i + 1) end ws₀) → PushInv rule ws₀ at end top ws (i + 1) len
+  push_skip h q = record {
+    mid = omega arith;
     clear = p.clear;
     room = omega (arith, p.room);
-    push = onward (rule (slice (i + 1) stop' ws₀)) q;
+    push = onward (rule (slice (i + 1) end ws₀)) q;
   }
 
   -- a word of the row, read while the queue is written, is the row's own
-  pub push_at : i < stop → get_or ws i 0 ≡ get_or ws₀ i 0
-  push_at h = below_at ws ws₀ top i p.push.below (omega (arith, p.clear, p.within))
+  pub push_at : i < end → get_or ws i 0 ≡ get_or ws₀ i 0
+  push_at h = below_at ws ws₀ top i p.push.below (omega (arith, p.clear))
 
-module _ (index transitive kind : ℕ) {ws₀ : List ℕ} {at end top : ℕ} {ws : List ℕ} {i stop len : ℕ} (p : PushInv (forward_w index transitive kind) ws₀ at end top ws i stop len) where
-  pub forward_turn : (e : ℕ) → i < stop → get_or ws i 0 / 2048 < index → e ≡ forward_e transitive kind (get_or ws i 0)
-      → PushInv (forward_w index transitive kind) ws₀ at end top (set ws len e) (i + 1) stop (len + 1)
+module _ (index transitive kind : ℕ) {ws₀ : List ℕ} {at end top : ℕ} {ws : List ℕ} {i len : ℕ} (p : PushInv (forward_w index transitive kind) ws₀ at end top ws i len) where
+  pub forward_turn : (e : ℕ) → i < end → get_or ws i 0 / 2048 < index → e ≡ forward_e transitive kind (get_or ws i 0)
+      → PushInv (forward_w index transitive kind) ws₀ at end top (set ws len e) (i + 1) (len + 1)
   forward_turn e h q r =
       push_more p e h
-      (forward_more index transitive kind i stop ws₀ h (omega (arith, p.room, p.push.up, p.clear, p.within)) (subst (λ (w : ℕ). w / 2048 < index) (push_at p h) q)
-      ∙ ap (λ (v : ℕ). v ∷ forward_w index transitive kind (slice (i + 1) stop ws₀)) (sym (r ∙ ap (forward_e transitive kind) (push_at p h))))
+      (forward_more index transitive kind i end ws₀ h (omega (arith, p.room)) (subst (λ (w : ℕ). w / 2048 < index) (push_at p h) q)
+      ∙ ap (λ (v : ℕ). v ∷ forward_w index transitive kind (slice (i + 1) end ws₀)) (sym (r ∙ ap (forward_e transitive kind) (push_at p h))))
 
   -- the first index not below: nothing is left to push
-  pub forward_stopped : i < stop → index ≤ get_or ws i 0 / 2048 → PushInv (forward_w index transitive kind) ws₀ at end top ws (i + 1) (i + 1) len
+  pub forward_stopped : i < end → index ≤ get_or ws i 0 / 2048 → Wrote (forward_w index transitive kind (slice at end ws₀)) ws₀ top ws len
   forward_stopped h q =
-      push_skip p (i + 1) h (omega arith) (omega arith)
-      (forward_stop index transitive kind i stop ws₀ h (omega (arith, p.room, p.push.up, p.clear, p.within)) (subst (λ (w : ℕ). index ≤ w / 2048) (push_at p h) q)
-      ∙ sym (forward_none index transitive kind (i + 1) (i + 1) ws₀ refl))
+      push_end p
+      (forward_stop index transitive kind i end ws₀ h (omega (arith, p.room)) (subst (λ (w : ℕ). index ≤ w / 2048) (push_at p h) q))
 
-  pub forward_done : stop ≤ i → Wrote (forward_w index transitive kind (slice at end ws₀)) ws₀ top ws len
-  forward_done h = push_end p (forward_none index transitive kind i stop ws₀ (omega (arith, p.mid)))
+  pub forward_done : end ≤ i → Wrote (forward_w index transitive kind (slice at end ws₀)) ws₀ top ws len
+  forward_done h = push_end p (forward_none index transitive kind i end ws₀ (omega (arith, p.mid)))
 
-module _ (index transitive kind : ℕ) {ws₀ : List ℕ} {at end top : ℕ} {ws : List ℕ} {i len : ℕ} (p : PushInv (entries_w index transitive kind) ws₀ at end top ws i end len) where
+module _ (index transitive kind : ℕ) {ws₀ : List ℕ} {at end top : ℕ} {ws : List ℕ} {i len : ℕ} (p : PushInv (entries_w index transitive kind) ws₀ at end top ws i len) where
   pub entries_turn : (e : ℕ) → i < end → get_or ws i 0 / 2048 < index → e ≡ entry_w (get_or ws i 0 % 512) transitive 0 kind
-      → PushInv (entries_w index transitive kind) ws₀ at end top (set ws len e) (i + 1) end (len + 1)
+      → PushInv (entries_w index transitive kind) ws₀ at end top (set ws len e) (i + 1) (len + 1)
   entries_turn e h q r =
       push_more p e h
       (entries_more index transitive kind i end ws₀ h (omega (arith, p.room)) (subst (λ (w : ℕ). w / 2048 < index) (push_at p h) q)
       ∙ ap (λ (v : ℕ). v ∷ entries_w index transitive kind (slice (i + 1) end ws₀)) (sym (r ∙ ap (λ (w : ℕ). entry_w (w % 512) transitive 0 kind) (push_at p h))))
 
-  pub entries-skipped : i < end → index ≤ get_or ws i 0 / 2048 → PushInv (entries_w index transitive kind) ws₀ at end top ws (i + 1) end len
+  pub entries-skipped : i < end → index ≤ get_or ws i 0 / 2048 → PushInv (entries_w index transitive kind) ws₀ at end top ws (i + 1) len
   entries-skipped h q =
-      push_skip p end h (omega arith) (omega arith)
+      push_skip p h
       (entries_skip index transitive kind i end ws₀ h (omega (arith, p.room)) (subst (λ (w : ℕ). index ≤ w / 2048) (push_at p h) q))
 
   pub entries_done : end ≤ i → Wrote (entries_w index transitive kind (slice at end ws₀)) ws₀ top ws len

@@ -18,6 +18,10 @@ use Rattle.workspace.specs.Layout.{RECORD, LSPAN, TSPAN, END, SEEN}
 use Rattle.workspace.specs.Pending.{kind_of}
 use Rattle.workspace.specs.Graph.{tab}
 use Rattle.workspace.proofs.Tables.{tab_at, tab-set, tab-same}
+use Rattle.std.specs.Prelude.{Option}
+use Rattle.hir.specs.declared.MutationReason.{MutationReason}
+use Rattle.aliasing.proofs.Bits.{reason_below, reason_is}
+use Rattle.hir.specs.Mutations.{reason_bit, reason_says}
 use Rattle.aliasing.specs.declared.Mutation.{Mutation as CodeMutation}
 use Rattle.aliasing.specs.Says.{mode_of, mode_says, mutation_says}
 use Rattle.aliasing.specs.State.{info_of, record_in, end_at, record_at, records_of, ends_of}
@@ -26,9 +30,12 @@ use Rattle.aliasing.proofs.Packed.{word_record}
 use Rattle.aliasing.proofs.Writes.{raise_other, raise_same, span_other, span_same, span_below, local_record}
 
 -- ---- field by field
-reason_is : (a v : ℕ) → reason_of (max a v) ≡ first_reason (reason_of a) (reason_of v)
-reason_is zero v = let e : max 0 v ≡ v = omega arith in ap reason_of e
-reason_is (suc a) v = let e : max (suc a) v ≡ suc (max a (v - 1)) = omega arith in ap reason_of e
+reasons_are : (a v : ℕ) → reason_of (max a v) ≡ first_reason (reason_of a) (reason_of v)
+reasons_are zero v = let e : max 0 v ≡ v = omega arith in ap reason_of e
+reasons_are (suc a) v = let e : max (suc a) v ≡ suc (max a (v - 1)) = omega arith in ap reason_of e
+
+first_is : (a : ℕ) (o : Option MutationReason) → reason_of (max a (reason_bit o)) ≡ first_reason (reason_of a) (reason_says o)
+first_is a o = reasons_are a (reason_bit o) ∙ ap (first_reason (reason_of a)) (reason_is o)
 
 pub level_is : (k : ℕ) → k < 2 → level (kind_of k) ≡ k + 1
 level_is zero h = refl
@@ -73,7 +80,7 @@ records_end l x v =
     same : (i : ℕ) → i < END → get_or (raise_w l (END + x) v) i 0 ≡ get_or l i 0
     same i h = raise_other l (END + x) v i (λ p. omega (arith, p))
 
-module _ (ns : List ℕ) (size : length ns ≡ SEEN) (x k : ℕ) (hx : x < most_identifiers) (hk : k < 2) (m : CodeMutation) (hr : m.reason < 2) where
+module _ (ns : List ℕ) (size : length ns ≡ SEEN) (x k : ℕ) (hx : x < most_identifiers) (hk : k < 2) (m : CodeMutation) where
   abbrev w : ℕ
   w = get_or ns (RECORD + x) 0
 
@@ -82,7 +89,7 @@ module _ (ns : List ℕ) (size : length ns ≡ SEEN) (x k : ℕ) (hx : x < most_
 
   -- the word of x, its record chosen by b
   abbrev word : Bool → ℕ
-  word b = record_word (pick b (w % 4) (max (w % 4) (k + 1))) (pick b (max (w / 4 % 4) (k + 1)) (w / 4 % 4)) (max (w / 16 % 2) m.reason) (max (w / 32) m.index)
+  word b = record_word (pick b (w % 4) (max (w % 4) (k + 1))) (pick b (max (w / 4 % 4) (k + 1)) (w / 4 % 4)) (max (w / 16 % 2) (reason_bit m.reason)) (max (w / 32) m.index)
 
   abbrev span_at : Bool → ℕ
   span_at b = pick b (TSPAN + x) (LSPAN + x)
@@ -118,9 +125,9 @@ module _ (ns : List ℕ) (size : length ns ≡ SEEN) (x k : ℕ) (hx : x < most_
       let t' : ℕ = pick (ltb (w / 4 % 4) (k + 1)) m.span t in
       (λ j. record_in (after-word true (λ p. omega (arith, p)) j) (after_span true (λ p. omega (arith, p)) j)
       (after-other true (LSPAN + x) (λ p. omega (arith, p)) (λ p. omega (arith, p)) j))
-      ∙ word_record (w % 4) (max (w / 4 % 4) (k + 1)) (max (w / 16 % 2) m.reason) (max (w / 32) m.index) (omega arith) (omega (arith, hk)) (omega (arith, hr)) t' l
+      ∙ word_record (w % 4) (max (w / 4 % 4) (k + 1)) (max (w / 16 % 2) (reason_bit m.reason)) (max (w / 32) m.index) (omega arith) (omega (arith, hk)) (omega (arith, reason_below m.reason)) t' l
       ∙ (λ j. record {
-        reason = reason_is (w / 16 % 2) m.reason j;
+        reason = first_is (w / 16 % 2) m.reason j;
         last = max (w / 32) m.index;
         transitive = info_is (w / 4 % 4) t k m.span hk j;
         local = info_of (w % 4) l;
@@ -131,9 +138,9 @@ module _ (ns : List ℕ) (size : length ns ≡ SEEN) (x k : ℕ) (hx : x < most_
       let l' : ℕ = pick (ltb (w % 4) (k + 1)) m.span l in
       (λ j. record_in (after-word false (λ p. omega (arith, p)) j)
       (after-other false (TSPAN + x) (λ p. omega (arith, p)) (λ p. omega (arith, p)) j) (after_span false (λ p. omega (arith, p)) j))
-      ∙ word_record (max (w % 4) (k + 1)) (w / 4 % 4) (max (w / 16 % 2) m.reason) (max (w / 32) m.index) (omega (arith, hk)) (omega arith) (omega (arith, hr)) t l'
+      ∙ word_record (max (w % 4) (k + 1)) (w / 4 % 4) (max (w / 16 % 2) (reason_bit m.reason)) (max (w / 32) m.index) (omega (arith, hk)) (omega arith) (omega (arith, reason_below m.reason)) t l'
       ∙ (λ j. record {
-        reason = reason_is (w / 16 % 2) m.reason j;
+        reason = first_is (w / 16 % 2) m.reason j;
         last = max (w / 32) m.index;
         transitive = info_of (w / 4 % 4) t;
         local = info_is (w % 4) l k m.span hk j;
@@ -179,7 +186,7 @@ record_below : (ns : List ℕ) (x t k : ℕ) (m : CodeMutation) → x < most_ide
 unfolding record_w write_w
 record_below ns x t k m hx i h =
     let w : ℕ = get_or ns (RECORD + x) 0 in
-    let v : ℕ = kept_word w t k m.reason m.index in
+    let v : ℕ = kept_word w t k (reason_bit m.reason) m.index in
     span_other (set ns (RECORD + x) v) (pick (eqb t 1) (TSPAN + x) (LSPAN + x)) (pick (eqb t 1) (w / 4 % 4) (w % 4)) k m.span i (λ p. omega (arith, p, span_below (eqb t 1) x hx, h))
     ∙ get_or-set_other ns (RECORD + x) i v 0 (λ p. omega (arith, p))
 

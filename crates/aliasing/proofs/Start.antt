@@ -2,12 +2,10 @@
 use Prim.Native.Nat.{ℕ, ◌+◌, ◌≤◌, ◌<◌}
 use native.Mathlib.Omega.{arith}
 use native.Mathlib.Nat.{add_comm}
-use mathlib.Core.Bool.{Bool, true, false}
 use mathlib.Core.List.{List, [], ◌∷◌}
 use mathlib.Core.Path.{◌≡◌, refl, sym, ap, ◌∙◌}
 use lib.ListN.{length, set}
 use lib.Seq.{slice, slice_empty}
-use lib.Dec.{eqb}
 use Rattle.model.specs.Limits.{most_identifiers}
 use Rattle.model.specs.Size.{enough}
 use Rattle.model.specs.Mutation.{Mutation}
@@ -17,14 +15,13 @@ use Rattle.model.proofs.Fuel.{run_add, run_rest}
 use Rattle.model.proofs.Potential.{walk_ends, walk_enough}
 use Rattle.workspace.specs.Layout.{QUEUE, HANDED}
 use Rattle.workspace.specs.Rows.{rows_of, Indexed}
-use Rattle.workspace.specs.Pending.{kind_of}
 use Rattle.aliasing.specs.Pushes.{entry_w}
 use Rattle.aliasing.specs.Items.{item_of, queue_of}
 use Rattle.aliasing.proofs.Items.{item_entry}
-use Rattle.aliasing.specs.declared.MutationKind.{MutationKind}
-use Rattle.aliasing.specs.declared.MutationKind.TheVariants.{Conditional, Definite}
 use Rattle.aliasing.specs.declared.Mutation.{Mutation as CodeMutation}
-use Rattle.aliasing.specs.Says.{bit, kind_bit, kind_says, mode_says, mutation_says}
+use Rattle.hir.specs.Mutations.{kind_bit}
+use Rattle.aliasing.specs.Says.{bit, mode_says, mutation_says}
+use Rattle.aliasing.proofs.Bits.{bit_below, kind_below, bit_is, kind_is}
 use Rattle.aliasing.specs.State.{seen_of, levels, NoneAbove, state_of, Handing}
 use Rattle.aliasing.specs.Potential.{phi}
 use Rattle.aliasing.specs.Walks.{Shows, Ready, Callable, Walked, BaseTaken, Mutated}
@@ -45,27 +42,10 @@ at_rest how m s n h =
     ∙ run_add how m a n (start m s) ∙ run_rest how m n (run how m a (start m s)) (walk_ends how a s m (omega arith))
 
 -- ---- the first entry
-pub bit_below : (b : Bool) → bit b < 2
-bit_below true = omega arith
-bit_below false = omega arith
-
-pub kind_below : (k : MutationKind) → kind_bit k < 2
-kind_below Conditional = omega arith
-kind_below Definite = omega arith
-
-bit_is : (b : Bool) → eqb (bit b) 1 ≡ b
-bit_is true = refl
-bit_is false = refl
-
-kind_is : (k : MutationKind) → kind_of (kind_bit k) ≡ kind_says k
-kind_is Conditional = refl
-kind_is Definite = refl
-
--- of the two bits that the code makes
-start_item_lem : (m : CodeMutation) (e t k : ℕ) → m.start.0 < most_identifiers → t ≡ bit m.transitive → k ≡ kind_bit m.kind → e ≡ entry_w m.start.0 t 0 k → item_of e ≡ start_item (mutation_says m)
+start_item_lem : (m : CodeMutation) (e : ℕ) → m.start.0 < most_identifiers → e ≡ entry_w m.start.0 (bit m.transitive) 0 (kind_bit m.kind) → item_of e ≡ start_item (mutation_says m)
 unfolding mutation_says
-start_item_lem m e t k h p q is =
-    ap item_of (is ∙ rw (p, q)) ∙ item_entry m.start.0 (bit m.transitive) 0 (kind_bit m.kind) h (bit_below m.transitive) (omega arith) (kind_below m.kind)
+start_item_lem m e h is =
+    ap item_of is ∙ item_entry m.start.0 (bit m.transitive) 0 (kind_bit m.kind) h (bit_below m.transitive) (omega arith) (kind_below m.kind)
     ∙ rw (bit_is m.transitive, kind_is m.kind)
 
 -- ---- the walk can begin, and is the definition's
@@ -75,7 +55,7 @@ pub record Started (m : CodeMutation) (ws : List ℕ) (hand base : ℕ) (first_w
   pub same : length first_words ≡ length ws
 
 module _ (ws : List ℕ) (hand : ℕ) (m : CodeMutation) (indexed : Indexed ws) (handing : Handing ws hand) (callable : Callable m)
-    (l : List ℕ) (base : ℕ) (new : BaseTaken ws l base) (e t k : ℕ) (t-is : t ≡ bit m.transitive) (k-is : k ≡ kind_bit m.kind) (e-is : e ≡ entry_w m.start.0 t 0 k) where
+    (l : List ℕ) (base : ℕ) (new : BaseTaken ws l base) (e : ℕ) (e-is : e ≡ entry_w m.start.0 (bit m.transitive) 0 (kind_bit m.kind)) where
   abbrev first_words : List ℕ
   first_words = set l QUEUE e
 
@@ -93,7 +73,7 @@ module _ (ws : List ℕ) (hand : ℕ) (m : CodeMutation) (indexed : Indexed ws) 
 
   queue_is : queue_of (slice QUEUE (QUEUE + 1) first_words) ≡ start_item (mutation_says m) ∷ []
   unfolding queue_of
-  queue_is = ap queue_of b.entry ∙ ap (λ (i : Item). i ∷ []) (start_item_lem m e t k callable.start t-is k-is e-is)
+  queue_is = ap queue_of b.entry ∙ ap (λ (i : Item). i ∷ []) (start_item_lem m e callable.start e-is)
 
   shows_start : Shows base first_words (QUEUE + 1) hand (start (mutation_says m) (state_of ws hand))
   shows_start = record { queue = queue_is; seen = levels_none base first_words start-marked ∙ levels_long ws hand; state = b.state hand handing.low ∙ u.state hand handing.low }

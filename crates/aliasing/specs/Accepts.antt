@@ -3,6 +3,7 @@ use Rattle.std.specs.Prelude.{ℕ, ◌+◌, ◌-◌, ◌*◌, ◌/◌, ◌%◌, 
 use Rattle.model.specs.Lists.{pick}
 use Rattle.workspace.specs.Graph.{MISSING, FUNCTION}
 use Rattle.workspace.specs.Layout.{RECORD, LSPAN, TSPAN, END, SEEN, VALUE}
+use Rattle.hir.specs.Mutations.{reason_bit}
 use Rattle.aliasing.specs.declared.Mutation.{Mutation}
 
 -- is the mark of x no higher than the level?
@@ -37,7 +38,7 @@ span_w ws at kind level span = pick (ltb kind level) (set ws at span) ws
 -- the record of an accepted node x, where its word is w: the word, the span of the transitive or local record
 unfoldable pub write_w : ℕ → List ℕ → ℕ → ℕ → ℕ → Mutation → List ℕ
 write_w w ws x transitive level m =
-    span_w (set ws (RECORD + x) (kept_word w transitive level m.reason m.index))
+    span_w (set ws (RECORD + x) (kept_word w transitive level (reason_bit m.reason) m.index))
     (pick (eqb transitive 1) (TSPAN + x) (LSPAN + x)) (pick (eqb transitive 1) (w / 4 % 4) (w % 4)) level m.span
 
 -- the record of an accepted node x

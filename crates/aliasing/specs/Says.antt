@@ -1,25 +1,34 @@
--- Which mutation of the model, and which kind of walk, a mutation of the code stands for.
-use Rattle.std.specs.Prelude.{ℕ, zero, suc, ◌-◌, Bool, true, false}
-use Rattle.model.specs.Mutation.{Kind, conditional, definite, reason_of, Mutation}
+-- Which mutation of the model, and which kind of walk, a mutation of the code stands for; an entry of the queue and its word.
+use Rattle.std.specs.Prelude.{ℕ, zero, suc, ◌-◌, ◌/◌, ◌%◌, ◌≡◌, Bool, true, false}
+use Rattle.model.specs.Mutation.{Mutation}
 use Rattle.model.specs.State.{Mode, real, simulated}
-use Rattle.aliasing.specs.declared.MutationKind.{MutationKind}
-use Rattle.aliasing.specs.declared.MutationKind.TheVariants.{Conditional, Definite}
+use Rattle.hir.specs.Mutations.{kind_says, kind_bit, reason_says}
 use Rattle.aliasing.specs.declared.Mutation.{Mutation as CodeMutation}
-
--- the kind of the same name
-abbrev pub kind_says : MutationKind → Kind
-kind_says Conditional = conditional
-kind_says Definite = definite
-
--- its bit in a word
-abbrev pub kind_bit : MutationKind → ℕ
-kind_bit Conditional = 0
-kind_bit Definite = 1
+use Rattle.aliasing.specs.declared.pushes.Direction.{Direction}
+use Rattle.aliasing.specs.declared.pushes.Direction.TheVariants.{Backwards, Forwards}
+use Rattle.aliasing.specs.declared.pushes.QueueEntry.{QueueEntry}
+use Rattle.aliasing.specs.Pushes.{entry_w}
 
 -- a truth value's bit in a word
 abbrev pub bit : Bool → ℕ
 bit true = 1
 bit false = 0
+
+-- a direction's
+abbrev pub direction_bit : Direction → ℕ
+direction_bit Backwards = 0
+direction_bit Forwards = 1
+
+-- the word of an entry
+abbrev pub word_of : QueueEntry → ℕ
+word_of e = entry_w e.place.0 (bit e.transitive) (direction_bit e.direction) (kind_bit e.kind)
+
+-- the entry is what the word says
+pub record Unpacked (w : ℕ) (e : QueueEntry) : Type 0 where
+  pub place : e.place.0 ≡ w % 512
+  pub transitive : bit e.transitive ≡ w / 512 % 2
+  pub direction : direction_bit e.direction ≡ w / 1024 % 2
+  pub kind : kind_bit e.kind ≡ w / 2048 % 2
 
 -- an unset end is a simulated mutation's, any other the order plus one
 abbrev pub mode_of : ℕ → Bool → Mode
@@ -39,5 +48,5 @@ mutation_says m = record {
   transitive = m.transitive;
   identifier = m.start.0;
   span = m.span;
-  reason = reason_of m.reason;
+  reason = reason_says m.reason;
 }

@@ -42,10 +42,9 @@ pub record Aside (ws ws' : List ℕ) : Type 0 where
   pub behind : drop MUTATIONS ws' ≡ drop MUTATIONS ws
   pub same : length ws' ≡ length ws
 
--- what `mutate` can be called with: an identifier, a reason and an index that a record's word has room for, and no errors recorded for a simulated mutation
+-- what `mutate` can be called with: an identifier, an index that a record's word has room for, and no errors recorded for a simulated mutation
 pub record Callable (m : Mutation) : Type 0 where
   pub start : m.start.0 < most_identifiers
-  pub reason : m.reason < 2
   pub index : m.index < index_room
   pub quiet : m.end.0 ≡ 0 → m.should_record_errors ≡ false
 

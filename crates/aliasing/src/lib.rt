@@ -1,20 +1,20 @@
 // The walk of a mutation over the graph in the lent workspace (the original's `mutate`), and the loop over the pending mutations.
 #![tactic(auto)]
 
-ghost use Rattle.std.specs.Prelude.{◌≡◌, ◌+◌, ◌-◌, ◌*◌, ◌≤◌, ◌<◌, max, length, get_or};
+ghost use Rattle.std.specs.Prelude.{◌≡◌, ◌+◌, ◌-◌, ◌*◌, ◌≤◌, ◌<◌, length, get_or};
 ghost use Rattle.model.specs.Limits.{most_identifiers, most_order};
 ghost use Rattle.workspace.specs.Layout.{LEAST, BASE, MUTATIONS, QUEUE, VALUE};
 ghost use Rattle.workspace.specs.Rows.{Indexed};
 ghost use Rattle.writing.specs.Wrote.{Wrote};
-ghost use Rattle.workspace.specs.Pending.{kind_of};
-ghost use Rattle.aliasing.specs.Says.{bit, kind_bit, kind_says};
+ghost use Rattle.hir.specs.Mutations.{kind_bit, reason_bit};
+ghost use Rattle.aliasing.specs.Says.{bit};
 ghost use Rattle.aliasing.specs.State.{Handing, NoneAbove};
 ghost use Rattle.aliasing.specs.Accepts.{enter_w, enters_w, raise_w, record_w, accept_w, function_w, hand_w};
 ghost use Rattle.aliasing.specs.Walks.{most_base, Ready, Callable, Stepped, Walked, Unmarked, BaseTaken, Mutated};
 ghost use Rattle.aliasing.specs.Pending.{Pending, Made, Processed};
 
-use crate::pushes::{entry, push_all};
-use hir::{EvaluationOrder, IdentifierId};
+use crate::pushes::{Direction, QueueEntry, kind_of, push_all};
+use hir::{EvaluationOrder, IdentifierId, MutationKind, MutationReason};
 use workspace::{
     BASE, END, FUNCTION, HANDED, IDENTIFIERS, LSPAN, MISSING, MUTATIONS, QUEUE, RECORD, SEEN,
     TSPAN, VALUE, clear,
@@ -22,22 +22,15 @@ use workspace::{
 
 pub mod pushes;
 
-// The original's `MutationKind`.
-#[derive(Clone, Copy)]
-pub enum MutationKind {
-    Conditional,
-    Definite,
-}
-
-// What `mutate` is called with. A simulated mutation has its end unset and records no errors; reason 0 is none, 1 AssignCurrentProperty.
-#[derive(Clone, Copy)]
+// What `mutate` is called with. A simulated mutation has its end unset and records no errors.
+#[derive(Clone, Copy, Debug, PartialEq, Eq)]
 pub struct Mutation {
     pub end: EvaluationOrder,
     pub transitive: bool,
     pub kind: MutationKind,
     pub start: IdentifierId,
     pub index: u32,
-    pub reason: u32,
+    pub reason: Option<MutationReason>,
     pub span: u32,
     pub should_record_errors: bool,
 }
@@ -46,83 +39,61 @@ pub struct Mutation {
 const MOST_BASE: u32 = 4096;
 
 // What a step leaves: the queue's top, and where the next function is to be handed over.
-#[derive(Clone, Copy)]
+#[derive(Clone, Copy, Debug, PartialEq, Eq)]
 pub struct StepLeft {
     pub top: usize,
     pub hand: usize,
 }
 
 // What a walk leaves: the entries taken, and where the next function is to be handed over.
-#[derive(Clone, Copy)]
+#[derive(Clone, Copy, Debug, PartialEq, Eq)]
 pub struct Taken {
     pub count: u32,
     pub hand: usize,
 }
 
-// ws[at] becomes the larger of itself and v.
-fn raise(ws: &mut [u32], at: usize, v: u32)
-    requires { at < length ws.old }
-    ensures { ws.new ≡ raise_w ws.old at v }
-{
-    if ws[at] < v {
-        ws[at] = v;
-    }
-}
-
-// The end at `at` becomes the larger of itself and this one; an unset end moves none.
+// The end at `at` becomes the larger of itself and this one; an unset end is 0 and moves none.
 fn raise_end(ws: &mut [u32], at: usize, end: EvaluationOrder)
     requires { at < length ws.old }
     ensures { ws.new ≡ raise_w ws.old at end.0 }
 {
-    if end.is_unset() {
-        return;
-    }
-    raise(ws, at, end.0);
+    ws[at] = ws[at].max(end.0);
 }
 
-// The larger of two.
-fn larger(a: u32, b: u32) -> u32
-    ensures { result ≡ max a b }
-{
-    if a < b { b } else { a }
-}
-
-// The record of an accepted node x: the higher kind of the transitive or local one with its span, the first reason, the largest index.
-fn record(ws: &mut [u32], x: usize, transitive: u32, level: u32, m: Mutation)
-    requires x_lt_most_identifiers { (x < most_identifiers) × ((LEAST ≤ length ws.old) × (level < 4)) }
+// The record of an accepted node: the higher kind of the transitive or local one with its span, the first reason, the largest index.
+fn record(ws: &mut [u32], entry: QueueEntry, m: Mutation)
+    requires place_lt_most_identifiers { (entry.place.0 < most_identifiers) × (LEAST ≤ length ws.old) }
     requires callable { Callable m }
-    ensures { ws.new ≡ record_w ws.old x transitive level m }
+    ensures { ws.new ≡ record_w ws.old entry.place.0 (bit entry.transitive) (kind_bit entry.kind + 1) m }
 {
+    let x = entry.place.0 as usize;
+    let level = entry.kind as u32 + 1;
     let w = ws[RECORD + x];
-    let rest = 16 * larger(w / 16 % 2, m.reason) + 32 * larger(w / 32, m.index);
     let local = w % 4;
     let kind = w / 4 % 4;
-    if transitive == 1 {
+    let reason = (w / 16 % 2).max(u32::from(m.reason.is_some()));
+    let rest = 16 * reason + 32 * (w / 32).max(m.index);
+    if entry.transitive {
+        ws[RECORD + x] = local + 4 * kind.max(level) + rest;
         if kind < level {
-            ws[RECORD + x] = local + 4 * level + rest;
             ws[TSPAN + x] = m.span;
-        } else {
-            ws[RECORD + x] = local + 4 * kind + rest;
         }
     } else {
+        ws[RECORD + x] = local.max(level) + 4 * kind + rest;
         if local < level {
-            ws[RECORD + x] = level + 4 * kind + rest;
             ws[LSPAN + x] = m.span;
-        } else {
-            ws[RECORD + x] = local + 4 * kind + rest;
         }
     }
 }
 
 // What an accepted node keeps of the mutation.
-fn accept(ws: &mut [u32], x: usize, transitive: u32, level: u32, m: Mutation)
-    requires x_lt_most_identifiers { (x < most_identifiers) × ((LEAST ≤ length ws.old) × (level < 4)) }
+fn accept(ws: &mut [u32], entry: QueueEntry, m: Mutation)
+    requires place_lt_most_identifiers { (entry.place.0 < most_identifiers) × (LEAST ≤ length ws.old) }
     requires callable { Callable m }
-    ensures { ws.new ≡ accept_w ws.old x transitive level m }
+    ensures { ws.new ≡ accept_w ws.old entry.place.0 (bit entry.transitive) (kind_bit entry.kind + 1) m }
 {
-    record(ws, x, transitive, level, m);
-    let end = m.end;
-    raise_end(ws, END + x, end);
+    record(ws, entry, m);
+    raise_end(ws, END + entry.place.0 as usize, m.end);
 }
 
 // A function node hands over its function, whose diagnostics the caller appends.
@@ -143,10 +114,8 @@ fn record_errors(ws: &mut [u32], x: usize, errors: bool, hand: usize) -> usize
     requires { (x < most_identifiers) × ((LEAST ≤ length ws.old) × (hand ≤ MUTATIONS)) }
     ensures { Wrote (hand_w ws.old (get_or ws.old (VALUE + x) 0) x errors) ws.old hand ws.new result }
 {
-    if errors {
-        if ws[RECORD + x] % 16 == 0 {
-            return hand_over_function(ws, x, hand);
-        }
+    if errors && ws[RECORD + x] % 16 == 0 {
+        return hand_over_function(ws, x, hand);
     }
     hand
 }
@@ -170,55 +139,32 @@ fn step(ws: &mut [u32], top: usize, hand: usize, m: Mutation, base: u32) -> Step
     requires lt_top { QUEUE < top }
     ensures { Stepped m base ws.old top hand ws.new result.top result.hand }
 {
-    let t = top - 1;
-    let e = ws[t];
-    let x = (e % 512) as usize;
-    let kind = e / 2048 % 2;
-    if !enter(ws, x, base + kind) {
-        return StepLeft { top: t, hand: hand };
+    let top = top - 1;
+    let entry = QueueEntry::unpack(ws[top]);
+    let x = entry.place.0 as usize;
+    if !enter(ws, x, base + entry.kind as u32) {
+        return StepLeft { top, hand };
     }
-    let transitive = e / 512 % 2;
-    let index = m.index;
-    let h = record_errors(ws, x, m.should_record_errors, hand);
-    accept(ws, x, transitive, kind + 1, m);
-    let r = push_all(ws, x, e / 1024 % 2, index, transitive, kind, t);
-    StepLeft { top: r, hand: h }
+    let hand = record_errors(ws, x, m.should_record_errors, hand);
+    accept(ws, entry, m);
+    let top = push_all(ws, m.index, entry, top);
+    StepLeft { top, hand }
 }
 
 // Takes entries until none is left.
-fn walk(ws: &mut [u32], top: usize, hand: usize, m: Mutation, base: u32) -> Taken
+fn walk(ws: &mut [u32], mut top: usize, mut hand: usize, m: Mutation, base: u32) -> Taken
     requires ready { Ready base ws.old top hand }
     requires callable { Callable m }
     ensures { Walked m base ws.old top hand ws.new result.count result.hand }
 {
-    let mut t = top;
-    let mut h = hand;
-    let mut taken: u32 = 0;
-    while QUEUE < t {
-        let r = step(ws, t, h, m, base);
-        t = r.top;
-        h = r.hand;
-        taken += 1;
+    let mut count: u32 = 0;
+    while QUEUE < top {
+        let left = step(ws, top, hand, m, base);
+        top = left.top;
+        hand = left.hand;
+        count += 1;
     }
-    Taken {
-        count: taken,
-        hand: h,
-    }
-}
-
-fn bit_of(b: bool) -> u32
-    ensures { result ≡ bit b }
-{
-    if b { 1 } else { 0 }
-}
-
-fn kind_bit(k: MutationKind) -> u32
-    ensures { result ≡ kind_bit k }
-{
-    match k {
-        MutationKind::Conditional => 0,
-        MutationKind::Definite => 1,
-    }
+    Taken { count, hand }
 }
 
 // No identifier is marked, and levels count from 0.
@@ -252,19 +198,25 @@ pub fn mutate(ws: &mut [u32], hand: usize, m: Mutation) -> Taken
     ensures { Mutated m ws.old hand ws.new result.count result.hand }
 {
     let base = take_base(ws);
-    let k = m.kind;
-    let kind = kind_bit(k);
-    ws[QUEUE] = entry(m.start.0, bit_of(m.transitive), 0, kind);
+    let entry = QueueEntry {
+        place: m.start,
+        transitive: m.transitive,
+        direction: Direction::Backwards,
+        kind: m.kind,
+    };
+    ws[QUEUE] = entry.pack();
     walk(ws, QUEUE + 1, hand, m, base)
 }
 
-fn kind_of(b: u32) -> MutationKind
-    ensures { kind_says result ≡ kind_of b }
+// The reason of a bit.
+fn reason_of(bit: u32) -> Option<MutationReason>
+    requires { bit < 2 }
+    ensures { reason_bit result ≡ bit }
 {
-    if b == 0 {
-        MutationKind::Conditional
+    if bit == 0 {
+        None
     } else {
-        MutationKind::Definite
+        Some(MutationReason::AssignCurrentProperty)
     }
 }
 
@@ -273,15 +225,14 @@ fn pending_mutation(w: u32, order: u32, span: u32, errors: bool) -> Mutation
     requires { order ≤ most_order }
     ensures { Made w order span errors result }
 {
-    let kind = kind_of(w / 1024 % 2);
     Mutation {
         index: w / 4096,
         start: IdentifierId(w % 512),
         end: EvaluationOrder(order + 1),
         transitive: w / 512 % 2 == 1,
-        kind: kind,
-        span: span,
-        reason: w / 2048 % 2,
+        kind: kind_of(w / 1024 % 2),
+        span,
+        reason: reason_of(w / 2048 % 2),
         should_record_errors: errors,
     }
 }
@@ -293,15 +244,13 @@ pub fn process_mutations(ws: &mut [u32], count: usize, should_record_errors: boo
     ensures { Processed should_record_errors ws.old count ws.new result }
 {
     clear_marks(ws);
-    let mut i = 0;
     let mut hand = HANDED;
-    while i < count {
+    for i in 0..count {
         let at = MUTATIONS + 3 * i;
         let m = pending_mutation(ws[at], ws[at + 1], ws[at + 2], should_record_errors);
-        let r = mutate(ws, hand, m);
-        ws[at + 2] = r.count;
-        hand = r.hand;
-        i += 1;
+        let taken = mutate(ws, hand, m);
+        ws[at + 2] = taken.count;
+        hand = taken.hand;
     }
     hand
 }

@@ -4,31 +4,80 @@ ghost use Rattle.std.proofs.Math.Seq.{slice};
 ghost use Rattle.model.specs.Limits.{most_identifiers};
 ghost use Rattle.workspace.specs.Rows.{rows_of, most_lists, row_f, row_b};
 ghost use Rattle.workspace.specs.Graph.{ALIASES, MAYBE, CAPTURES};
-ghost use Rattle.aliasing.specs.Pushes.{entry_w, edge_level, forward_w, entries_w, blocked_w, aliases_w, captures_w, pushed_w, Room, words_f, words_b, deg};
+ghost use Rattle.workspace.specs.Pending.{kind_of};
+ghost use Rattle.hir.specs.Mutations.{kind_bit, kind_says};
+ghost use Rattle.aliasing.specs.Says.{bit, direction_bit, word_of, Unpacked};
+ghost use Rattle.aliasing.specs.Pushes.{edge_level, forward_w, entries_w, blocked_w, aliases_w, captures_w, pushed_w, Room, words_f, words_b, deg};
 ghost use Rattle.writing.specs.Wrote.{Wrote};
 
+use hir::{IdentifierId, MutationKind};
 use workspace::{ALIASES, BBOUND, BENTRY, CAPTURES, FBOUND, FEDGE, MAYBE, PHI, VALUE};
 
-fn wide(x: u32) -> usize
-    ensures { result ≡ x }
-{
-    x as usize
+// How a walk comes to a node.
+#[derive(Clone, Copy, Debug, PartialEq, Eq)]
+pub enum Direction {
+    Backwards,
+    Forwards,
 }
 
-// An entry of the queue: the identifier, and a bit each for transitive, forwards and Definite.
-pub fn entry(place: u32, transitive: u32, direction: u32, kind: u32) -> u32
-    requires { (place < most_identifiers) × ((transitive < 2) × ((direction < 2) × (kind < 2))) }
-    ensures { result ≡ entry_w place transitive direction kind }
+// What a walk is to visit.
+#[derive(Clone, Copy, Debug, PartialEq, Eq)]
+pub struct QueueEntry {
+    pub place: IdentifierId,
+    pub transitive: bool,
+    pub direction: Direction,
+    pub kind: MutationKind,
+}
+
+impl QueueEntry {
+    // Its word in the queue: the identifier, and a bit each for transitive, Forwards and Definite.
+    pub fn pack(self) -> u32
+        requires { self.place.0 < most_identifiers }
+        ensures { result ≡ word_of self }
+    {
+        self.place.0
+            + 512 * u32::from(self.transitive)
+            + 1024 * self.direction as u32
+            + 2048 * self.kind as u32
+    }
+
+    // The entry of a word.
+    pub fn unpack(word: u32) -> Self
+        ensures { Unpacked word result }
+    {
+        QueueEntry {
+            place: IdentifierId(word % 512),
+            transitive: word / 512 % 2 == 1,
+            direction: if word / 1024 % 2 == 0 {
+                Direction::Backwards
+            } else {
+                Direction::Forwards
+            },
+            kind: kind_of(word / 2048 % 2),
+        }
+    }
+}
+
+// The kind of a bit.
+pub fn kind_of(bit: u32) -> MutationKind
+    ensures { kind_says result ≡ kind_of bit }
 {
-    place + 512 * transitive + 1024 * direction + 2048 * kind
+    if bit == 0 {
+        MutationKind::Conditional
+    } else {
+        MutationKind::Definite
+    }
 }
 
 // MaybeAlias edges downgrade to conditional mutation.
-fn edge_kind(w: u32, kind: u32) -> u32
-    requires { kind < 2 }
-    ensures { (result < 2) × (result ≡ edge_level w kind) }
+fn edge_kind(w: u32, kind: MutationKind) -> MutationKind
+    ensures { kind_bit result ≡ edge_level w (kind_bit kind) }
 {
-    if w / 512 % 4 == MAYBE { 0 } else { kind }
+    if w / 512 % 4 == MAYBE {
+        MutationKind::Conditional
+    } else {
+        kind
+    }
 }
 
 // Pushes the forward edges that lie from `at` to `end`. It stops at the first whose index is not below.
@@ -37,25 +86,26 @@ fn push_forward(
     at: usize,
     end: usize,
     index: u32,
-    transitive: u32,
-    kind: u32,
+    entry: QueueEntry,
     top: usize,
 ) -> usize
-    requires { (at ≤ end) × ((end ≤ top) × ((top + (end - at) ≤ length ws.old) × ((transitive < 2) × (kind < 2)))) }
-    ensures { Wrote (forward_w index transitive kind (slice at end ws.old)) ws.old top ws.new result }
+    requires { (at ≤ end) × ((end ≤ top) × (top + (end - at) ≤ length ws.old)) }
+    ensures { Wrote (forward_w index (bit entry.transitive) (kind_bit entry.kind) (slice at end ws.old)) ws.old top ws.new result }
 {
-    let mut i = at;
-    let mut stop = end;
     let mut len = top;
-    while i < stop {
+    for i in at..end {
         let w = ws[i];
-        i += 1;
-        if w / 2048 < index {
-            ws[len] = entry(w % 512, transitive, 1, edge_kind(w, kind));
-            len += 1;
-        } else {
-            stop = i;
+        if w / 2048 >= index {
+            break;
         }
+        ws[len] = QueueEntry {
+            place: IdentifierId(w % 512),
+            direction: Direction::Forwards,
+            kind: edge_kind(w, entry.kind),
+            ..entry
+        }
+        .pack();
+        len += 1;
     }
     len
 }
@@ -66,22 +116,25 @@ fn push_entries(
     at: usize,
     end: usize,
     index: u32,
-    transitive: u32,
-    kind: u32,
+    entry: QueueEntry,
     top: usize,
 ) -> usize
-    requires { (at ≤ end) × ((end ≤ top) × ((top + (end - at) ≤ length ws.old) × ((transitive < 2) × (kind < 2)))) }
-    ensures { Wrote (entries_w index transitive kind (slice at end ws.old)) ws.old top ws.new result }
+    requires { (at ≤ end) × ((end ≤ top) × (top + (end - at) ≤ length ws.old)) }
+    ensures { Wrote (entries_w index (bit entry.transitive) (kind_bit entry.kind) (slice at end ws.old)) ws.old top ws.new result }
 {
-    let mut i = at;
     let mut len = top;
-    while i < end {
+    for i in at..end {
         let w = ws[i];
-        i += 1;
-        if w / 2048 < index {
-            ws[len] = entry(w % 512, transitive, 0, kind);
-            len += 1;
+        if w / 2048 >= index {
+            continue;
         }
+        ws[len] = QueueEntry {
+            place: IdentifierId(w % 512),
+            direction: Direction::Backwards,
+            ..entry
+        }
+        .pack();
+        len += 1;
     }
     len
 }
@@ -91,102 +144,85 @@ fn words_before(ws: &[u32], first: usize, bound: usize) -> usize
     requires { (first < length ws.now) × ((bound < length ws.now) × (get_or ws.now bound 0 ≤ get_or ws.now first 0)) }
     ensures { result ≡ get_or ws.now first 0 - get_or ws.now bound 0 }
 {
-    wide(ws[first]) - wide(ws[bound])
+    (ws[first] - ws[bound]) as usize
 }
 
-// One list of entries: list l of node x is row 4 * x + l.
-pub fn push_list(
-    ws: &mut [u32],
-    k: usize,
-    index: u32,
-    transitive: u32,
-    kind: u32,
-    top: usize,
-) -> usize
+// One list of entries, each pushed as this one with its own place: list l of node x is row 4 * x + l.
+#[tactic(auto, using(workspace::proofs::Rows::list_bounds))]
+pub fn push_list(ws: &mut [u32], k: usize, index: u32, entry: QueueEntry, top: usize) -> usize
     requires room { Room ws.old top (words_b (rows_of ws.old) k) }
-    requires k_lt_most_lists { (k < most_lists) × ((transitive < 2) × (kind < 2)) }
-    ensures { Wrote (entries_w index transitive kind (row_b (rows_of ws.old) k)) ws.old top ws.new result }
+    requires k_lt_most_lists { k < most_lists }
+    ensures { Wrote (entries_w index (bit entry.transitive) (kind_bit entry.kind) (row_b (rows_of ws.old) k)) ws.old top ws.new result }
 {
     let lo = words_before(ws, BBOUND, BBOUND + k);
     let hi = words_before(ws, BBOUND, BBOUND + k + 1);
-    push_entries(ws, BENTRY + lo, BENTRY + hi, index, transitive, kind, top)
+    push_entries(ws, BENTRY + lo, BENTRY + hi, index, entry, top)
 }
 
 // Forward edges: Capture a -> b, Alias a -> b: mutate(a) => mutate(b).
-fn push_edges(ws: &mut [u32], x: usize, index: u32, transitive: u32, kind: u32, top: usize) -> usize
-    requires room { Room ws.old top (words_f (rows_of ws.old) x) }
-    requires x_lt_most_identifiers { (x < most_identifiers) × ((transitive < 2) × (kind < 2)) }
-    ensures { Wrote (forward_w index transitive kind (row_f (rows_of ws.old) x)) ws.old top ws.new result }
+#[tactic(auto, using(workspace::proofs::Rows::edge_bounds))]
+fn push_edges(ws: &mut [u32], index: u32, entry: QueueEntry, top: usize) -> usize
+    requires room { Room ws.old top (words_f (rows_of ws.old) entry.place.0) }
+    requires place_lt_most_identifiers { entry.place.0 < most_identifiers }
+    ensures { Wrote (forward_w index (bit entry.transitive) (kind_bit entry.kind) (row_f (rows_of ws.old) entry.place.0)) ws.old top ws.new result }
 {
+    let x = entry.place.0 as usize;
     let lo = words_before(ws, FBOUND, FBOUND + x);
     let hi = words_before(ws, FBOUND, FBOUND + x + 1);
-    push_forward(ws, FEDGE + lo, FEDGE + hi, index, transitive, kind, top)
+    push_forward(ws, FEDGE + lo, FEDGE + hi, index, entry, top)
 }
 
 // A phi arrived at forwards.
-fn blocked(v: u32, direction: u32) -> bool
-    ensures { result ≡ blocked_w v direction }
+fn blocked(v: u32, direction: Direction) -> bool
+    ensures { result ≡ blocked_w v (direction_bit direction) }
 {
-    if direction == 1 { v == PHI } else { false }
+    direction == Direction::Forwards && v == PHI
 }
 
 // Backward alias edges, then MaybeAlias backward edges (downgrade to conditional).
-fn push_aliases(
-    ws: &mut [u32],
-    x: usize,
-    direction: u32,
-    index: u32,
-    transitive: u32,
-    kind: u32,
-    top: usize,
-) -> usize
-    requires room { Room ws.old top (words_b (rows_of ws.old) (4 * x + ALIASES) + words_b (rows_of ws.old) (4 * x + MAYBE)) }
-    requires x_lt_most_identifiers { (x < most_identifiers) × ((transitive < 2) × (kind < 2)) }
-    ensures { Wrote (aliases_w (rows_of ws.old) x direction index transitive kind) ws.old top ws.new result }
+fn push_aliases(ws: &mut [u32], index: u32, entry: QueueEntry, top: usize) -> usize
+    requires room { Room ws.old top (words_b (rows_of ws.old) (4 * entry.place.0 + ALIASES) + words_b (rows_of ws.old) (4 * entry.place.0 + MAYBE)) }
+    requires place_lt_most_identifiers { entry.place.0 < most_identifiers }
+    ensures { Wrote (aliases_w (rows_of ws.old) entry.place.0 (direction_bit entry.direction) index (bit entry.transitive) (kind_bit entry.kind)) ws.old top ws.new result }
 {
-    if blocked(ws[VALUE + x], direction) {
+    let x = entry.place.0 as usize;
+    if blocked(ws[VALUE + x], entry.direction) {
         return top;
     }
-    let t = push_list(ws, 4 * x + ALIASES as usize, index, transitive, kind, top);
-    push_list(ws, 4 * x + MAYBE as usize, index, transitive, 0, t)
+    let t = push_list(ws, 4 * x + ALIASES as usize, index, entry, top);
+    let maybe = QueueEntry {
+        kind: MutationKind::Conditional,
+        ..entry
+    };
+    push_list(ws, 4 * x + MAYBE as usize, index, maybe, t)
 }
 
 // Only transitive mutations affect captures backward.
-fn push_captures(
-    ws: &mut [u32],
-    x: usize,
-    index: u32,
-    transitive: u32,
-    kind: u32,
-    top: usize,
-) -> usize
-    requires room { Room ws.old top (words_b (rows_of ws.old) (4 * x + CAPTURES)) }
-    requires x_lt_most_identifiers { (x < most_identifiers) × ((transitive < 2) × (kind < 2)) }
-    ensures { Wrote (captures_w (rows_of ws.old) x index transitive kind) ws.old top ws.new result }
+fn push_captures(ws: &mut [u32], index: u32, entry: QueueEntry, top: usize) -> usize
+    requires room { Room ws.old top (words_b (rows_of ws.old) (4 * entry.place.0 + CAPTURES)) }
+    requires place_lt_most_identifiers { entry.place.0 < most_identifiers }
+    ensures { Wrote (captures_w (rows_of ws.old) entry.place.0 index (bit entry.transitive) (kind_bit entry.kind)) ws.old top ws.new result }
 {
-    if transitive == 1 {
-        push_list(ws, 4 * x + CAPTURES as usize, index, transitive, kind, top)
-    } else {
-        top
+    if !entry.transitive {
+        return top;
     }
+    let x = entry.place.0 as usize;
+    push_list(ws, 4 * x + CAPTURES as usize, index, entry, top)
 }
 
-// All that node x pushes, in the original's order.
-pub fn push_all(
-    ws: &mut [u32],
-    x: usize,
-    direction: u32,
-    index: u32,
-    transitive: u32,
-    kind: u32,
-    top: usize,
-) -> usize
-    requires room { Room ws.old top (deg (rows_of ws.old) x) }
-    requires x_lt_most_identifiers { (x < most_identifiers) × ((transitive < 2) × (kind < 2)) }
-    ensures { Wrote (pushed_w (rows_of ws.old) x direction index transitive kind) ws.old top ws.new result }
+// All that the node of an entry pushes, in the original's order.
+pub fn push_all(ws: &mut [u32], index: u32, entry: QueueEntry, top: usize) -> usize
+    requires room { Room ws.old top (deg (rows_of ws.old) entry.place.0) }
+    requires place_lt_most_identifiers { entry.place.0 < most_identifiers }
+    ensures { Wrote (pushed_w (rows_of ws.old) entry.place.0 (direction_bit entry.direction) index (bit entry.transitive) (kind_bit entry.kind)) ws.old top ws.new result }
 {
-    let a = push_edges(ws, x, index, transitive, kind, top);
-    let b = push_list(ws, 4 * x, index, 1, kind, a);
-    let d = push_aliases(ws, x, direction, index, transitive, kind, b);
-    push_captures(ws, x, index, transitive, kind, d)
+    let x = entry.place.0 as usize;
+    let created = QueueEntry {
+        transitive: true,
+        ..entry
+    };
+    let a = push_edges(ws, index, entry, top);
+    let b = push_list(ws, 4 * x, index, created, a);
+    let d = push_aliases(ws, index, entry, b);
+    push_captures(ws, index, entry, d)
 }

@@ -1,5 +1,7 @@
-use Rattle.aliasing.proofs.Writes.{raise_unset}
+use mathlib.Core.Path.{ap, ◌∙◌}
+use lib.ListN.{set}
+use Rattle.aliasing.proofs.Writes.{raised_word}
 use Rattle.aliasing.proofs.raise_end.Goals as goal
 
-pub returns-then-is_unset : goal.returns-then-is_unset
-returns-then-is_unset c = raise_unset _ _ _ _ c.is_unset.ensures c.if-is_unset.true
+pub returns : goal.returns
+returns c = ap (set _ _) c.max.ensures ∙ raised_word _ _ _

@@ -1,32 +1,30 @@
-use Prim.Native.Nat.{ℕ, ◌+◌, ◌*◌}
+use Prim.Native.Nat.{◌+◌, ◌*◌}
 use native.Mathlib.Omega.{arith}
-use mathlib.Core.List.{List}
-use mathlib.Core.Path.{sym, ap, subst, ◌∙◌}
+use Rattle.hir.specs.Mutations.{kind_bit}
 use Rattle.workspace.specs.Graph.{ALIASES, MAYBE}
 use Rattle.workspace.specs.Rows.{rows_of, row_b}
-use Rattle.aliasing.specs.Pushes.{entries_w, words_b, blocked_w}
-use Rattle.writing.specs.Wrote.{Wrote}
-use Rattle.workspace.proofs.Rows.{value_at_lem, rows_length}
-use Rattle.aliasing.proofs.PushLaws.{room_then, room_less, pushed_on, aliases_open, aliases_shut}
-use Rattle.writing.proofs.Writing.{wrote_none}
+use Rattle.workspace.proofs.Rows.{rows_length}
+use Rattle.writing.proofs.Writing.{wrote_none, wrote_as}
+use Rattle.aliasing.specs.Says.{bit, direction_bit}
+use Rattle.aliasing.specs.Pushes.{entries_w, words_b}
 use Rattle.aliasing.proofs.Sizes.{list_le}
+use Rattle.aliasing.proofs.PushLaws.{room_then, pushed_on, aliases_open, aliases_shut}
 use Rattle.aliasing.proofs.pushes.push_aliases.Goals as goal
 
 pub returns-then-blocked : goal.returns-then-blocked
 returns-then-blocked c =
-    let g = rows_of c.args.ws.now in subst (λ (vs : List ℕ). Wrote vs c.args.ws.now c.args.top c.args.ws.now c.args.top) (aliases_shut g c.args.x c.args.direction c.args.index c.args.transitive c.args.kind (ap (λ (v : ℕ). blocked_w v c.args.direction) (value_at_lem c.args.ws.now c.requires.room.size c.args.x c.requires.x_lt_most_identifiers.0) ∙ sym c.blocked.ensures ∙ c.if-blocked.true)) (wrote_none c.args.ws.now c.args.top)
+    let e = c.args.entry in
+    wrote_as (wrote_none _ _) (aliases_shut c.args.ws.now c.requires.room.size e.place.0 (direction_bit e.direction) c.args.index (bit e.transitive) (kind_bit e.kind) c.requires.place_lt_most_identifiers c.blocked.ensures c.if-blocked.true)
 
-pub push_list-t-requires : goal.push_list-t-requires
-push_list-t-requires c =
-    record { room = room_less _ _ (omega arith) c.requires.room; k_lt_most_lists = (omega (arith, c.requires), (c.requires.x_lt_most_identifiers.1.0, c.requires.x_lt_most_identifiers.1.1)) }
-
-pub push_list-requires : goal.push_list-requires
-push_list-requires c =
-    let a = c.args in
-    let g = rows_of a.ws.now in
-    record { room = room_then (λ g. words_b g (4 * a.x + MAYBE)) (words_b g (4 * a.x + ALIASES)) c.requires.room c.push_list-t.ensures (list_le g (rows_length a.ws.now c.requires.room.size) c.requires.room.good a.index a.transitive a.kind (4 * a.x + ALIASES) (omega (arith, c.requires))); k_lt_most_lists = (omega (arith, c.requires), (c.requires.x_lt_most_identifiers.1.0, omega arith)) }
+pub push_list-requires-clause-room : goal.push_list-requires-clause-room
+push_list-requires-clause-room c =
+    let e = c.args.entry in
+    let g = rows_of c.args.ws.now in
+    room_then (λ g. words_b g (4 * e.place.0 + MAYBE)) (words_b g (4 * e.place.0 + ALIASES)) c.requires.room c.push_list-t.ensures
+    (list_le g (rows_length c.args.ws.now c.requires.room.size) c.requires.room.good c.args.index (bit e.transitive) (kind_bit e.kind) (4 * e.place.0 + ALIASES) (omega (arith, c.requires)))
 
 pub returns : goal.returns
 returns c =
-    let a = c.args in
-    let g = rows_of a.ws.now in subst (λ (vs : List ℕ). Wrote vs a.ws.now a.top c.push_list.new.ws c.push_list.result) (aliases_open g a.x a.direction a.index a.transitive a.kind (ap (λ (v : ℕ). blocked_w v a.direction) (value_at_lem a.ws.now c.requires.room.size a.x c.requires.x_lt_most_identifiers.0) ∙ sym c.blocked.ensures ∙ c.if-blocked.false)) (pushed_on (λ g. entries_w a.index a.transitive 0 (row_b g (4 * a.x + MAYBE))) c.requires.room.low c.push_list-t.ensures c.push_list.ensures)
+    let e = c.args.entry in
+    wrote_as (pushed_on (λ g. entries_w c.args.index (bit e.transitive) 0 (row_b g (4 * e.place.0 + MAYBE))) c.requires.room.low c.push_list-t.ensures c.push_list.ensures)
+    (aliases_open c.args.ws.now c.requires.room.size e.place.0 (direction_bit e.direction) c.args.index (bit e.transitive) (kind_bit e.kind) c.requires.place_lt_most_identifiers c.blocked.ensures c.if-blocked.false)
