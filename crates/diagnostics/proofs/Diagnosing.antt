@@ -2,9 +2,9 @@
 use Prim.Native.Nat.{ℕ, ◌+◌, ◌-◌, ◌*◌, ◌≤◌, ◌/◌}
 use native.Mathlib.Omega.{arith}
 use mathlib.Core.Path.{◌≡◌, refl, sym, ap, subst, ◌∙◌}
-use mathlib.Core.Bool.{Bool, true, false, ◌||◌, ◌&&◌}
+use mathlib.Core.Bool.{Bool, true, false, ◌||◌}
 use mathlib.Core.List.{List, [], ◌∷◌, ◌++◌, map, cons≢nil}
-use lib.ListN.{length, set}
+use lib.ListN.{length}
 use lib.Seq.{slice}
 use Rattle.model.specs.Limits.{most_renders, diagnostic_width}
 use Rattle.model.specs.Lists.{keep, cons_if, gather, list_if}
@@ -17,17 +17,17 @@ use Rattle.model.specs.Runs.{rendered}
 use Rattle.model.specs.Building.{build}
 use Rattle.model.specs.Summary.{errors, copied, recorded, after_real, after_renders}
 use Rattle.model.specs.Simulated.{simulate}
-use Rattle.model.specs.Answer.{function_errors, diagnostic_words, section, diagnosed}
+use Rattle.model.specs.Answer.{function_errors, diagnostic_words, diagnosed}
 use Rattle.model.proofs.Quiet.{quiet}
 use Rattle.model.proofs.Rendering.{rendered_handed}
 use Rattle.hir.specs.Words.{several, block_from}
-use Rattle.model.proofs.Either.{and_left}
 use Rattle.workspace.specs.Layout.{LEAST, HANDED, MUTATIONS}
 use Rattle.workspace.specs.Pending.{renders_of}
 use Rattle.aliasing.specs.State.{state_of}
 use Rattle.renders.specs.Renders.{Unmoved}
-use Rattle.writing.specs.Wrote.{Wrote}
-use Rattle.writing.proofs.Writing.{wrote_then, wrote_as, wrote_none}
+use Rattle.writing.specs.declared.Writer.{Writer}
+use Rattle.writing.specs.Wrote.{Writes, Patches}
+use Rattle.writing.proofs.Writing.{writes_then, writes_as, writes_none}
 use Rattle.copies.specs.Copies.{Copies}
 use Rattle.copies.specs.Words.{block_words}
 use Rattle.copies.specs.Functions.{functions_of, Functions}
@@ -62,24 +62,26 @@ copied-recorded s e =
     none true = refl
     none false = refl
 
-module _ (sheet : List ℕ) (f : HirFunction) (a : List ℕ) (at : ℕ) where
-  pub recorded_put : f.errors && f.copies ≡ true → (several f.blocks.count block_from sheet f.blocks.first).next ≤ length sheet → {a' : List ℕ} {at' next : ℕ}
-      → Copies (several f.blocks.count block_from) (gather (block_words Diagnostics)) sheet f.blocks.first a at a' at' next → RecordedPut sheet f a at a' at'
+module _ (sheet : List ℕ) (f : HirFunction) (o : Writer ℕ) where
+  pub recorded_put : f.errors ≡ true → (several f.blocks.count block_from sheet f.blocks.first).next ≤ length sheet → {o' : Writer ℕ} {next : ℕ}
+      → Copies (several f.blocks.count block_from) (gather (block_words Diagnostics)) sheet f.blocks.first o o' next → RecordedPut sheet f o o'
   recorded_put e h p = record {
-    wrote = λ s d. wrote_as p.wrote (ap (gather (block_words Diagnostics)) d.blocks ∙ recorded-words s (sym d.errors ∙ and_left f.errors f.copies e));
+    wrote = λ s d. writes_as p.wrote (ap (gather (block_words Diagnostics)) d.blocks ∙ recorded-words s (sym d.errors ∙ e));
     few = omega (arith, p.few, p.after, h);
   }
 
-  pub recorded-not : f.errors && f.copies ≡ false → RecordedPut sheet f a at a at
+  -- none
+  recorded-not : ((s : Sheet) → Describes s sheet f → recorded s ≡ []) → RecordedPut sheet f o o
   recorded-not e = record {
-    wrote = λ s d. wrote_as (wrote_none a at) (ap (gather diagnostic_words) (sym (go f.errors f.copies e (λ g. recorded_none s (sym d.errors ∙ g)) (λ g. copied-recorded s (d.copies g)))));
+    wrote = λ s d. writes_as (writes_none o) (ap (gather diagnostic_words) (sym (e s d)));
     few = omega arith;
   }
-    where
-      go : (b c : Bool) {l : List Diagnostic} → b && c ≡ false → (b ≡ false → l ≡ []) → (c ≡ false → l ≡ []) → l ≡ []
-      go b false e g h = h refl
-      go false true e g h = g refl
-      go true true e g h = g e
+
+  pub recorded_quiet : f.errors ≡ false → RecordedPut sheet f o o
+  recorded_quiet e = recorded-not (λ s d. recorded_none s (sym d.errors ∙ e))
+
+  pub recorded_apart : f.copies ≡ false → RecordedPut sheet f o o
+  recorded_apart e = recorded-not (λ s d. copied-recorded s (d.copies e))
 
 -- ---- those handed over
 -- what renders hand over comes after what was handed over before, and is the same as on the bare state
@@ -109,76 +111,69 @@ handed_quiet s ws hand e t =
     ∙ ap (λ (u : State). u.handed) (sym t)
     ∙ sym (handed_words ws hand)
 
--- where the arms meet: the renders were run if errors are recorded
-pub record HandedPut (sheet lists ws : List ℕ) (f : HirFunction) (renders hand : ℕ) (a : List ℕ) (at : ℕ) (ws' a' : List ℕ) (at' : ℕ) : Type 0 where
+-- after the functions that mutations handed over: the renders are run if errors are recorded
+pub record HandedPut (sheet lists ws : List ℕ) (f : HirFunction) (renders hand : ℕ) (o : Writer ℕ) (ws' : List ℕ) (o' : Writer ℕ) : Type 0 where
   pub wrote : (s : Sheet) → Describes s sheet f → Stands s lists ws → state_of ws hand ≡ after_real s → renders_of ws renders ≡ (build s).renders
-      → Wrote (gather diagnostic_words (gather (function_errors s.functions) (simulate s).state.handed)) a at a' at'
-  pub least : at ≤ at'
-  pub few : at' ≤ at + most_handed * (1 + most_renders)
+      → Writes (gather diagnostic_words (gather (function_errors s.functions) (simulate s).state.handed)) o o'
+  pub least : o.at ≤ o'.at
+  pub few : o'.at ≤ o.at + most_handed * (1 + most_renders)
   pub unmoved : Unmoved ws ws'
-  pub same : length a' ≡ length a
 
--- after the functions that mutations handed over
-module _ (sheet lists ws : List ℕ) (f : HirFunction) (renders : ℕ) {hand : ℕ} (g : Functions lists ws (functions_of lists ws f.m)) (low : hand ≤ MUTATIONS) (size : LEAST ≤ length ws) {a : List ℕ} {at : ℕ} {a₁ : List ℕ} {at₁ : ℕ}
-    (p : Wrote (gather diagnostic_words (gather (function_errors (functions_of lists ws f.m)) (slice HANDED hand ws))) a at a₁ at₁) (same : length a₁ ≡ length a) where
-  room : at₁ ≤ at + most_handed
+module _ (sheet lists ws : List ℕ) (f : HirFunction) (renders : ℕ) {hand : ℕ} (g : Functions lists ws (functions_of lists ws f.m)) (low : hand ≤ MUTATIONS) (size : LEAST ≤ length ws) {o o₁ : Writer ℕ}
+    (p : Writes (gather diagnostic_words (gather (function_errors (functions_of lists ws f.m)) (slice HANDED hand ws))) o o₁) where
+  room : o₁.at ≤ o.at + most_handed
   room = omega (arith, handed_room g hand (omega (arith, low, size)) p, low)
 
-  pub handed_put : f.errors ≡ true → renders ≤ most_renders → {ws' a₂ : List ℕ} {at₂ : ℕ} → RendersPut lists ws f.m renders a₁ at₁ ws' a₂ at₂ → length a₂ ≡ length a₁
-      → HandedPut sheet lists ws f renders hand a at ws' a₂ at₂
-  handed_put e h q same' = record {
+  pub handed_put : f.errors ≡ true → renders ≤ most_renders → {ws' : List ℕ} {o₂ : Writer ℕ} → RendersPut lists ws f.m renders o₁ ws' o₂ → HandedPut sheet lists ws f renders hand o ws' o₂
+  handed_put e h q = record {
     wrote = λ s d t u r.
         let fs : List InnerFunction = functions_of lists ws f.m in
         let rs : List ℕ = (rendered (renders_of ws renders) (state_of ws HANDED)).handed in
-        wrote_as (wrote_then p q.wrote)
+        writes_as (writes_then p q.wrote)
         (sym (gather_append diagnostic_words (gather (function_errors fs) (slice HANDED hand ws)) (gather (function_errors fs) rs))
         ∙ ap (gather diagnostic_words) (sym (gather_append (function_errors fs) (slice HANDED hand ws) rs) ∙ ap (gather (function_errors fs)) (sym (handed_errors s ws renders hand (sym d.errors ∙ e) u r)))
         ∙ ap (λ (l : List InnerFunction). gather diagnostic_words (gather (function_errors l) (simulate s).state.handed)) (functions_are t.functions d.m));
-    least = omega (arith, p.next, q.wrote.next);
+    least = omega (arith, p.wrote.next, q.wrote.wrote.next);
     few = omega (arith, room, q.few, h);
     unmoved = q.unmoved;
-    same = same' ∙ same;
   }
 
-  pub handed_not : f.errors ≡ false → HandedPut sheet lists ws f renders hand a at ws a₁ at₁
+  pub handed_not : f.errors ≡ false → HandedPut sheet lists ws f renders hand o ws o₁
   handed_not e = record {
     wrote = λ s d t u r.
-        wrote_as p
+        writes_as p
         (ap (λ (l : List InnerFunction). gather diagnostic_words (gather (function_errors l) (slice HANDED hand ws))) (functions_are t.functions d.m)
         ∙ ap (λ (l : List ℕ). gather diagnostic_words (gather (function_errors s.functions) l)) (sym (handed_quiet s ws hand (sym d.errors ∙ e) u)));
-    least = omega (arith, p.next);
+    least = omega (arith, p.wrote.next);
     few = omega (arith, room);
     unmoved = unmoved_none ws;
-    same = same;
   }
 
 -- the same by other names
-pub handed_as : {sheet lists ws : List ℕ} {f : HirFunction} {renders hand : ℕ} {a : List ℕ} {at : ℕ} {ws' ws'' a' a'' : List ℕ} {at' at'' : ℕ} → HandedPut sheet lists ws f renders hand a at ws' a' at'
-    → ws'' ≡ ws' → a'' ≡ a' → at'' ≡ at' → HandedPut sheet lists ws f renders hand a at ws'' a'' at''
-handed_as {sheet} {lists} {ws} {f} {renders} {hand} {a} {at} {ws'} {ws''} {a'} {a''} {at'} {at''} h p q r =
-    subst (λ (k : ℕ). HandedPut sheet lists ws f renders hand a at ws'' a'' k) (sym r)
-    (subst (λ (l : List ℕ). HandedPut sheet lists ws f renders hand a at ws'' l at') (sym q) (subst (λ (l : List ℕ). HandedPut sheet lists ws f renders hand a at l a' at') (sym p) h))
+pub handed_as : {sheet lists ws : List ℕ} {f : HirFunction} {renders hand : ℕ} {o : Writer ℕ} {ws' ws'' : List ℕ} {o' o'' : Writer ℕ} → HandedPut sheet lists ws f renders hand o ws' o'
+    → ws'' ≡ ws' → o'' ≡ o' → HandedPut sheet lists ws f renders hand o ws'' o''
+handed_as {sheet} {lists} {ws} {f} {renders} {hand} {o} {ws'} {ws''} {o'} h p q =
+    subst (λ (x : Writer ℕ). HandedPut sheet lists ws f renders hand o ws'' x) (sym q) (subst (λ (l : List ℕ). HandedPut sheet lists ws f renders hand o l o') (sym p) h)
 
 -- ---- the whole section
-module _ {sheet lists ws : List ℕ} {f : HirFunction} {renders hand : ℕ} {a : List ℕ} {at : ℕ} {a₁ : List ℕ} {at₁ : ℕ} {a₂ : List ℕ} {at₂ : ℕ} {ws' a₃ : List ℕ} {at₃ : ℕ} (some : (s : Sheet) × (Describes s sheet f × Stands s lists ws))
-    (p : Wrote (0 ∷ []) a at a₁ at₁) (q : RecordedPut sheet f a₁ at₁ a₂ at₂) (h : HandedPut sheet lists ws f renders hand a₂ at₂ ws' a₃ at₃) where
+module _ {sheet lists ws : List ℕ} {f : HirFunction} {renders hand : ℕ} {o o₁ o₂ : Writer ℕ} {ws' : List ℕ} {o₃ : Writer ℕ} (some : (s : Sheet) × (Describes s sheet f × Stands s lists ws))
+    (p : Writes (0 ∷ []) o o₁) (q : RecordedPut sheet f o₁ o₂) (h : HandedPut sheet lists ws f renders hand o₂ ws' o₃) where
   -- the count is a difference of positions
-  pub count_least : at₁ ≤ at₃
-  count_least = omega (arith, (q.wrote some.0 some.1.0).next, h.least)
+  pub count_least : o₁.at ≤ o₃.at
+  count_least = omega (arith, (q.wrote some.0 some.1.0).wrote.next, h.least)
 
-  pub section_few : at₃ ≤ at + most_diagnosed
-  section_few = omega (arith, p.next, q.few, some.1.0.short, h.few)
+  pub section_few : o₃.at ≤ o.at + most_diagnosed
+  section_few = omega (arith, p.wrote.next, q.few, some.1.0.short, h.few)
 
-  pub diagnostics_put : {a₄ : List ℕ} → a₄ ≡ set a₃ at ((at₃ - at₁) / diagnostic_width) → DiagnosticsPut sheet lists ws f renders hand a at ws' a₄ at₃
+  pub diagnostics_put : {o₄ : Writer ℕ} → Patches o.at ((o₃.at - o₁.at) / diagnostic_width) o₃ o₄ → DiagnosticsPut sheet lists ws f renders hand o ws' o₄
   unfolding diagnosed
   diagnostics_put e = record {
     wrote = λ s d t u r.
         let l : List Diagnostic = diagnosed s in
-        let w : Wrote (0 ∷ gather diagnostic_words l) a at a₃ at₃ =
-        wrote_as (wrote_then p (wrote_then (q.wrote s d) (h.wrote s d t u r)))
+        let w : Writes (0 ∷ gather diagnostic_words l) o o₃ =
+        writes_as (writes_then p (writes_then (q.wrote s d) (h.wrote s d t u r)))
         (ap (λ (z : List ℕ). 0 ∷ z) (sym (gather_append diagnostic_words (recorded s) (gather (function_errors s.functions) (simulate s).state.handed)))) in
-        let n : length l ≡ (at₃ - at₁) / diagnostic_width = omega (arith, p.next, diagnostics_count l w) in
-        subst (λ (b : List ℕ). Wrote (section diagnostic_words l) a at b at₃) (ap (set a₃ at) n ∙ sym e) (section_patched diagnostic_words l w);
-    few = section_few;
+        section_patched diagnostic_words l w e (omega (arith, p.wrote.next, diagnostics_count l w));
+    few = omega (arith, section_few, e.stays);
     unmoved = h.unmoved;
   }

@@ -22,8 +22,9 @@ use Rattle.workspace.proofs.Parts.{drop-word}
 use Rattle.aliasing.specs.State.{nodes_of, records_of, ends_of, state_of}
 use Rattle.aliasing.proofs.Walks.{aside_none, aside_then, indexed-after}
 use Rattle.renders.specs.Renders.{Unmoved, Rendered}
-use Rattle.writing.specs.Wrote.{Wrote}
-use Rattle.writing.proofs.Writing.{wrote_as}
+use Rattle.writing.specs.declared.Writer.{Writer}
+use Rattle.writing.specs.Wrote.{Writes}
+use Rattle.writing.proofs.Writing.{writes_as}
 use Rattle.copies.specs.Functions.{functions_of, Functions}
 use Rattle.copies.proofs.Errors.{functions_are, functions_again, functions_kept, handed_room}
 use Rattle.model.proofs.Gathers.{gather_gather}
@@ -83,21 +84,21 @@ abbrev pub render_words : State → List InnerFunction → RenderOf → List ℕ
 render_words t fs r = gather diagnostic_words (gather (function_errors fs) (hands_over t r))
 
 -- from render i on
-pub record Rendering (fs : List InnerFunction) (ws₀ : List ℕ) (n : ℕ) (a₀ : List ℕ) (at₀ : ℕ) (ws a : List ℕ) (at i : ℕ) : Type 0 where
-  pub leaves : Leaves (gather (render_words (state_of ws₀ HANDED) fs) (tab n (render_at ws₀))) (gather (render_words (state_of ws₀ HANDED) fs) (drop i (tab n (render_at ws₀)))) a₀ at₀ a at
-  pub few : at + most_handed * (n - i) ≤ at₀ + most_handed * n
+pub record Rendering (fs : List InnerFunction) (ws₀ : List ℕ) (n : ℕ) (o₀ : Writer ℕ) (ws : List ℕ) (o : Writer ℕ) (i : ℕ) : Type 0 where
+  pub leaves : Leaves (gather (render_words (state_of ws₀ HANDED) fs) (tab n (render_at ws₀))) (gather (render_words (state_of ws₀ HANDED) fs) (drop i (tab n (render_at ws₀)))) o₀ o
+  pub few : o.at + most_handed * (n - i) ≤ o₀.at + most_handed * n
   pub unmoved : Unmoved ws₀ ws
   pub indexed : Indexed ws
 
-pub rendering_start : (fs : List InnerFunction) (ws : List ℕ) (n : ℕ) (a : List ℕ) (at : ℕ) → Indexed ws → Rendering fs ws n a at ws a at 0
-rendering_start fs ws n a at indexed = record {
-  leaves = leaves_all (gather (render_words (state_of ws HANDED) fs) (tab n (render_at ws))) a at;
+pub rendering_start : (fs : List InnerFunction) (ws : List ℕ) (n : ℕ) (o : Writer ℕ) → Indexed ws → Rendering fs ws n o ws o 0
+rendering_start fs ws n o indexed = record {
+  leaves = leaves_all (gather (render_words (state_of ws HANDED) fs) (tab n (render_at ws))) o;
   few = omega arith;
   unmoved = unmoved_none ws;
   indexed = indexed;
 }
 
-module _ {fs : List InnerFunction} {ws₀ : List ℕ} {n : ℕ} {a₀ : List ℕ} {at₀ : ℕ} {ws a : List ℕ} {at i : ℕ} (v : Rendering fs ws₀ n a₀ at₀ ws a at i) where
+module _ {fs : List InnerFunction} {ws₀ : List ℕ} {n : ℕ} {o₀ : Writer ℕ} {ws : List ℕ} {o : Writer ℕ} {i : ℕ} (v : Rendering fs ws₀ n o₀ ws o i) where
   module _ {ws' : List ℕ} {count hand : ℕ} (r : Rendered (get_or ws (RENDERS + i) 0 / 512) (get_or ws (RENDERS + i) 0 % 512) ws ws' count hand) where
     -- what this render hands over, by the state and the words of the start
     turn_words : slice HANDED hand ws' ≡ hands_over (state_of ws₀ HANDED) (render_at ws₀ i)
@@ -115,14 +116,14 @@ module _ {fs : List InnerFunction} {ws₀ : List ℕ} {n : ℕ} {a₀ : List ℕ
       pub turn_functions : Functions lists ws' (functions_of lists ws' m)
       turn_functions = functions_again (functions_stay turn_unmoved g) q
 
-      pub rendering_turn : i < n → {a' : List ℕ} {at' : ℕ} → Wrote (gather diagnostic_words (gather (function_errors (functions_of lists ws' m)) (slice HANDED hand ws'))) a at a' at' → Rendering fs ws₀ n a₀ at₀ ws' a' at' (i + 1)
+      pub rendering_turn : i < n → {o' : Writer ℕ} → Writes (gather diagnostic_words (gather (function_errors (functions_of lists ws' m)) (slice HANDED hand ws'))) o o' → Rendering fs ws₀ n o₀ ws' o' (i + 1)
       rendering_turn h p =
           let same : functions_of lists ws' m ≡ fs = functions_are (functions_stay turn_unmoved g) q in
           let indexed = indexed-after v.indexed r.unmoved.aside.graph r.unmoved.aside.same in
           record {
             leaves =
                 table_turn (render_words (state_of ws₀ HANDED) fs) n (render_at ws₀) i v.leaves h
-                (wrote_as p
+                (writes_as p
                 (ap (λ (l : List InnerFunction). gather diagnostic_words (gather (function_errors l) (slice HANDED hand ws'))) same
                 ∙ ap (λ (l : List ℕ). gather diagnostic_words (gather (function_errors fs) l)) turn_words));
             few = omega (arith, v.few, handed_room turn_functions hand (omega (arith, r.room, indexed.size)) p, r.room, h);
@@ -130,13 +131,13 @@ module _ {fs : List InnerFunction} {ws₀ : List ℕ} {n : ℕ} {a₀ : List ℕ
             indexed = indexed;
           }
 
-  pub rendering_end : n ≤ i → {lists : List ℕ} {m : ℕ} → functions_of lists ws₀ m ≡ fs → RendersPut lists ws₀ m n a₀ at₀ ws a at
+  pub rendering_end : n ≤ i → {lists : List ℕ} {m : ℕ} → functions_of lists ws₀ m ≡ fs → RendersPut lists ws₀ m n o₀ ws o
   unfolding renders_of
   rendering_end h {lists} {m} q = record {
     wrote =
         let t : State = state_of ws₀ HANDED in
         let rs : List RenderOf = tab n (render_at ws₀) in
-        wrote_as (table_end (render_words t fs) n (render_at ws₀) i v.leaves h)
+        writes_as (table_end (render_words t fs) n (render_at ws₀) i v.leaves h)
         (sym (gather_gather diagnostic_words (λ (r : RenderOf). gather (function_errors fs) (hands_over t r)) rs)
         ∙ ap (gather diagnostic_words) (sym (gather_gather (function_errors fs) (hands_over t) rs) ∙ ap (gather (function_errors fs)) (sym (rendered-words rs ws₀)))
         ∙ ap (λ (l : List InnerFunction). gather diagnostic_words (gather (function_errors l) (rendered rs t).handed)) (sym q));

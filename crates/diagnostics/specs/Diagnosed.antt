@@ -11,7 +11,8 @@ use Rattle.workspace.specs.Layout.{HANDED, MUTATIONS}
 use Rattle.workspace.specs.Pending.{renders_of}
 use Rattle.aliasing.specs.State.{state_of}
 use Rattle.renders.specs.Renders.{Unmoved}
-use Rattle.writing.specs.Wrote.{Wrote}
+use Rattle.writing.specs.declared.Writer.{Writer}
+use Rattle.writing.specs.Wrote.{Writes}
 use Rattle.copies.specs.Functions.{most_errors, functions_of}
 use Rattle.dataflow.specs.declared.function.HirFunction.{HirFunction}
 use Rattle.dataflow.specs.Function.{Describes, Stands}
@@ -25,19 +26,19 @@ abbrev pub most_diagnosed : ℕ
 most_diagnosed = 1 + most_sheet + most_handed * (1 + most_renders)
 
 -- the pending renders were run in order, and the diagnostics of the functions that they handed over were written
-pub record RendersPut (lists ws : List ℕ) (m count : ℕ) (answer : List ℕ) (at : ℕ) (ws' answer' : List ℕ) (r : ℕ) : Type 0 where
-  pub wrote : Wrote (gather diagnostic_words (gather (function_errors (functions_of lists ws m)) (rendered (renders_of ws count) (state_of ws HANDED)).handed)) answer at answer' r
-  pub few : r ≤ at + most_handed * count
+pub record RendersPut (lists ws : List ℕ) (m count : ℕ) (o : Writer ℕ) (ws' : List ℕ) (o' : Writer ℕ) : Type 0 where
+  pub wrote : Writes (gather diagnostic_words (gather (function_errors (functions_of lists ws m)) (rendered (renders_of ws count) (state_of ws HANDED)).handed)) o o'
+  pub few : o'.at ≤ o.at + most_handed * count
   pub unmoved : Unmoved ws ws'
 
 -- the diagnostics recorded while building were written
-pub record RecordedPut (sheet : List ℕ) (f : HirFunction) (answer : List ℕ) (at : ℕ) (answer' : List ℕ) (r : ℕ) : Type 0 where
-  pub wrote : (s : Sheet) → Describes s sheet f → Wrote (gather diagnostic_words (recorded s)) answer at answer' r
-  pub few : r ≤ at + length sheet
+pub record RecordedPut (sheet : List ℕ) (f : HirFunction) (o o' : Writer ℕ) : Type 0 where
+  pub wrote : (s : Sheet) → Describes s sheet f → Writes (gather diagnostic_words (recorded s)) o o'
+  pub few : o'.at ≤ o.at + length sheet
 
 -- the section was written, after the real mutations handed over the functions up to `hand`
-pub record DiagnosticsPut (sheet lists ws : List ℕ) (f : HirFunction) (renders hand : ℕ) (answer : List ℕ) (at : ℕ) (ws' answer' : List ℕ) (r : ℕ) : Type 0 where
+pub record DiagnosticsPut (sheet lists ws : List ℕ) (f : HirFunction) (renders hand : ℕ) (o : Writer ℕ) (ws' : List ℕ) (o' : Writer ℕ) : Type 0 where
   pub wrote : (s : Sheet) → Describes s sheet f → Stands s lists ws → state_of ws hand ≡ after_real s → renders_of ws renders ≡ (build s).renders
-      → Wrote (section diagnostic_words (diagnosed s)) answer at answer' r
-  pub few : r ≤ at + most_diagnosed
+      → Writes (section diagnostic_words (diagnosed s)) o o'
+  pub few : o'.at ≤ o.at + most_diagnosed
   pub unmoved : Unmoved ws ws'

@@ -19,7 +19,7 @@ use hir::IdentifierId;
 use hir::at::DIAGNOSTIC_WIDTH;
 use renders::render;
 use workspace::RENDERS;
-use writing::{patch, put};
+use writing::Writer;
 
 // Process renders: the pending ones in order; the diagnostics of the functions that each hands over.
 fn process_renders(
@@ -27,45 +27,30 @@ fn process_renders(
     ws: &mut [u32],
     count: u32,
     renders: usize,
-    answer: &mut [u32],
-    at: usize,
-) -> usize
+    out: &mut Writer<'_, u32>,
+)
     requires indexed { Indexed ws.old }
     requires count_le_most_functions { (count ≤ most_functions) × (renders ≤ most_renders) }
     requires functions { Functions lists.now ws.old (functions_of lists.now ws.old count) }
-    requires renders_bound { at + most_handed * renders ≤ farthest }
-    ensures { RendersPut lists.now ws.old count renders answer.old at ws.new answer.new result }
+    requires renders_bound { out.old.at + most_handed * renders ≤ farthest }
+    ensures { RendersPut lists.now ws.old count renders out.old ws.new out.new }
 {
-    let mut to = at;
-    let mut i = 0;
-    while i < renders {
+    for i in 0..renders {
         let w = ws[RENDERS + i];
-        let r = render(ws, w / 512, IdentifierId(w % 512));
-        to = put_handed(lists, ws, count, r.hand, answer, to);
-        i += 1;
+        let taken = render(ws, w / 512, IdentifierId(w % 512));
+        put_handed(lists, ws, count, taken.hand, out);
     }
-    to
 }
 
 // The diagnostics that are recorded: none unless errors are, and none where no effect is copied.
-fn put_recorded(sheet: &[u32], f: HirFunction, answer: &mut [u32], at: usize) -> usize
+fn put_recorded(sheet: &[u32], f: HirFunction, out: &mut Writer<'_, u32>)
     requires first_in_bounds { (several f.blocks.count block_from sheet.now f.blocks.first).next ≤ length sheet.now }
-    requires sheet_bound { at + length sheet.now ≤ farthest }
-    ensures { RecordedPut sheet.now f answer.old at answer.new result }
+    requires sheet_bound { out.old.at + length sheet.now ≤ farthest }
+    ensures { RecordedPut sheet.now f out.old out.new }
 {
-    if f.errors & f.copies {
-        let blocks = f.blocks;
-        let r = copy_effects(
-            sheet,
-            blocks.first,
-            blocks.count,
-            Section::Diagnostics,
-            answer,
-            at,
-        );
-        return r.at;
+    if f.errors && f.copies {
+        copy_effects(sheet, f.blocks, Section::Diagnostics, out);
     }
-    at
 }
 
 // The section; mutations handed over the functions up to `hand`, whose diagnostics stand in `lists`.
@@ -76,21 +61,21 @@ pub fn put_diagnostics(
     f: HirFunction,
     renders: usize,
     hand: usize,
-    answer: &mut [u32],
-    at: usize,
-) -> usize
+    out: &mut Writer<'_, u32>,
+)
     requires limited { Limited f }
     requires indexed { Indexed ws.old }
     requires describes { (s : Sheet) × (Describes s sheet.now f × Stands s lists.now ws.old) }
-    requires renders_le_most_renders { (renders ≤ most_renders) × ((hand ≤ MUTATIONS) × (at + most_diagnosed ≤ farthest)) }
-    ensures { DiagnosticsPut sheet.now lists.now ws.old f renders hand answer.old at ws.new answer.new result }
+    requires renders_le_most_renders { (renders ≤ most_renders) × ((hand ≤ MUTATIONS) × (out.old.at + most_diagnosed ≤ farthest)) }
+    ensures { DiagnosticsPut sheet.now lists.now ws.old f renders hand out.old ws.new out.new }
 {
-    let a1 = put(answer, at, 0);
-    let a2 = put_recorded(sheet, f, answer, a1);
-    let mut a3 = put_handed(lists, ws, f.m, hand, answer, a2);
+    let start = out.at;
+    out.put(0);
+    let first = out.at;
+    put_recorded(sheet, f, out);
+    put_handed(lists, ws, f.m, hand, out);
     if f.errors {
-        a3 = process_renders(lists, ws, f.m, renders, answer, a3);
+        process_renders(lists, ws, f.m, renders, out);
     }
-    patch(answer, at, ((a3 - a1) / DIAGNOSTIC_WIDTH) as u32);
-    a3
+    out.patch(start, ((out.at - first) / DIAGNOSTIC_WIDTH) as u32);
 }

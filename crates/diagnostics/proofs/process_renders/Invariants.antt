@@ -1,10 +1,6 @@
-use Prim.Native.Nat.{◌-◌}
 use Rattle.copies.specs.Functions.{functions_of}
 use Rattle.diagnostics.proofs.Rendering.{Rendering}
 use Rattle.diagnostics.proofs.process_renders.Given as goal
 
 abbrev pub invariant-loop-i : goal.invariant-loop-i
-invariant-loop-i l = Rendering (functions_of l.lists l.initial.ws l.count) l.initial.ws l.renders l.initial.answer l.at l.ws l.answer l.to l.i
-
-abbrev pub decreases-loop-i : goal.decreases-loop-i
-decreases-loop-i l = l.renders - l.i
+invariant-loop-i l = Rendering (functions_of l.lists l.initial.ws l.count) l.initial.ws l.renders l.initial.out l.ws l.out l.i
