@@ -1,42 +1,44 @@
 // The graph of a sheet as a DOT file (document 02, order 6).
 #![tactic(auto)]
 
-ghost use Rattle.model.specs.Call.{refusal};
+ghost use Rattle.model.specs.Call.{refusal as refused};
+ghost use Rattle.hir.specs.Refusals.{refusal_number};
 ghost use Rattle.inference.specs.Outcome.{Came};
 ghost use Rattle.dot.specs.Drawn.{Drawn};
 
 use crate::graph::put_graph;
-use inference::{Preparation, prepare};
-use workspace::clear_from;
-use writing::{Outcome, clear_bytes_from};
+use hir::refusal::Refusal;
+use inference::prepare;
+use writing::Writer;
 
 mod graph;
 mod lines;
 mod text;
 
 // A refusal leaves both buffers all 0.
-fn refuse(ws: &mut [u32], text: &mut [u8], k: u32) -> Outcome
-    ensures { Came (refusal k) ws.old text.old result ws.new text.new }
+// Kept: its twin in crate inference fills words; one over both would have to be given the zero.
+fn refuse(ws: &mut [u32], text: &mut [u8], refusal: Refusal) -> Result<usize, Refusal>
+    ensures { Came (refused (refusal_number refusal)) ws.old text.old result ws.new text.new }
 {
-    clear_from(ws, 0);
-    clear_bytes_from(text, 0);
-    Outcome::Refused(k)
+    ws.fill(0);
+    text.fill(0);
+    Err(refusal)
 }
 
-// The drawing: the text of an accepted sheet's graph, then zeros, or 9 where there are fewer bytes. Apply is no refusal here.
-pub fn draw(sheet: &[u32], workspace: &mut [u32], text: &mut [u8]) -> Outcome
+// The drawing: the text of an accepted sheet's graph, then zeros, or a refusal where there are fewer bytes. Apply is no refusal here.
+pub fn draw(sheet: &[u32], workspace: &mut [u32], text: &mut [u8]) -> Result<usize, Refusal>
     ensures { Drawn sheet.now workspace.old text.old result workspace.new text.new }
 {
-    match prepare(sheet, workspace) {
-        Preparation::Refused(k) => refuse(workspace, text, k),
-        Preparation::Ready(_, _) => {
-            let length = put_graph(workspace, text);
-            if text.len() < length {
-                return refuse(workspace, text, 9);
-            }
-            clear_from(workspace, 0);
-            clear_bytes_from(text, length);
-            Outcome::Accepted(length)
-        }
+    if let Err(refusal) = prepare(sheet, workspace) {
+        return refuse(workspace, text, refusal);
     }
+    let mut out = Writer::new(text);
+    put_graph(workspace, &mut out);
+    let length = out.at;
+    if text.len() < length {
+        return refuse(workspace, text, Refusal::ShortAnswer);
+    }
+    workspace.fill(0);
+    text[length..].fill(0);
+    Ok(length)
 }

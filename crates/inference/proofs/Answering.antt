@@ -32,8 +32,9 @@ use Rattle.aliasing.specs.State.{records_of, ends_of, state_of}
 use Rattle.aliasing.specs.Pending.{taken_of, Processed}
 use Rattle.aliasing.proofs.Walks.{indexed-after}
 use Rattle.renders.specs.Renders.{Unmoved}
-use Rattle.writing.specs.Wrote.{Wrote}
-use Rattle.writing.proofs.Writing.{wrote_then, wrote_as}
+use Rattle.writing.specs.declared.Writer.{Writer}
+use Rattle.writing.specs.Wrote.{Writes}
+use Rattle.writing.proofs.Writing.{writes_then, writes_as}
 use Rattle.summary.specs.Records.{Holds}
 use Rattle.workspace.specs.Tracked.{tracked_from}
 use Rattle.summary.specs.Sections.{Marked, simulated_of}
@@ -47,14 +48,14 @@ use Rattle.dataflow.proofs.Standing.{stands_kept}
 use Rattle.inference.specs.Whole.{Prepared, TrackedPut}
 
 -- ---- params, context
-module _ {ws : List ℕ} {f : HirFunction} {a a₁ a₂ : List ℕ} {at at₁ at₂ : ℕ} where
-  pub tracked_put : Limited f → Marked ws 0 f.params a at a₁ at₁ → Marked ws f.params f.context a₁ at₁ a₂ at₂ → TrackedPut ws f a at a₂ at₂
+module _ {ws : List ℕ} {f : HirFunction} {o o₁ o₂ : Writer ℕ} where
+  pub tracked_put : Limited f → Marked ws 0 f.params o o₁ → Marked ws f.params f.context o₁ o₂ → TrackedPut ws f o o₂
   tracked_put l p c = record {
     wrote = λ s sheet t d st h.
         let e : tracked_from ws 0 f.params ≡ s.params = ap (λ (k : ℕ). tracked_from ws 0 k) d.params ∙ params_tracked s ws st in
         let g : tracked_from ws f.params f.context ≡ s.context =
         ap (λ (k : ℕ). tracked_from ws k f.context) d.params ∙ ap (λ (k : ℕ). tracked_from ws (length s.params) k) d.context ∙ context_tracked s ws st in
-        wrote_then (wrote_as (p t h) (ap (λ (q : List Place). section place_words (map (marked t) q)) e)) (wrote_as (c t h) (ap (λ (q : List Place). section place_words (map (marked t) q)) g));
+        writes_then (writes_as (p t h) (ap (λ (q : List Place). section place_words (map (marked t) q)) e)) (writes_as (c t h) (ap (λ (q : List Place). section place_words (map (marked t) q)) g));
     few = omega (arith, marked_next ws 0 f.params p, marked_next ws f.params f.context c, l.params, l.context);
   }
 
@@ -140,12 +141,12 @@ module _ {s : Sheet} {sheet lists ws : List ℕ} {f : HirFunction} {b : Building
           tab-same b.mutations (λ (i : ℕ). get_or ws₃ (MUTATIONS + 3 * i + 2) 0) (λ (i : ℕ). get_or ws₁ (MUTATIONS + 3 * i + 2) 0) word_kept
           ∙ real_counts
 
-      module _ {a a₁ a₂ a₃ a₄ : List ℕ} {at at₁ at₂ at₃ at₄ : ℕ} where
+      module _ {o o₁ o₂ o₃ o₄ : Writer ℕ} where
         -- the sections from params to walks
-        pub middle_wrote : TrackedPut ws₁ f a at a₁ at₁ → Wrote (section diagnostic_words (diagnosed s)) a₁ at₁ a₂ at₂ → Wrote (section effect_words (summary s)) a₂ at₂ a₃ at₃
+        pub middle_wrote : TrackedPut ws₁ f o o₁ → Writes (section diagnostic_words (diagnosed s)) o₁ o₂ → Writes (section effect_words (summary s)) o₂ o₃
             → simulated_of ws₃ (f.params + f.context + 1) ≡ map (λ (w : Walk). w.taken) (simulate s).walks
-            → Wrote (section count_words (taken_of ws₃ b.mutations ++ simulated_of ws₃ (f.params + f.context + 1))) a₃ at₃ a₄ at₄
-            → Wrote (middle_words (answer s)) a at a₄ at₄
+            → Writes (section count_words (taken_of ws₃ b.mutations ++ simulated_of ws₃ (f.params + f.context + 1))) o₃ o₄
+            → Writes (middle_words (answer s)) o o₄
         unfolding middle_words answer
         middle_wrote places diagnostics effects counts walks =
             let t : State = after_renders s in
@@ -157,5 +158,5 @@ module _ {s : Sheet} {sheet lists ws : List ℕ} {f : HirFunction} {b : Building
             ap (λ (l : List ℕ). l ++ simulated_of ws₃ (f.params + f.context + 1)) last_counts ∙ ap (λ (l : List ℕ). map taken (real_walks s) ++ l) counts
             ∙ sym (map-append taken (real_walks s) (simulate s).walks) in
             let rest : List ℕ = section diagnostic_words (diagnosed s) ++ (section effect_words (summary s) ++ section count_words all) in
-            wrote_as (wrote_then (places.wrote s sheet t p.describes real_stands.tracked real_holds) (wrote_then diagnostics (wrote_then effects (wrote_as walks (ap (section count_words) c)))))
+            writes_as (writes_then (places.wrote s sheet t p.describes real_stands.tracked real_holds) (writes_then diagnostics (writes_then effects (writes_as walks (ap (section count_words) c)))))
             (append_assoc y z rest)

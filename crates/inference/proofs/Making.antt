@@ -34,8 +34,8 @@ use Rattle.dataflow.specs.Function.{Limited, Describes}
 use Rattle.dataflow.specs.ReadFunction.{FunctionRead}
 use Rattle.dataflow.proofs.Accepted.{sheet_is, accepted}
 use Rattle.dataflow.proofs.Sheet.{blocks_ready, blocks_whole}
-use Rattle.inference.specs.declared.Preparation.TheVariants.{Refused}
-use Rattle.inference.specs.declared.Preparation.TheVariants.{Ready as ready}
+use Rattle.std.specs.Prelude.{Ok, Err}
+use Rattle.hir.specs.declared.refusal.Refusal.TheVariants.{Totals}
 use Rattle.inference.specs.Whole.{NoneUnless, AppliesIs, Keeps, Prepares}
 use Rattle.inference.proofs.Preparing.{prepared}
 use Rattle.inference.proofs.Calling.{prepares_as}
@@ -86,15 +86,15 @@ module _ {sheet : List ℕ} (p : (s : Sheet) × IsSheet sheet s) {ws ws₁ : Lis
     itself = subst (IsSheet sheet) (sym (sheet_is sheet p.1)) p.1
 
     -- too much would be held
-    pub over_refused : most_relations < r.building.held.most → Prepares (holds (read sheet)) sheet ws ws₂ (Refused 8)
+    pub over_refused : most_relations < r.building.held.most → Prepares (holds (read sheet)) sheet ws ws₂ (Err Totals)
     over_refused h =
-        let eight : Prepares (refused 8) sheet ws ws₂ (Refused 8) = record { is = (refl, whole.same ∙ g.same) } in
+        let eight : Prepares (refused 8) sheet ws ws₂ (Err Totals) = record { is = (refl, whole.same ∙ g.same) } in
         prepares_as eight (holds_not itself.0 h ∙ sym (ap holds itself.1))
 
     pub prepares : {copies applies : Bool} → NoneUnless copies sheet → AppliesIs applies sheet → {ws₃ ws₄ : List ℕ} → LEAST ≤ length ws → r.building.held.most ≤ most_relations → LaysOut ws₂ r.building ws₃ → Keeps f.identifiers.count ws₃ ws₄
-        → Prepares (holds (read sheet)) sheet ws ws₄ (ready (flagged f copies applies) r.building)
+        → Prepares (holds (read sheet)) sheet ws ws₄ (Ok (record { function = flagged f copies applies; building = r.building }))
     prepares {copies} {applies} none told {ws₃} {ws₄} size within l k =
         let is : IsSheet sheet (sheet_of sheet) = itself in
         let built = prepared (sheet_of sheet) sheet (flagged f copies applies) r.building ws ws₁ ws₂ ws₃ ws₄ (describes_flagged g.describes (λ e. none e (sheet_of sheet) is)) (told (sheet_of sheet) is) (in_range_lem sheet (sheet_of sheet) is) (limited_flagged g.limited) g.stands size g.ends whole within l k in
-        let all : Prepares (got (sheet_of sheet) is.0) sheet ws ws₄ (ready (flagged f copies applies) r.building) = record { is = (built, k.same ∙ l.same ∙ whole.same ∙ g.same) } in
+        let all : Prepares (got (sheet_of sheet) is.0) sheet ws ws₄ (Ok (record { function = flagged f copies applies; building = r.building })) = record { is = (built, k.same ∙ l.same ∙ whole.same ∙ g.same) } in
         prepares_as all (holds_got is.0 within ∙ sym (ap holds is.1))

@@ -1,7 +1,7 @@
 -- The pass over operands after the middle of the answer: it can run, the ranges are those that it leaves, and what the walks left stays.
 use Prim.Native.Nat.{ℕ, ◌+◌, ◌*◌, ◌<◌}
 use native.Mathlib.Omega.{arith}
-use mathlib.Core.Path.{◌≡◌, refl, sym, ap, ◌∙◌}
+use mathlib.Core.Path.{◌≡◌, refl, sym, subst, ap, ◌∙◌}
 use mathlib.Core.List.{List}
 use lib.ListN.{length, get_or}
 use lib.Seq.{ext_get_or, slice_empty}
@@ -21,8 +21,9 @@ use Rattle.building.specs.declared.Building.{Building}
 use Rattle.aliasing.specs.State.{nodes_of, seen_of, records_of, ends_of, bare, state_of}
 use Rattle.aliasing.proofs.Parts.{nodes_below, seen_below, rows_below, base_below}
 use Rattle.aliasing.proofs.Walks.{indexed-after}
-use Rattle.writing.specs.Wrote.{Wrote}
-use Rattle.writing.proofs.Writing.{wrote_then, wrote_as, wrote_before}
+use Rattle.writing.specs.declared.Writer.{Writer}
+use Rattle.writing.specs.Wrote.{Writes, moved}
+use Rattle.writing.proofs.Writing.{writes_then, writes_as, writes_before}
 use Rattle.copies.proofs.Lengths.{gather_length}
 use Rattle.dataflow.specs.declared.function.HirFunction.{HirFunction}
 use Rattle.dataflow.specs.Function.{Limited}
@@ -49,14 +50,15 @@ ranges_first s =
 ranges_words : (s : Sheet) → length (section range_words (answer s).ranges) ≡ 1 + range_width * length s.identifiers
 ranges_words s = omega (arith, gather_length range_words range_width (λ r. refl) (answer s).ranges, answer_ranges s)
 
-module _ {sheet lists : List ℕ} {f : HirFunction} {ws ws' a a₁ a₂ : List ℕ} {first at r next : ℕ} where
-  pub passed_put : OperandsPut sheet lists f ws a at ws' a₁ r → Wrote (section range_words (first_ranges f.identifiers.count (ranges_of ws'))) a₁ first a₂ next → PassedPut sheet lists f ws a first at ws' a₂ r
+module _ {sheet lists : List ℕ} {f : HirFunction} {ws ws' : List ℕ} {a a₁ a₂ : Writer ℕ} {first : ℕ} where
+  pub passed_put : OperandsPut sheet lists f ws a ws' a₁ → Writes (section range_words (first_ranges f.identifiers.count (ranges_of ws'))) (moved a₁ first) a₂ → PassedPut sheet lists f ws first a ws' (moved a₂ a₁.at)
   passed_put o w = record {
     between = a₁;
     operands = o.wrote;
-    next = next;
+    last = a₂;
+    end = refl;
     ranges = λ s p.
-        wrote_as w
+        writes_as w
         (ap (section range_words)
         (ap (λ (n : ℕ). first_ranges n (ranges_of ws')) p.describes.n ∙ ap (first_ranges (length s.identifiers)) (o.ranges s p) ∙ sym (ranges_first s)));
     kept = o.kept;
@@ -100,7 +102,7 @@ module _ {ws ws' : List ℕ} (k : Kept STARTS PASSED ws ws') where
       }
 
 -- ---- after the middle
-module _ {sheet lists ws : List ℕ} {f : HirFunction} {b : Building} {a a₁ : List ℕ} {behind : ℕ} {ws₁ : List ℕ} {m : ℕ} (mid : MiddlePut sheet lists ws f b a behind ws₁ a₁ m) where
+module _ {sheet lists ws : List ℕ} {f : HirFunction} {b : Building} {a a₁ : Writer ℕ} {behind : ℕ} {ws₁ : List ℕ} (mid : MiddlePut sheet lists ws f b (moved a behind) ws₁ a₁) where
   -- the pass can run
   pub passing : {s : Sheet} → Prepared s sheet lists ws f b → Passing s sheet lists ws₁ f
   unfolding state_of ends_before
@@ -112,12 +114,12 @@ module _ {sheet lists ws : List ℕ} {f : HirFunction} {b : Building} {a a₁ : 
   }
 
   -- the whole answer: ranges before the sections that stand already
-  pub answer_put : {at : ℕ} → Limited f → behind ≡ at + 1 + range_width * f.identifiers.count → {ws₂ a₂ : List ℕ} {r : ℕ} → PassedPut sheet lists f ws₁ a₁ at m ws₂ a₂ r → AnswerPut sheet lists ws f b a at ws₂ a₂ r
+  pub answer_put : Limited f → behind ≡ a.at + (1 + range_width * f.identifiers.count) → {ws₂ : List ℕ} {a₂ : Writer ℕ} → PassedPut sheet lists f ws₁ a.at a₁ ws₂ a₂ → AnswerPut sheet lists ws f b a ws₂ a₂
   unfolding answer_words
-  answer_put {at} l e o = record {
+  answer_put l e o = record {
     wrote = λ s p.
-        let n : behind ≡ at + length (section range_words (answer s).ranges) = omega (arith, e, ranges_words s, p.describes.n) in
-        wrote_before (wrote_then (mid.wrote s p) (o.operands s (passing p))) n (o.ranges s (passing p));
+        let n : behind ≡ a.at + length (section range_words (answer s).ranges) = omega (arith, e, ranges_words s, p.describes.n) in
+        subst (Writes (answer_words (answer s)) a) (sym o.end) (writes_before (writes_then (mid.wrote s p) (o.operands s (passing p))) n (o.ranges s (passing p)));
     left = λ s p. left_kept o.kept (mid.left s p);
     walkable = walkable_kept o.kept mid.walkable;
     few = omega (arith, e, l.n, mid.few, o.few);

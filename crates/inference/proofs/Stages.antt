@@ -12,7 +12,8 @@ use Rattle.building.specs.declared.Building.{Building}
 use Rattle.building.specs.Built.{index_of}
 use Rattle.aliasing.specs.Pending.{taken_of, Processed}
 use Rattle.renders.specs.Renders.{Unmoved}
-use Rattle.writing.specs.Wrote.{Wrote}
+use Rattle.writing.specs.declared.Writer.{Writer}
+use Rattle.writing.specs.Wrote.{Writes}
 use Rattle.summary.specs.Sections.{simulated_of}
 use Rattle.dataflow.specs.declared.function.HirFunction.{HirFunction}
 use Rattle.dataflow.specs.Function.{Limited}
@@ -32,11 +33,11 @@ pub before_effects : {s : Sheet} {sheet lists ws : List ℕ} {f : HirFunction} {
 before_effects {ws₁ = ws₁} {ws₂ = ws₂} p m u is = record { describes = p.describes; tracked = (next_stands p m u).tracked; state = next_state_lem p m u; first = is ∙ p.index }
 
 -- all stages
-pub stages : {sheet lists ws : List ℕ} {f : HirFunction} {b : Building} {ws₁ ws₂ ws₃ : List ℕ} {hand i : ℕ} {a a₁ a₂ a₃ a₄ : List ℕ} {at at₁ at₂ at₃ at₄ : ℕ}
-    → Limited f → b.mutations ≤ most_mutations → Processed f.errors ws b.mutations ws₁ hand → TrackedPut ws₁ f a at a₁ at₁ → DiagnosticsPut sheet lists ws₁ f b.renders hand a₁ at₁ ws₂ a₂ at₂
-    → i ≡ index_of b → EffectsPut sheet ws₂ f i a₂ at₂ ws₃ a₃ at₃
-    → Wrote (section count_words (taken_of ws₃ b.mutations ++ simulated_of ws₃ (f.params + f.context + 1))) a₃ at₃ a₄ at₄
-    → MiddlePut sheet lists ws f b a at ws₃ a₄ at₄
+pub stages : {sheet lists ws : List ℕ} {f : HirFunction} {b : Building} {ws₁ ws₂ ws₃ : List ℕ} {hand i : ℕ} {o o₁ o₂ o₃ o₄ : Writer ℕ}
+    → Limited f → b.mutations ≤ most_mutations → Processed f.errors ws b.mutations ws₁ hand → TrackedPut ws₁ f o o₁ → DiagnosticsPut sheet lists ws₁ f b.renders hand o₁ ws₂ o₂
+    → i ≡ index_of b → EffectsPut sheet ws₂ f i o₂ ws₃ o₃
+    → Writes (section count_words (taken_of ws₃ b.mutations ++ simulated_of ws₃ (f.params + f.context + 1))) o₃ o₄
+    → MiddlePut sheet lists ws f b o ws₃ o₄
 stages {f = f} {b = b} {ws₃ = ws₃} l n m places diagnostics is effects walks = record {
   wrote = λ s p.
       let before = before_effects p m diagnostics.unmoved is in

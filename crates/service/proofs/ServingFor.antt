@@ -7,8 +7,9 @@ use Rattle.model.specs.Load.{load}
 use Rattle.model.specs.Service.{Caller as TheCaller, Served as TheServed, serves, call}
 use Rattle.model.specs.Callers.{ServedFor as TheServedFor, outside, replaces, load_for}
 use Rattle.model.proofs.Callers.{first_11, inside}
-use Rattle.writing.specs.declared.Outcome.{Outcome}
-use Rattle.writing.specs.declared.Outcome.TheVariants.{Refused}
+use Rattle.std.specs.Prelude.{Result, Ok, Err}
+use Rattle.hir.specs.declared.refusal.Refusal.{Refusal}
+use Rattle.hir.specs.declared.refusal.Refusal.TheVariants.{OutsideRecords}
 use Rattle.writing.proofs.Ending.{filled_refused}
 use Rattle.workspace.specs.Sort.{cleared_from}
 use Rattle.inference.specs.Outcome.{Came}
@@ -55,7 +56,7 @@ module _ (cs : List Caller) (i : ℕ) (sheet ws ans : List ℕ) {r : Reply} {ws'
       (sym (there ∙ ap (λ (c : TheCaller). replaces (map caller_says cs) i (call c sheet (length ws) (length ans))) own)) (replaced _ next e)
 
 -- a call that was refused with 11 is told so, whatever the caller's serial
-pub outside_told : {ws ans ws' ans' : List ℕ} {r : Outcome} {y : Reply} → Came (refusal 11) ws ans r ws' ans' → y ≡ reply_of r → Outside ws ans y ws' ans'
+pub outside_told : {ws ans ws' ans' : List ℕ} {r : Result ℕ Refusal} {y : Reply} → Came (refusal 11) ws ans r ws' ans' → y ≡ reply_of r → Outside ws ans y ws' ans'
 unfolding serves
 outside_told {ans = ans} {r = r} c e serial =
     let t = told_filled {a = ans} (refusal 11) {r = r} (record { returned = c.returned; words = c.answer }) e in
@@ -72,9 +73,9 @@ module _ (callers i serial : ℕ) (sheet ws ans : List ℕ) {r : Reply} {ws' ans
   of_inside h e = rw (lt-leb callers i h) e
 
 module _ (callers i seed n m : ℕ) (sheet : List ℕ) {r : Reply} {sheet' : List ℕ} where
-  pub load-outside : callers ≤ i → sheet' ≡ cleared_from 0 sheet → r ≡ reply_of (Refused 11) → LoadedFor callers i seed n m sheet r sheet'
+  pub load-outside : callers ≤ i → sheet' ≡ cleared_from 0 sheet → r ≡ reply_of (Err OutsideRecords) → LoadedFor callers i seed n m sheet r sheet'
   unfolding load_for outside
-  load-outside h e f = rw (le-leb callers i h) (told_filled (refusal 11) {r = Refused 11} (filled_refused e) f)
+  load-outside h e f = rw (le-leb callers i h) (told_filled (refusal 11) {r = Err OutsideRecords} (filled_refused e) f)
 
   pub load_inside : i < callers → TellsFilled (load seed n m (length sheet)) sheet r sheet' → LoadedFor callers i seed n m sheet r sheet'
   unfolding load_for outside

@@ -9,21 +9,21 @@ ghost use Rattle.service.specs.Loaded.{reply_of, Loaded, LoadedFor};
 ghost use Rattle.service.specs.Served.{Served, Outside, ServedOf, ServedFor};
 
 use dot::draw;
+use hir::limits::{LEAST_WORKSPACE, MOST_SHEET};
+use hir::refusal::Refusal;
 use inference::{infer_mutation_aliasing_ranges, refuse};
 use load::class_load;
-use workspace::clear_from;
-use writing::Outcome;
 
 // A caller's record: its next serial.
 #[repr(C)]
-#[derive(Clone, Copy)]
+#[derive(Clone, Copy, Debug, PartialEq, Eq)]
 pub struct Caller {
     pub next: u32,
 }
 
 // The refusal's number, 0 for none; the serial of an accepted call, else 0; the answer's length. A class load and a drawing take no serial; the length is the sheet's in words, the text's in bytes.
 #[repr(C)]
-#[derive(Clone, Copy)]
+#[derive(Clone, Copy, Debug, PartialEq, Eq)]
 pub struct Reply {
     pub refusal: u32,
     pub serial: u32,
@@ -31,7 +31,7 @@ pub struct Reply {
 }
 
 // A reply, and the serial that is next.
-#[derive(Clone, Copy)]
+#[derive(Clone, Copy, Debug, PartialEq, Eq)]
 pub struct Turn {
     pub reply: Reply,
     pub next: u32,
@@ -42,28 +42,18 @@ pub fn turn_from(serial: u32, sheet: &[u32], workspace: &mut [u32], answer: &mut
     ensures { Served serial sheet.now workspace.old answer.old result.reply result.next workspace.new answer.new }
 {
     match infer_mutation_aliasing_ranges(sheet, workspace, answer) {
-        Outcome::Refused(k) => {
-            let reply = Reply {
-                refusal: k,
-                serial: 0,
-                length: 0,
-            };
-            Turn {
-                reply,
-                next: serial,
-            }
-        }
-        Outcome::Accepted(length) => {
-            let reply = Reply {
+        Ok(length) => Turn {
+            reply: Reply {
                 refusal: 0,
                 serial,
                 length,
-            };
-            Turn {
-                reply,
-                next: std::num::wrapping_add_u32(serial, 1),
-            }
-        }
+            },
+            next: serial.wrapping_add(1),
+        },
+        Err(refusal) => Turn {
+            reply: Reply::from(Err(refusal)),
+            next: serial,
+        },
     }
 }
 
@@ -71,7 +61,7 @@ pub fn turn_from(serial: u32, sheet: &[u32], workspace: &mut [u32], answer: &mut
 fn refuse_outside(workspace: &mut [u32], answer: &mut [u32]) -> Reply
     ensures { Outside workspace.old answer.old result workspace.new answer.new }
 {
-    reply_of(refuse(workspace, answer, 11))
+    Reply::from(refuse(workspace, answer, Refusal::OutsideRecords))
 }
 
 // The whole call for one of so many callers, with its serial as a number: for a program, which holds no records.
@@ -86,9 +76,8 @@ pub fn turn_for(
     ensures { ServedOf callers position serial sheet.now workspace.old answer.old result.reply result.next workspace.new answer.new }
 {
     if callers <= position {
-        let reply = refuse_outside(workspace, answer);
         return Turn {
-            reply,
+            reply: refuse_outside(workspace, answer),
             next: serial,
         };
     }
@@ -115,20 +104,22 @@ pub fn service_infer(
 }
 
 // The reply to a call that takes no serial.
-fn reply_of(outcome: Outcome) -> Reply
-    ensures { result ≡ reply_of outcome }
-{
-    match outcome {
-        Outcome::Refused(k) => Reply {
-            refusal: k,
-            serial: 0,
-            length: 0,
-        },
-        Outcome::Accepted(length) => Reply {
-            refusal: 0,
-            serial: 0,
-            length,
-        },
+impl From<Result<usize, Refusal>> for Reply {
+    ghost from_gives = { λ outcome reply. reply ≡ reply_of outcome };
+
+    fn from(outcome: Result<usize, Refusal>) -> Reply {
+        match outcome {
+            Ok(length) => Reply {
+                refusal: 0,
+                serial: 0,
+                length,
+            },
+            Err(refusal) => Reply {
+                refusal: u32::from(refusal),
+                serial: 0,
+                length: 0,
+            },
+        }
     }
 }
 
@@ -136,7 +127,7 @@ fn reply_of(outcome: Outcome) -> Reply
 pub fn service_load(seed: u32, n: u32, m: u32, sheet: &mut [u32]) -> Reply
     ensures { Loaded seed n m sheet.old result sheet.new }
 {
-    reply_of(class_load(seed, n, m, sheet))
+    Reply::from(class_load(seed, n, m, sheet))
 }
 
 // A class load for one of so many callers.
@@ -144,10 +135,10 @@ fn load_from(callers: usize, position: usize, seed: u32, n: u32, m: u32, sheet: 
     ensures { LoadedFor callers position seed n m sheet.old result sheet.new }
 {
     if position < callers {
-        return reply_of(class_load(seed, n, m, sheet));
+        return Reply::from(class_load(seed, n, m, sheet));
     }
-    clear_from(sheet, 0);
-    reply_of(Outcome::Refused(11))
+    sheet.fill(0);
+    Reply::from(Err(Refusal::OutsideRecords))
 }
 
 // A class load for the caller at a position. It takes no serial, and leaves every record.
@@ -168,7 +159,7 @@ pub fn service_load_for(
 pub fn service_dot(sheet: &[u32], workspace: &mut [u32], text: &mut [u8]) -> Reply
     ensures { Drawn sheet.now workspace.old text.old result workspace.new text.new }
 {
-    reply_of(draw(sheet, workspace, text))
+    Reply::from(draw(sheet, workspace, text))
 }
 
 // A new record.
@@ -182,12 +173,12 @@ pub fn service_new() -> Caller
 pub fn service_least_workspace() -> usize
     ensures { result ≡ least_workspace }
 {
-    16384
+    LEAST_WORKSPACE
 }
 
 // How many words a sheet has at most.
 pub fn service_most_sheet() -> usize
     ensures { result ≡ most_sheet }
 {
-    16384
+    MOST_SHEET
 }

@@ -7,7 +7,7 @@ use lib.ListN.{length, set, take, drop, length-append}
 use lib.Seq.{sets, sets-eq, set-set, set_comm, set_out, length-sets, length-take-le, take_at}
 use Rattle.workspace.proofs.Parts.{sets_append}
 use Rattle.writing.specs.declared.Writer.{Writer}
-use Rattle.writing.specs.Wrote.{Wrote, Writes, Patches}
+use Rattle.writing.specs.Wrote.{Wrote, Writes, Patches, moved}
 
 -- nothing written
 pub wrote_none : (a : List ℕ) (at : ℕ) → Wrote [] a at a at
@@ -92,3 +92,7 @@ writes_patched {x} {y} {vs} {a} h p = record {
   };
   same = p.same ∙ h.same;
 }
+
+-- words written last, before words that stand already
+pub writes_before : {us vs : List ℕ} {at : ℕ} {a b c : Writer ℕ} → Writes vs (moved a at) b → at ≡ a.at + length us → Writes us (moved b a.at) c → Writes (us ++ vs) a (moved c b.at)
+writes_before h e k = record { wrote = wrote_before h.wrote e k.wrote; same = k.same ∙ h.same }

@@ -12,6 +12,10 @@ pub record Wrote {A : Type 0} (vs : List A) (answer : List A) (at : ℕ) (answer
   pub words : answer' ≡ sets answer at vs
   pub next : r ≡ at + length vs
 
+-- a writer at another position
+abbrev pub moved : {A : Type 0} → Writer A → ℕ → Writer A
+moved o at = record { buffer = o.buffer; at = at }
+
 -- the same by a writer, which keeps its buffer
 pub record Writes {A : Type 0} (vs : List A) (o o' : Writer A) : Type 0 where
   pub wrote : Wrote vs o.buffer.now o.at o'.buffer.now o'.at

@@ -3,4 +3,4 @@ use Rattle.service.proofs.refuse_outside.Goals as goal
 
 pub returns : goal.returns
 returns c =
-    outside_told c.refuse.ensures c.reply_of.ensures
+    outside_told c.refuse.ensures c.from.ensures

@@ -3,4 +3,4 @@ use Rattle.service.proofs.service_dot.Goals as goal
 
 pub returns : goal.returns
 returns c =
-    told-drawn _ c.draw.ensures c.reply_of.ensures
+    told-drawn _ c.draw.ensures c.from.ensures

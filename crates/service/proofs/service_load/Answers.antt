@@ -3,4 +3,4 @@ use Rattle.service.proofs.service_load.Goals as goal
 
 pub returns : goal.returns
 returns c =
-    told_filled _ c.class_load.ensures c.reply_of.ensures
+    told_filled _ c.class_load.ensures c.from.ensures
