@@ -1,12 +1,12 @@
 -- Capture marks.
-use Prim.Native.Nat.{ℕ, ◌+◌, ◌*◌, ◌≤◌, ◌<◌}
+use Prim.Native.Nat.{ℕ, ◌+◌, ◌-◌, ◌*◌, ◌≤◌, ◌<◌}
 use native.Mathlib.Omega.{arith}
 use native.Mathlib.Decide.{ℕ_discrete}
 use mathlib.Core.Path.{◌≡◌, refl, sym, ap, ◌∙◌}
 use mathlib.Core.Bool.{Bool, true, false}
 use mathlib.Core.List.{List, [], ◌∷◌, map}
 use lib.ListN.{length, take, drop}
-use Rattle.model.specs.Limits.{most_identifiers}
+use Rattle.model.specs.Limits.{most_identifiers, place_width}
 use Rattle.model.specs.Lists.{pick, gather}
 use Rattle.model.specs.Answer.{place_words, section}
 use Rattle.model.specs.Sheet.{Place}
@@ -17,12 +17,13 @@ use Rattle.model.specs.Marks.{with_effect}
 use Rattle.workspace.specs.Layout.{SEEN, TRACKED}
 use Rattle.workspace.specs.Rows.{Kept}
 use Rattle.workspace.specs.Graph.{tab}
-use Rattle.workspace.proofs.Parts.{kept_none, kept_then, take_less}
+use Rattle.workspace.proofs.Parts.{kept_then, take_less}
 use Rattle.workspace.proofs.Tables.{tab-same, tab-length, tab-map}
 use Rattle.aliasing.specs.State.{nodes_of, record_at, records_of, state_of}
-use Rattle.writing.specs.Wrote.{Wrote}
-use Rattle.writing.proofs.Writing.{wrote_then, wrote_as}
-use Rattle.copies.proofs.Loops.{Leaves, leaves_all, table_turn, table_end}
+use Rattle.writing.specs.declared.Writer.{Writer}
+use Rattle.writing.specs.Wrote.{Writes}
+use Rattle.writing.proofs.Writing.{writes_then, writes_as}
+use Rattle.copies.proofs.Loops.{Leaves, table_turn, table_end}
 use Rattle.summary.specs.Sections.{Marked}
 use Rattle.summary.specs.Records.{Holds}
 use Rattle.workspace.specs.Tracked.{tracked_at, tracked_of, tracked_from, Tracks}
@@ -73,22 +74,21 @@ marked-section ws first count t =
 
 module _ (ws : List ℕ) (first count : ℕ) where
   -- the loop that writes them: what is left from place i on
-  abbrev pub Putting : List ℕ → ℕ → ℕ → List ℕ → ℕ → Type 0
-  Putting a₀ at₀ i a at =
-      (t : State) → Holds ws t
-      → Leaves (gather place_words (tab count (λ (j : ℕ). marked t (tracked_at ws (first + j))))) (gather place_words (drop i (tab count (λ (j : ℕ). marked t (tracked_at ws (first + j)))))) a₀ at₀ a at
+  pub record Putting (o₀ : Writer ℕ) (i : ℕ) (o : Writer ℕ) : Type 0 where
+    pub leaves : (t : State) → Holds ws t
+        → Leaves (gather place_words (tab count (λ (j : ℕ). marked t (tracked_at ws (first + j))))) (gather place_words (drop i (tab count (λ (j : ℕ). marked t (tracked_at ws (first + j)))))) o₀ o
+    pub few : o.at + place_width * (count - i) ≤ o₀.at + place_width * count
 
-  pub putting_start : (a : List ℕ) (at : ℕ) → Putting a at 0 a at
-  putting_start a at t h = leaves_all (gather place_words (tab count (λ (j : ℕ). marked t (tracked_at ws (first + j))))) a at
+  module _ {o₀ : Writer ℕ} {i : ℕ} {o : Writer ℕ} (v : Putting o₀ i o) where
+    pub putting_turn : {o' : Writer ℕ} {p q : Place} → i < count → p ≡ tracked_at ws (first + i) → ((t : State) → Holds ws t → q ≡ marked t p) → Writes (place_words q) o o' → Putting o₀ (i + 1) o'
+    putting_turn z e m w = record {
+      leaves = λ t h. table_turn place_words count (λ (j : ℕ). marked t (tracked_at ws (first + j))) i (v.leaves t h) z (writes_as w (ap place_words (m t h ∙ ap (marked t) e)));
+      few = omega (arith, v.few, w.wrote.next);
+    }
 
-  pub putting_turn : {a₀ : List ℕ} {at₀ : ℕ} (i : ℕ) {a : List ℕ} {at : ℕ} {a' : List ℕ} {at' : ℕ} {p q : Place} → Putting a₀ at₀ i a at → i < count → p ≡ tracked_at ws (first + i)
-      → ((t : State) → Holds ws t → q ≡ marked t p) → Wrote (place_words q) a at a' at' → Putting a₀ at₀ (i + 1) a' at'
-  putting_turn i v z e m w t h =
-      table_turn place_words count (λ (j : ℕ). marked t (tracked_at ws (first + j))) i (v t h) z (wrote_as w (ap place_words (m t h ∙ ap (marked t) e)))
-
-  pub putting_end : {a₀ : List ℕ} {at₀ : ℕ} (i : ℕ) {a : List ℕ} {at : ℕ} → Putting a₀ at₀ i a at → count ≤ i → {a₁ : List ℕ} {at₁ : ℕ} → Wrote (count ∷ []) a₁ at₁ a₀ at₀ → Marked ws first count a₁ at₁ a at
-  putting_end i v z w t h =
-      wrote_as (wrote_then w (table_end place_words count (λ (j : ℕ). marked t (tracked_at ws (first + j))) i (v t h) z)) (marked-section ws first count t)
+    pub putting_end : count ≤ i → {b : Writer ℕ} → Writes (count ∷ []) b o₀ → Marked ws first count b o
+    putting_end z w t h =
+        writes_as (writes_then w (table_end place_words count (λ (j : ℕ). marked t (tracked_at ws (first + j))) i (v.leaves t h) z)) (marked-section ws first count t)
 
 -- ---- the records stay if the fields stay
 pub holds_kept : (ws ws' : List ℕ) (t : State) → take TRACKED ws' ≡ take TRACKED ws → Holds ws t → Holds ws' t
@@ -99,9 +99,6 @@ holds_kept ws ws' t e h = h ∙ ap records_of (sym (take_less SEEN TRACKED ws' w
 pub record Marking (ws₀ : List ℕ) (ws : List ℕ) (i : ℕ) : Type 0 where
   pub places : (t : State) → Holds ws₀ t → (j : ℕ) → j < i → tracked_at ws j ≡ marked t (tracked_at ws₀ j)
   pub kept : Kept TRACKED (TRACKED + 2 * i) ws₀ ws
-
-pub marking_start : (ws : List ℕ) → Marking ws ws 0
-marking_start ws = record { places = λ t h j z. absurd (omega (arith, z)); kept = kept_none TRACKED (TRACKED + 2 * 0) ws }
 
 module _ {ws₀ ws : List ℕ} {i : ℕ} (v : Marking ws₀ ws i) where
   pub marking_turn : {p q : Place} {ws' : List ℕ} → p ≡ tracked_at ws i → ((t : State) → Holds ws t → q ≡ marked t p) → Tracks ws i q ws' → Marking ws₀ ws' (i + 1)
