@@ -1,9 +1,9 @@
 -- The records of a place as effects.
-use Prim.Native.Nat.{ℕ, zero, suc, ◌+◌, ◌-◌, ◌/◌, ◌%◌, ◌≤◌, ◌<◌, ◌*◌}
+use Prim.Native.Nat.{ℕ, zero, suc, ◌+◌, ◌/◌, ◌%◌, ◌≤◌, ◌<◌, ◌*◌}
 use native.Mathlib.Omega.{arith}
 use mathlib.Core.Path.{◌≡◌, refl, sym, ap, ◌∙◌}
 use mathlib.Core.List.{List, [], ◌∷◌, ◌++◌, append-nil}
-use lib.ListN.{length, get_or, drop, length-append}
+use lib.ListN.{length, get_or, length-append}
 use Rattle.model.specs.Limits.{most_identifiers, effect_width}
 use Rattle.model.specs.Lists.{gather}
 use Rattle.model.specs.Sheet.{Place, no_place, EffectKind, Mutate, MutateConditionally, MutateTransitive, MutateTransitiveConditionally, Effect}
@@ -20,10 +20,10 @@ use Rattle.writing.specs.Wrote.{Writes}
 use Rattle.writing.proofs.Writing.{writes_then, writes_as}
 use Rattle.model.proofs.Gathers.{gather_append, gather_gather}
 use Rattle.copies.proofs.Sections.{effects-length}
-use Rattle.copies.proofs.Loops.{Leaves, table_turn, table_end}
 use Rattle.summary.specs.Records.{Holds, level_effects, Collected}
 use Rattle.workspace.specs.Tracked.{tracked_at, tracked_from}
 use Rattle.summary.proofs.Held.{held, state_words}
+use Rattle.summary.proofs.Telling.{Telling, telling_turn, telling_end}
 
 -- the place with another span
 abbrev pub with_span : Place → ℕ → Place
@@ -143,23 +143,18 @@ abbrev pub record_words : State → Place → List ℕ
 record_words t p = gather effect_words (collect_param_effects t p)
 
 module _ (ws : List ℕ) (first count : ℕ) where
-  -- the loop: what is left from place i on
-  pub record Collecting (o₀ : Writer ℕ) (i : ℕ) (o : Writer ℕ) : Type 0 where
-    pub leaves : (t : State) → Holds ws t
-        → Leaves (gather (record_words t) (tab count (λ (j : ℕ). tracked_at ws (first + j)))) (gather (record_words t) (drop i (tab count (λ (j : ℕ). tracked_at ws (first + j))))) o₀ o
-    pub few : o.at + 2 * effect_width * (count - i) ≤ o₀.at + 2 * effect_width * count
+  -- the loop
+  abbrev pub Collecting : Writer ℕ → ℕ → Writer ℕ → Type 0
+  Collecting = Telling (Holds ws) record_words (2 * effect_width) count (λ (j : ℕ). tracked_at ws (first + j))
 
   module _ {o₀ : Writer ℕ} {i : ℕ} {o : Writer ℕ} (v : Collecting o₀ i o) where
     pub collecting_turn : {o' : Writer ℕ} {p : Place} → i < count → p ≡ tracked_at ws (first + i) → Collected ws (p ∷ []) o o' → Collecting o₀ (i + 1) o'
-    collecting_turn {p = p} z e c = record {
-      leaves = λ t h.
-          table_turn (record_words t) count (λ (j : ℕ). tracked_at ws (first + j)) i (v.leaves t h) z
-          (writes_as (c t h) (ap (gather effect_words) (append-nil (collect_param_effects t p)) ∙ ap (record_words t) e));
-      few = omega (arith, v.few, collected_most ws p (is_below ws (first + i) e) c);
-    }
+    collecting_turn {p = p} z e c =
+        telling_turn (Holds ws) record_words (2 * effect_width) count (λ (j : ℕ). tracked_at ws (first + j)) v z
+        (λ t h. writes_as (c t h) (ap (gather effect_words) (append-nil (collect_param_effects t p)) ∙ ap (record_words t) e)) (collected_most ws p (is_below ws (first + i) e) c)
 
     pub collecting_end : count ≤ i → Collected ws (tracked_from ws first count) o₀ o
     unfolding tracked_from
     collecting_end z t h =
-        writes_as (table_end (record_words t) count (λ (j : ℕ). tracked_at ws (first + j)) i (v.leaves t h) z)
+        writes_as (telling_end (Holds ws) record_words (2 * effect_width) count (λ (j : ℕ). tracked_at ws (first + j)) v z t h)
         (sym (gather_gather effect_words (collect_param_effects t) (tab count (λ (j : ℕ). tracked_at ws (first + j)))))

@@ -1,10 +1,10 @@
 -- What flows into the place of a simulated walk.
-use Prim.Native.Nat.{ℕ, ◌+◌, ◌-◌, ◌*◌, ◌/◌, ◌≤◌, ◌<◌}
+use Prim.Native.Nat.{ℕ, ◌+◌, ◌/◌, ◌≤◌, ◌<◌}
 use native.Mathlib.Omega.{arith}
 use mathlib.Core.Path.{◌≡◌, refl, sym, ap, ◌∙◌}
 use mathlib.Core.Bool.{Bool, true, false, ◌&&◌, not}
 use mathlib.Core.List.{List, [], ◌∷◌, append-nil}
-use lib.ListN.{length, drop, get_or}
+use lib.ListN.{length, get_or}
 use lib.Dec.{eqb}
 use Rattle.model.specs.Limits.{most_identifiers, effect_width}
 use Rattle.model.specs.Lists.{pick, gather}
@@ -20,11 +20,11 @@ use Rattle.writing.specs.declared.Writer.{Writer}
 use Rattle.writing.specs.Wrote.{Writes}
 use Rattle.writing.proofs.Writing.{writes_as, writes_none}
 use Rattle.model.proofs.Gathers.{gather_gather}
-use Rattle.copies.proofs.Loops.{Leaves, table_turn, table_end}
 use Rattle.summary.specs.Records.{Holds}
 use Rattle.workspace.specs.Tracked.{tracked_at, tracked_of}
 use Rattle.summary.specs.Sections.{Flow, Flows}
 use Rattle.summary.proofs.Held.{held, state_words}
+use Rattle.summary.proofs.Telling.{Telling, telling_turn, telling_end}
 
 -- the effects of one tracked place
 abbrev pub flow_of : Place → ℕ → Place → State → Place → List Effect
@@ -85,24 +85,27 @@ abbrev pub flow_words : Place → ℕ → Place → State → Place → List ℕ
 flow_words r i into t from = gather effect_words (flow_of r i into t from)
 
 module _ (ws : List ℕ) (count : ℕ) (into : Place) (index returns : ℕ) where
-  -- the loop: what is left from place i on
-  pub record Flowing (o₀ : Writer ℕ) (i : ℕ) (o : Writer ℕ) : Type 0 where
-    pub leaves : (r : Place) (t : State) → Holds ws t → r.identifier ≡ returns
-        → Leaves (gather (flow_words r index into t) (tab count (tracked_at ws))) (gather (flow_words r index into t) (drop i (tab count (tracked_at ws)))) o₀ o
-    pub few : o.at + effect_width * (count - i) ≤ o₀.at + effect_width * count
+  -- a place and a state by which they are told
+  abbrev By : Place × State → Type 0
+  By x = Holds ws x.1 × (x.0.identifier ≡ returns)
+
+  abbrev told : Place × State → Place → List ℕ
+  told x = flow_words x.0 index into x.1
+
+  -- the loop
+  abbrev pub Flowing : Writer ℕ → ℕ → Writer ℕ → Type 0
+  Flowing = Telling By told effect_width count (tracked_at ws)
 
   module _ {o₀ : Writer ℕ} {i : ℕ} {o : Writer ℕ} (v : Flowing o₀ i o) where
     pub flowing_turn : {o' : Writer ℕ} {p : Place} → i < count → p ≡ tracked_at ws i → Flow ws p into index returns o o' → Flowing o₀ (i + 1) o'
-    flowing_turn {p = p} z q f = record {
-      leaves = λ r t h e. table_turn (flow_words r index into t) count (tracked_at ws) i (v.leaves r t h e) z (writes_as (f r t h e) (ap (flow_words r index into t) q));
-      few = omega (arith, v.few, flow_most ws p into index returns (is_below ws i q) f);
-    }
+    flowing_turn {p = p} z q f =
+        telling_turn By told effect_width count (tracked_at ws) v z (λ x h. writes_as (f x.0 x.1 h.0 h.1) (ap (told x) q)) (flow_most ws p into index returns (is_below ws i q) f)
 
     pub flowing_end : count ≤ i → Flows ws count into index returns o₀ o
     unfolding tracked_of flow_effects
     flowing_end z = record {
       wrote = λ s t h e k.
-          writes_as (table_end (flow_words s.returns index into t) count (tracked_at ws) i (v.leaves s.returns t h k) z)
+          writes_as (telling_end By told effect_width count (tracked_at ws) v z (s.returns, t) (h, k))
           (sym (gather_gather effect_words (flow_of s.returns index into t) (tab count (tracked_at ws))) ∙ ap (λ (l : List Place). gather effect_words (gather (flow_of s.returns index into t) l)) (sym e));
-      same = (v.leaves (some_place returns) (state_of ws 0) (held ws 0) refl).same;
+      same = (v.leaves (some_place returns, state_of ws 0) (held ws 0, refl)).same;
     }

@@ -1,11 +1,11 @@
 -- Capture marks.
-use Prim.Native.Nat.{ℕ, ◌+◌, ◌-◌, ◌*◌, ◌≤◌, ◌<◌}
+use Prim.Native.Nat.{ℕ, ◌+◌, ◌*◌, ◌≤◌, ◌<◌}
 use native.Mathlib.Omega.{arith}
 use native.Mathlib.Decide.{ℕ_discrete}
 use mathlib.Core.Path.{◌≡◌, refl, sym, ap, ◌∙◌}
 use mathlib.Core.Bool.{Bool, true, false}
 use mathlib.Core.List.{List, [], ◌∷◌, map}
-use lib.ListN.{length, take, drop}
+use lib.ListN.{length, take}
 use Rattle.model.specs.Limits.{most_identifiers, place_width}
 use Rattle.model.specs.Lists.{pick, gather}
 use Rattle.model.specs.Answer.{place_words, section}
@@ -23,12 +23,13 @@ use Rattle.aliasing.specs.State.{nodes_of, record_at, records_of, state_of}
 use Rattle.writing.specs.declared.Writer.{Writer}
 use Rattle.writing.specs.Wrote.{Writes}
 use Rattle.writing.proofs.Writing.{writes_then, writes_as}
-use Rattle.copies.proofs.Loops.{Leaves, table_turn, table_end}
 use Rattle.summary.specs.Sections.{Marked}
 use Rattle.summary.specs.Records.{Holds}
 use Rattle.workspace.specs.Tracked.{tracked_at, tracked_of, tracked_from, Tracks}
 use Rattle.summary.specs.Tracked.{Marks}
 use Rattle.summary.proofs.Held.{held, record_held}
+use Rattle.summary.proofs.Telling.{Telling, telling_turn, telling_end}
+use Rattle.model.proofs.Gathers.{gather_map}
 use Rattle.workspace.proofs.Places.{tracked-low, tracked_high}
 
 -- ---- one place
@@ -60,35 +61,37 @@ mark-below ws p q m b =
     let e : q.identifier ≡ p.identifier = ap (λ (z : Place). z.identifier) (m s (held ws 0)) ∙ same-identifier p (has_record (record_of s p)) in
     omega (arith, e, b)
 
--- the marked places as a table
-pub marked-table : (ws : List ℕ) (first count : ℕ) (t : State) → map (marked t) (tracked_from ws first count) ≡ tab count (λ (i : ℕ). marked t (tracked_at ws (first + i)))
+-- how many the marked places are
+pub marked_length : (ws : List ℕ) (first count : ℕ) (t : State) → length (map (marked t) (tracked_from ws first count)) ≡ count
 unfolding tracked_from
-marked-table ws first count t = tab-map count (λ (i : ℕ). tracked_at ws (first + i)) (marked t)
+marked_length ws first count t =
+    ap (λ (z : List Place). length z) (tab-map count (λ (i : ℕ). tracked_at ws (first + i)) (marked t)) ∙ tab-length count (λ (i : ℕ). marked t (tracked_at ws (first + i)))
+
+-- the words of a place with its mark
+abbrev pub marked_words : State → Place → List ℕ
+marked_words t p = place_words (marked t p)
 
 -- their section: the count, then each
-pub marked-section : (ws : List ℕ) (first count : ℕ) (t : State) → count ∷ gather place_words (tab count (λ (i : ℕ). marked t (tracked_at ws (first + i)))) ≡ section place_words (map (marked t) (tracked_from ws first count))
+marked-section : (ws : List ℕ) (first count : ℕ) (t : State) → count ∷ gather (marked_words t) (tab count (λ (i : ℕ). tracked_at ws (first + i))) ≡ section place_words (map (marked t) (tracked_from ws first count))
+unfolding tracked_from
 marked-section ws first count t =
-    let l : List Place = tab count (λ (i : ℕ). marked t (tracked_at ws (first + i))) in
-    let n : count ≡ length l = sym (tab-length count (λ (i : ℕ). marked t (tracked_at ws (first + i)))) in
-    ap (λ (k : ℕ). k ∷ gather place_words l) n ∙ ap (section place_words) (sym (marked-table ws first count t))
+    let l : List Place = tab count (λ (i : ℕ). tracked_at ws (first + i)) in
+    let n : count ≡ length (map (marked t) l) = sym (marked_length ws first count t) in
+    ap (λ (k : ℕ). k ∷ gather (marked_words t) l) n ∙ ap (λ (z : List ℕ). length (map (marked t) l) ∷ z) (sym (gather_map place_words (marked t) l))
 
 module _ (ws : List ℕ) (first count : ℕ) where
-  -- the loop that writes them: what is left from place i on
-  pub record Putting (o₀ : Writer ℕ) (i : ℕ) (o : Writer ℕ) : Type 0 where
-    pub leaves : (t : State) → Holds ws t
-        → Leaves (gather place_words (tab count (λ (j : ℕ). marked t (tracked_at ws (first + j))))) (gather place_words (drop i (tab count (λ (j : ℕ). marked t (tracked_at ws (first + j)))))) o₀ o
-    pub few : o.at + place_width * (count - i) ≤ o₀.at + place_width * count
+  -- the loop that writes them
+  abbrev pub Putting : Writer ℕ → ℕ → Writer ℕ → Type 0
+  Putting = Telling (Holds ws) marked_words place_width count (λ (j : ℕ). tracked_at ws (first + j))
 
   module _ {o₀ : Writer ℕ} {i : ℕ} {o : Writer ℕ} (v : Putting o₀ i o) where
     pub putting_turn : {o' : Writer ℕ} {p q : Place} → i < count → p ≡ tracked_at ws (first + i) → ((t : State) → Holds ws t → q ≡ marked t p) → Writes (place_words q) o o' → Putting o₀ (i + 1) o'
-    putting_turn z e m w = record {
-      leaves = λ t h. table_turn place_words count (λ (j : ℕ). marked t (tracked_at ws (first + j))) i (v.leaves t h) z (writes_as w (ap place_words (m t h ∙ ap (marked t) e)));
-      few = omega (arith, v.few, w.wrote.next);
-    }
+    putting_turn z e m u =
+        telling_turn (Holds ws) marked_words place_width count (λ (j : ℕ). tracked_at ws (first + j)) v z (λ t h. writes_as u (ap place_words (m t h ∙ ap (marked t) e))) (omega (arith, u.wrote.next))
 
     pub putting_end : count ≤ i → {b : Writer ℕ} → Writes (count ∷ []) b o₀ → Marked ws first count b o
-    putting_end z w t h =
-        writes_as (writes_then w (table_end place_words count (λ (j : ℕ). marked t (tracked_at ws (first + j))) i (v.leaves t h) z)) (marked-section ws first count t)
+    putting_end z u t h =
+        writes_as (writes_then u (telling_end (Holds ws) marked_words place_width count (λ (j : ℕ). tracked_at ws (first + j)) v z t h)) (marked-section ws first count t)
 
 -- ---- the records stay if the fields stay
 pub holds_kept : (ws ws' : List ℕ) (t : State) → take TRACKED ws' ≡ take TRACKED ws → Holds ws t → Holds ws' t

@@ -13,7 +13,6 @@ use Rattle.model.specs.Summary.{marked, collect_param_effects}
 use Rattle.model.specs.Simulated.{tracked, flows, flow_effect, flow_effects}
 use Rattle.model.specs.Answer.{place_words, effect_words, count_words, section}
 use Rattle.workspace.specs.Graph.{tab}
-use Rattle.workspace.proofs.Tables.{tab-length}
 use Rattle.aliasing.specs.State.{state_of}
 use Rattle.aliasing.specs.Pending.{taken_of}
 use Rattle.writing.specs.declared.Writer.{Writer}
@@ -26,7 +25,7 @@ use Rattle.summary.proofs.Held.{held}
 use Rattle.workspace.proofs.Places.{tracked-below}
 use Rattle.summary.proofs.Collecting.{collect_length, record_words}
 use Rattle.summary.proofs.Flowing.{pick_most}
-use Rattle.summary.proofs.Marking.{marked-table}
+use Rattle.summary.proofs.Marking.{marked_length}
 use Rattle.summary.proofs.Counts.{taken-length, simulated_length, counts-length}
 use Rattle.model.proofs.Gathers.{gather_append, gather_gather}
 
@@ -35,8 +34,7 @@ module _ {o o' : Writer ℕ} where
   marked_next ws first count v =
       let t : State = state_of ws 0 in
       let l : List Place = map (marked t) (tracked_from ws first count) in
-      let n : length l ≡ count = ap (λ (z : List Place). length z) (marked-table ws first count t) ∙ tab-length count (λ (i : ℕ). marked t (tracked_at ws (first + i))) in
-      omega (arith, (v t (held ws 0)).wrote.next, gather_length place_words place_width (λ p. refl) l, n)
+      omega (arith, (v t (held ws 0)).wrote.next, gather_length place_words place_width (λ p. refl) l, marked_length ws first count t)
 
   pub walks_next : (ws : List ℕ) (real simulated : ℕ) → Writes (section count_words (taken_of ws real ++ simulated_of ws simulated)) o o' → o'.at ≡ o.at + 1 + real + simulated
   walks_next ws real simulated w =

@@ -28,6 +28,7 @@ fn flow_kind(into: IdentifierId, returns: IdentifierId) -> EffectKind
 }
 
 // The effect of one tracked place, if the walk of this index reached it last.
+// Kept: into, index and returns go together through this function and the next alone; a struct for them, made once in `simulate`, is longer than what it saves.
 fn put_flow(
     ws: &[u32],
     from: Place,

@@ -17,6 +17,7 @@ use workspace::{LSPAN, RECORD, TSPAN};
 use writing::Writer;
 
 // The effect of a record, by the word of its kind, on a place with the record's span.
+// Kept: the level is the two bits as they stand in the record's word, read by this match alone; an Option of a kind would be matched a second time. A struct of the two kinds would be made at the two calls and taken apart here.
 fn put_record(
     out: &mut Writer<'_, u32>,
     level: u32,
@@ -56,7 +57,10 @@ fn collect_param_effects(ws: &[u32], p: Place, out: &mut Writer<'_, u32>)
         EffectKind::MutateConditionally,
         EffectKind::Mutate,
         w / 16 % 2,
-        Place { span: ws[LSPAN + x], ..p },
+        Place {
+            span: ws[LSPAN + x],
+            ..p
+        },
     );
     put_record(
         out,
@@ -64,7 +68,10 @@ fn collect_param_effects(ws: &[u32], p: Place, out: &mut Writer<'_, u32>)
         EffectKind::MutateTransitiveConditionally,
         EffectKind::MutateTransitive,
         0,
-        Place { span: ws[TSPAN + x], ..p },
+        Place {
+            span: ws[TSPAN + x],
+            ..p
+        },
     );
 }
 

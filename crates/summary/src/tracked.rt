@@ -32,13 +32,17 @@ fn marked(ws: &[u32], p: Place) -> Place
     ensures { (t : State) → Holds ws.now t → place_is result ≡ marked t (place_is p) }
 {
     if has_record(ws, p.identifier) {
-        Place { effect: Effect::Capture, ..p }
+        Place {
+            effect: Effect::Capture,
+            ..p
+        }
     } else {
         p
     }
 }
 
 // The section of params or of context: `count` tracked places from `first` on, with their marks.
+// Kept: the loops over tracked places (here, in `mark_tracked` and in `collect_effects`) share their head alone; `each_tracked(ws, first, count, |p| put_place(out, marked(ws, p)))` is no plainer, and `mark_tracked` writes to ws.
 pub fn put_marked(ws: &[u32], first: usize, count: usize, out: &mut Writer<'_, u32>)
     requires count_bound { (first + count ≤ most_tracked) × (LEAST ≤ length ws.now) }
     requires count_bound_2 { out.old.at + 1 + place_width * count ≤ farthest }

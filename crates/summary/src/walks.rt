@@ -13,13 +13,7 @@ use workspace::{MUTATIONS, SIMULATED};
 use writing::Writer;
 
 // The counts of `count` walks, one in `stride` words from `first` on.
-fn put_counts(
-    ws: &[u32],
-    first: usize,
-    stride: usize,
-    count: usize,
-    out: &mut Writer<'_, u32>,
-)
+fn put_counts(ws: &[u32], first: usize, stride: usize, count: usize, out: &mut Writer<'_, u32>)
     requires count_in_bounds { first + stride * count < length ws.now }
     requires count_bound { out.old.at + count ≤ farthest }
     ensures { Writes (gather count_words (counts_of ws.now first stride count)) out.old out.new }

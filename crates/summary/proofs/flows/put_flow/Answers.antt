@@ -11,7 +11,7 @@ returns-then-ws-x c =
 
 pub returns-else-ne : goal.returns-else-ne
 returns-else-ne c = elim c.else-ne.branch [
-  else-ne-via-then-ne+then-ne-2+else-ws-x w ↦ flow_not _ _ _ _ _ c.requires.identifier_lt_most_identifiers.0 (later_fails _ (later_fails _ (ne_eqb _ _ w.if-ws-x.false))) _
+  | else-ne-via-then-ne+then-ne-2+else-ws-x w ↦ flow_not _ _ _ _ _ c.requires.identifier_lt_most_identifiers.0 (later_fails _ (later_fails _ (ne_eqb _ _ w.if-ws-x.false))) _
   | else-ne-via-then-ne+else-ne-2 w ↦ flow_not _ _ _ _ _ c.requires.identifier_lt_most_identifiers.0 (later_fails _ (first_fails (sym w.ne-then-ne.ensures ∙ w.if-ne-2.false) _)) _
   | else-ne-via-else-ne w ↦ flow_not _ _ _ _ _ c.requires.identifier_lt_most_identifiers.0 (first_fails (sym c.ne.ensures ∙ w.if-ne.false) _) _
 ]

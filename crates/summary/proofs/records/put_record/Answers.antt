@@ -12,6 +12,6 @@ returns-in-0 c = writes_as (writes_none _) (sym (ap (gather effect_words) (level
 
 pub returns : goal.returns
 returns c = elim c.match-level.branch [
-  in-1 w ↦ writes_as (rw w.kind-is at c.put_effect.ensures) (one-effect _ ∙ sym (ap (gather effect_words) (level_conditional _ _ _ _ _ w.in-1.is)))
+  | in-1 w ↦ writes_as (rw w.kind-is at c.put_effect.ensures) (one-effect _ ∙ sym (ap (gather effect_words) (level_conditional _ _ _ _ _ w.in-1.is)))
   | in_default w ↦ writes_as (rw w.kind-is at c.put_effect.ensures) (one-effect _ ∙ sym (ap (gather effect_words) (level_definite c.args.level _ _ _ _ (omega arith))))
 ]
