@@ -3,7 +3,7 @@ use Prim.Native.Nat.{ℕ, zero, suc, ◌+◌, ◌/◌, ◌%◌, ◌≤◌, ◌<�
 use native.Mathlib.Omega.{arith}
 use mathlib.Core.Path.{◌≡◌, refl, sym, ap, ◌∙◌}
 use mathlib.Core.List.{List, [], ◌∷◌, ◌++◌, append-nil}
-use lib.ListN.{length, get_or, drop, length-append}
+use lib.ListN.{length, get_or, length-append}
 use Rattle.model.specs.Limits.{most_identifiers, effect_width}
 use Rattle.model.specs.Lists.{gather}
 use Rattle.model.specs.Sheet.{Place, no_place, EffectKind, Mutate, MutateConditionally, MutateTransitive, MutateTransitiveConditionally, Effect}
@@ -13,15 +13,17 @@ use Rattle.model.specs.Summary.{reason_word, local_effects, transitive_effects, 
 use Rattle.model.specs.Answer.{effect_words}
 use Rattle.workspace.specs.Layout.{RECORD, LSPAN, TSPAN}
 use Rattle.workspace.specs.Graph.{tab}
+use Rattle.workspace.proofs.Places.{is_below}
 use Rattle.aliasing.specs.State.{info_of, record_in, state_of}
-use Rattle.writing.specs.Wrote.{Wrote}
-use Rattle.writing.proofs.Writing.{wrote_then, wrote_as}
+use Rattle.writing.specs.declared.Writer.{Writer}
+use Rattle.writing.specs.Wrote.{Writes}
+use Rattle.writing.proofs.Writing.{writes_then, writes_as}
 use Rattle.model.proofs.Gathers.{gather_append, gather_gather}
 use Rattle.copies.proofs.Sections.{effects-length}
-use Rattle.copies.proofs.Loops.{Leaves, leaves_all, table_turn, table_end}
 use Rattle.summary.specs.Records.{Holds, level_effects, Collected}
 use Rattle.workspace.specs.Tracked.{tracked_at, tracked_from}
 use Rattle.summary.proofs.Held.{held, state_words}
+use Rattle.summary.proofs.Telling.{Telling, telling_turn, telling_end}
 
 -- the place with another span
 abbrev pub with_span : Place → ℕ → Place
@@ -50,8 +52,8 @@ level_most (suc (suc k)) c d x p = omega arith
 level-length : (k : ℕ) (c d : EffectKind) (x : ℕ) (p : Place) → length (gather effect_words (level_effects k c d x p)) ≤ effect_width
 level-length k c d x p = omega (arith, effects-length (level_effects k c d x p), level_most k c d x p)
 
-pub level_wrote : (k : ℕ) (c d : EffectKind) (x : ℕ) (p : Place) {a : List ℕ} {at : ℕ} {a' : List ℕ} {at' : ℕ} → Wrote (gather effect_words (level_effects k c d x p)) a at a' at' → at' ≤ at + effect_width
-level_wrote k c d x p w = omega (arith, w.next, level-length k c d x p)
+pub level_wrote : (k : ℕ) (c d : EffectKind) (x : ℕ) (p : Place) {o o' : Writer ℕ} → Writes (gather effect_words (level_effects k c d x p)) o o' → o'.at ≤ o.at + effect_width
+level_wrote k c d x p w = omega (arith, w.wrote.next, level-length k c d x p)
 
 -- which of the three cases it is
 pub level_none : (k : ℕ) (c d : EffectKind) (x : ℕ) (p : Place) → k ≡ 0 → level_effects k c d x p ≡ []
@@ -62,15 +64,21 @@ pub level_conditional : (k : ℕ) (c d : EffectKind) (x : ℕ) (p : Place) → k
 unfolding level_effects
 level_conditional k c d x p e = ap (λ (n : ℕ). level_effects n c d x p) e
 
-pub level_definite : (k : ℕ) (c d : EffectKind) (x : ℕ) (p : Place) → (k ≡ 0 → ⊥) → (k ≡ 1 → ⊥) → level_effects k c d x p ≡ record { kind = d; first = p; second = no_place; extra = x } ∷ []
+pub level_definite : (k : ℕ) (c d : EffectKind) (x : ℕ) (p : Place) → 2 ≤ k → level_effects k c d x p ≡ record { kind = d; first = p; second = no_place; extra = x } ∷ []
 unfolding level_effects
-level_definite zero c d x p a b = absurd (a refl)
-level_definite (suc zero) c d x p a b = absurd (b refl)
-level_definite (suc (suc k)) c d x p a b = refl
+level_definite zero c d x p h = absurd (omega (arith, h))
+level_definite (suc zero) c d x p h = absurd (omega (arith, h))
+level_definite (suc (suc k)) c d x p h = refl
 
 -- one effect
 pub one-effect : (e : Effect) → effect_words e ≡ gather effect_words (e ∷ [])
 one-effect e = sym (append-nil (effect_words e))
+
+-- a reason's bit is its extra word
+reason_bit : (k : ℕ) → k < 2 → k ≡ reason_word (reason_of k)
+reason_bit zero h = refl
+reason_bit (suc zero) h = refl
+reason_bit (suc (suc k)) h = absurd (omega (arith, h))
 
 -- ---- both records of a place
 module _ (ws : List ℕ) (p : Place) (b : p.identifier < most_identifiers) where
@@ -93,15 +101,15 @@ module _ (ws : List ℕ) (p : Place) (b : p.identifier < most_identifiers) where
       ∙ ap (λ (l : List Effect). level_effects (word % 4) MutateConditionally Mutate (reason_word (reason_of (word / 16 % 2))) (with_span p (get_or ws (LSPAN + x) 0)) ++ l)
       (transitive_words (word / 4 % 4) (get_or ws (TSPAN + x) 0) p)
 
-  -- the local one first
-  pub collected : {w : ℕ} {a : List ℕ} {at : ℕ} {a' : List ℕ} {at' : ℕ} {a'' : List ℕ} {at'' : ℕ} → w ≡ reason_word (reason_of (word / 16 % 2))
-      → Wrote (gather effect_words (level_effects (word % 4) MutateConditionally Mutate w (with_span p (get_or ws (LSPAN + x) 0)))) a at a' at'
-      → Wrote (gather effect_words (level_effects (word / 4 % 4) MutateTransitiveConditionally MutateTransitive 0 (with_span p (get_or ws (TSPAN + x) 0)))) a' at' a'' at''
-      → Collected ws (p ∷ []) a at a'' at''
-  collected {w} e u v t h =
-      wrote_as (wrote_then u v)
+  -- the local one first, with the reason's bit as its extra word
+  pub collected : {o o' o'' : Writer ℕ}
+      → Writes (gather effect_words (level_effects (word % 4) MutateConditionally Mutate (word / 16 % 2) (with_span p (get_or ws (LSPAN + x) 0)))) o o'
+      → Writes (gather effect_words (level_effects (word / 4 % 4) MutateTransitiveConditionally MutateTransitive 0 (with_span p (get_or ws (TSPAN + x) 0)))) o' o''
+      → Collected ws (p ∷ []) o o''
+  collected u v t h =
+      writes_as (writes_then u v)
       (ap (λ (k : ℕ). gather effect_words (level_effects (word % 4) MutateConditionally Mutate k (with_span p (get_or ws (LSPAN + x) 0)))
-      ++ gather effect_words (level_effects (word / 4 % 4) MutateTransitiveConditionally MutateTransitive 0 (with_span p (get_or ws (TSPAN + x) 0)))) e
+      ++ gather effect_words (level_effects (word / 4 % 4) MutateTransitiveConditionally MutateTransitive 0 (with_span p (get_or ws (TSPAN + x) 0)))) (reason_bit (word / 16 % 2) (omega arith))
       ∙ sym (gather_append effect_words (level_effects (word % 4) MutateConditionally Mutate (reason_word (reason_of (word / 16 % 2))) (with_span p (get_or ws (LSPAN + x) 0)))
       (level_effects (word / 4 % 4) MutateTransitiveConditionally MutateTransitive 0 (with_span p (get_or ws (TSPAN + x) 0))))
       ∙ ap (gather effect_words) (sym (collect_words t h) ∙ sym (append-nil (collect_param_effects t p))))
@@ -122,12 +130,12 @@ module _ (ws : List ℕ) (p : Place) (b : p.identifier < most_identifiers) where
       )
 
   -- the bound on where the next word goes, in any case
-  pub collected_most : {a : List ℕ} {at : ℕ} {a' : List ℕ} {at' : ℕ} → Collected ws (p ∷ []) a at a' at' → at' ≤ at + 2 * effect_width
-  collected_most {a} {at} {a'} {at'} v =
+  pub collected_most : {o o' : Writer ℕ} → Collected ws (p ∷ []) o o' → o'.at ≤ o.at + 2 * effect_width
+  collected_most {o} {o'} v =
       let s : State = state_of ws 0 in
       let e : length (gather effect_words (collect_param_effects s p ++ [])) ≡ length (gather effect_words (collect_param_effects s p)) =
       ap (λ (l : List Effect). length (gather effect_words l)) (append-nil (collect_param_effects s p)) in
-      omega (arith, (v s (held ws 0)).next, collect_length s (held ws 0), e)
+      omega (arith, (v s (held ws 0)).wrote.next, collect_length s (held ws 0), e)
 
 -- ---- many places
 -- the words of a place's records
@@ -135,31 +143,18 @@ abbrev pub record_words : State → Place → List ℕ
 record_words t p = gather effect_words (collect_param_effects t p)
 
 module _ (ws : List ℕ) (first count : ℕ) where
-  -- the loop: what is left from place i on
-  abbrev pub Collecting : List ℕ → ℕ → ℕ → List ℕ → ℕ → Type 0
-  Collecting a₀ at₀ i a at =
-      (t : State) → Holds ws t
-      → Leaves (gather (record_words t) (tab count (λ (j : ℕ). tracked_at ws (first + j)))) (gather (record_words t) (drop i (tab count (λ (j : ℕ). tracked_at ws (first + j))))) a₀ at₀ a at
+  -- the loop
+  abbrev pub Collecting : Writer ℕ → ℕ → Writer ℕ → Type 0
+  Collecting = Telling (Holds ws) record_words (2 * effect_width) count (λ (j : ℕ). tracked_at ws (first + j))
 
-  pub collecting_start : (a : List ℕ) (at : ℕ) → Collecting a at 0 a at
-  collecting_start a at t h = leaves_all (gather (record_words t) (tab count (λ (j : ℕ). tracked_at ws (first + j)))) a at
+  module _ {o₀ : Writer ℕ} {i : ℕ} {o : Writer ℕ} (v : Collecting o₀ i o) where
+    pub collecting_turn : {o' : Writer ℕ} {p : Place} → i < count → p ≡ tracked_at ws (first + i) → Collected ws (p ∷ []) o o' → Collecting o₀ (i + 1) o'
+    collecting_turn {p = p} z e c =
+        telling_turn (Holds ws) record_words (2 * effect_width) count (λ (j : ℕ). tracked_at ws (first + j)) v z
+        (λ t h. writes_as (c t h) (ap (gather effect_words) (append-nil (collect_param_effects t p)) ∙ ap (record_words t) e)) (collected_most ws p (is_below ws (first + i) e) c)
 
-  pub collecting_turn : {a₀ : List ℕ} {at₀ : ℕ} (i : ℕ) {a : List ℕ} {at : ℕ} {a' : List ℕ} {at' : ℕ} {p : Place} → Collecting a₀ at₀ i a at → i < count → p ≡ tracked_at ws (first + i)
-      → Collected ws (p ∷ []) a at a' at' → Collecting a₀ at₀ (i + 1) a' at'
-  collecting_turn i {p = p} v z e c t h =
-      table_turn (record_words t) count (λ (j : ℕ). tracked_at ws (first + j)) i (v t h) z
-      (wrote_as (c t h) (ap (gather effect_words) (append-nil (collect_param_effects t p)) ∙ ap (record_words t) e))
-
-  pub collecting_end : {a₀ : List ℕ} {at₀ : ℕ} (i : ℕ) {a : List ℕ} {at : ℕ} → Collecting a₀ at₀ i a at → count ≤ i → Collected ws (tracked_from ws first count) a₀ at₀ a at
-  unfolding tracked_from
-  collecting_end i v z t h =
-      wrote_as (table_end (record_words t) count (λ (j : ℕ). tracked_at ws (first + j)) i (v t h) z)
-      (sym (gather_gather effect_words (collect_param_effects t) (tab count (λ (j : ℕ). tracked_at ws (first + j)))))
-
--- ---- a reason as an extra word
-pub reason_none : (k : ℕ) → k ≡ 0 → 0 ≡ reason_word (reason_of k)
-reason_none k e = ap (λ (n : ℕ). reason_word (reason_of n)) (sym e)
-
-pub reason_some : (k : ℕ) → (k ≡ 0 → ⊥) → 1 ≡ reason_word (reason_of k)
-reason_some zero n = absurd (n refl)
-reason_some (suc k) n = refl
+    pub collecting_end : count ≤ i → Collected ws (tracked_from ws first count) o₀ o
+    unfolding tracked_from
+    collecting_end z t h =
+        writes_as (telling_end (Holds ws) record_words (2 * effect_width) count (λ (j : ℕ). tracked_at ws (first + j)) v z t h)
+        (sym (gather_gather effect_words (collect_param_effects t) (tab count (λ (j : ℕ). tracked_at ws (first + j)))))

@@ -1,4 +1,5 @@
 pub mod Held
+pub mod Telling
 pub mod Marking
 pub mod Collecting
 pub mod Flowing

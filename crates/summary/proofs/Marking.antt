@@ -5,8 +5,8 @@ use native.Mathlib.Decide.{ℕ_discrete}
 use mathlib.Core.Path.{◌≡◌, refl, sym, ap, ◌∙◌}
 use mathlib.Core.Bool.{Bool, true, false}
 use mathlib.Core.List.{List, [], ◌∷◌, map}
-use lib.ListN.{length, take, drop}
-use Rattle.model.specs.Limits.{most_identifiers}
+use lib.ListN.{length, take}
+use Rattle.model.specs.Limits.{most_identifiers, place_width}
 use Rattle.model.specs.Lists.{pick, gather}
 use Rattle.model.specs.Answer.{place_words, section}
 use Rattle.model.specs.Sheet.{Place}
@@ -17,17 +17,19 @@ use Rattle.model.specs.Marks.{with_effect}
 use Rattle.workspace.specs.Layout.{SEEN, TRACKED}
 use Rattle.workspace.specs.Rows.{Kept}
 use Rattle.workspace.specs.Graph.{tab}
-use Rattle.workspace.proofs.Parts.{kept_none, kept_then, take_less}
+use Rattle.workspace.proofs.Parts.{kept_then, take_less}
 use Rattle.workspace.proofs.Tables.{tab-same, tab-length, tab-map}
 use Rattle.aliasing.specs.State.{nodes_of, record_at, records_of, state_of}
-use Rattle.writing.specs.Wrote.{Wrote}
-use Rattle.writing.proofs.Writing.{wrote_then, wrote_as}
-use Rattle.copies.proofs.Loops.{Leaves, leaves_all, table_turn, table_end}
+use Rattle.writing.specs.declared.Writer.{Writer}
+use Rattle.writing.specs.Wrote.{Writes}
+use Rattle.writing.proofs.Writing.{writes_then, writes_as}
 use Rattle.summary.specs.Sections.{Marked}
 use Rattle.summary.specs.Records.{Holds}
 use Rattle.workspace.specs.Tracked.{tracked_at, tracked_of, tracked_from, Tracks}
 use Rattle.summary.specs.Tracked.{Marks}
 use Rattle.summary.proofs.Held.{held, record_held}
+use Rattle.summary.proofs.Telling.{Telling, telling_turn, telling_end}
+use Rattle.model.proofs.Gathers.{gather_map}
 use Rattle.workspace.proofs.Places.{tracked-low, tracked_high}
 
 -- ---- one place
@@ -59,36 +61,37 @@ mark-below ws p q m b =
     let e : q.identifier ≡ p.identifier = ap (λ (z : Place). z.identifier) (m s (held ws 0)) ∙ same-identifier p (has_record (record_of s p)) in
     omega (arith, e, b)
 
--- the marked places as a table
-pub marked-table : (ws : List ℕ) (first count : ℕ) (t : State) → map (marked t) (tracked_from ws first count) ≡ tab count (λ (i : ℕ). marked t (tracked_at ws (first + i)))
+-- how many the marked places are
+pub marked_length : (ws : List ℕ) (first count : ℕ) (t : State) → length (map (marked t) (tracked_from ws first count)) ≡ count
 unfolding tracked_from
-marked-table ws first count t = tab-map count (λ (i : ℕ). tracked_at ws (first + i)) (marked t)
+marked_length ws first count t =
+    ap (λ (z : List Place). length z) (tab-map count (λ (i : ℕ). tracked_at ws (first + i)) (marked t)) ∙ tab-length count (λ (i : ℕ). marked t (tracked_at ws (first + i)))
+
+-- the words of a place with its mark
+abbrev pub marked_words : State → Place → List ℕ
+marked_words t p = place_words (marked t p)
 
 -- their section: the count, then each
-pub marked-section : (ws : List ℕ) (first count : ℕ) (t : State) → count ∷ gather place_words (tab count (λ (i : ℕ). marked t (tracked_at ws (first + i)))) ≡ section place_words (map (marked t) (tracked_from ws first count))
+marked-section : (ws : List ℕ) (first count : ℕ) (t : State) → count ∷ gather (marked_words t) (tab count (λ (i : ℕ). tracked_at ws (first + i))) ≡ section place_words (map (marked t) (tracked_from ws first count))
+unfolding tracked_from
 marked-section ws first count t =
-    let l : List Place = tab count (λ (i : ℕ). marked t (tracked_at ws (first + i))) in
-    let n : count ≡ length l = sym (tab-length count (λ (i : ℕ). marked t (tracked_at ws (first + i)))) in
-    ap (λ (k : ℕ). k ∷ gather place_words l) n ∙ ap (section place_words) (sym (marked-table ws first count t))
+    let l : List Place = tab count (λ (i : ℕ). tracked_at ws (first + i)) in
+    let n : count ≡ length (map (marked t) l) = sym (marked_length ws first count t) in
+    ap (λ (k : ℕ). k ∷ gather (marked_words t) l) n ∙ ap (λ (z : List ℕ). length (map (marked t) l) ∷ z) (sym (gather_map place_words (marked t) l))
 
 module _ (ws : List ℕ) (first count : ℕ) where
-  -- the loop that writes them: what is left from place i on
-  abbrev pub Putting : List ℕ → ℕ → ℕ → List ℕ → ℕ → Type 0
-  Putting a₀ at₀ i a at =
-      (t : State) → Holds ws t
-      → Leaves (gather place_words (tab count (λ (j : ℕ). marked t (tracked_at ws (first + j))))) (gather place_words (drop i (tab count (λ (j : ℕ). marked t (tracked_at ws (first + j)))))) a₀ at₀ a at
+  -- the loop that writes them
+  abbrev pub Putting : Writer ℕ → ℕ → Writer ℕ → Type 0
+  Putting = Telling (Holds ws) marked_words place_width count (λ (j : ℕ). tracked_at ws (first + j))
 
-  pub putting_start : (a : List ℕ) (at : ℕ) → Putting a at 0 a at
-  putting_start a at t h = leaves_all (gather place_words (tab count (λ (j : ℕ). marked t (tracked_at ws (first + j))))) a at
+  module _ {o₀ : Writer ℕ} {i : ℕ} {o : Writer ℕ} (v : Putting o₀ i o) where
+    pub putting_turn : {o' : Writer ℕ} {p q : Place} → i < count → p ≡ tracked_at ws (first + i) → ((t : State) → Holds ws t → q ≡ marked t p) → Writes (place_words q) o o' → Putting o₀ (i + 1) o'
+    putting_turn z e m u =
+        telling_turn (Holds ws) marked_words place_width count (λ (j : ℕ). tracked_at ws (first + j)) v z (λ t h. writes_as u (ap place_words (m t h ∙ ap (marked t) e))) (omega (arith, u.wrote.next))
 
-  pub putting_turn : {a₀ : List ℕ} {at₀ : ℕ} (i : ℕ) {a : List ℕ} {at : ℕ} {a' : List ℕ} {at' : ℕ} {p q : Place} → Putting a₀ at₀ i a at → i < count → p ≡ tracked_at ws (first + i)
-      → ((t : State) → Holds ws t → q ≡ marked t p) → Wrote (place_words q) a at a' at' → Putting a₀ at₀ (i + 1) a' at'
-  putting_turn i v z e m w t h =
-      table_turn place_words count (λ (j : ℕ). marked t (tracked_at ws (first + j))) i (v t h) z (wrote_as w (ap place_words (m t h ∙ ap (marked t) e)))
-
-  pub putting_end : {a₀ : List ℕ} {at₀ : ℕ} (i : ℕ) {a : List ℕ} {at : ℕ} → Putting a₀ at₀ i a at → count ≤ i → {a₁ : List ℕ} {at₁ : ℕ} → Wrote (count ∷ []) a₁ at₁ a₀ at₀ → Marked ws first count a₁ at₁ a at
-  putting_end i v z w t h =
-      wrote_as (wrote_then w (table_end place_words count (λ (j : ℕ). marked t (tracked_at ws (first + j))) i (v t h) z)) (marked-section ws first count t)
+    pub putting_end : count ≤ i → {b : Writer ℕ} → Writes (count ∷ []) b o₀ → Marked ws first count b o
+    putting_end z u t h =
+        writes_as (writes_then u (telling_end (Holds ws) marked_words place_width count (λ (j : ℕ). tracked_at ws (first + j)) v z t h)) (marked-section ws first count t)
 
 -- ---- the records stay if the fields stay
 pub holds_kept : (ws ws' : List ℕ) (t : State) → take TRACKED ws' ≡ take TRACKED ws → Holds ws t → Holds ws' t
@@ -99,9 +102,6 @@ holds_kept ws ws' t e h = h ∙ ap records_of (sym (take_less SEEN TRACKED ws' w
 pub record Marking (ws₀ : List ℕ) (ws : List ℕ) (i : ℕ) : Type 0 where
   pub places : (t : State) → Holds ws₀ t → (j : ℕ) → j < i → tracked_at ws j ≡ marked t (tracked_at ws₀ j)
   pub kept : Kept TRACKED (TRACKED + 2 * i) ws₀ ws
-
-pub marking_start : (ws : List ℕ) → Marking ws ws 0
-marking_start ws = record { places = λ t h j z. absurd (omega (arith, z)); kept = kept_none TRACKED (TRACKED + 2 * 0) ws }
 
 module _ {ws₀ ws : List ℕ} {i : ℕ} (v : Marking ws₀ ws i) where
   pub marking_turn : {p q : Place} {ws' : List ℕ} → p ≡ tracked_at ws i → ((t : State) → Holds ws t → q ≡ marked t p) → Tracks ws i q ws' → Marking ws₀ ws' (i + 1)

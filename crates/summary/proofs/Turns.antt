@@ -30,8 +30,9 @@ use Rattle.aliasing.proofs.Parts.{slice_below, nodes_below, rows_below}
 use Rattle.aliasing.proofs.Hands.{handing_behind, handing_anew}
 use Rattle.aliasing.proofs.Begin.{Remarked, remarked, unmarked_handing}
 use Rattle.aliasing.proofs.Entries.{state_same}
-use Rattle.writing.specs.Wrote.{Wrote}
-use Rattle.writing.proofs.Writing.{wrote_none, wrote_then, wrote_as}
+use Rattle.writing.specs.declared.Writer.{Writer}
+use Rattle.writing.specs.Wrote.{Writes}
+use Rattle.writing.proofs.Writing.{writes_none, writes_then, writes_as}
 use Rattle.model.proofs.Gathers.{gather_append}
 use Rattle.workspace.specs.Tracked.{most_tracked, tracked_at, tracked_of}
 use Rattle.summary.specs.Sections.{Flows, simulated_of}
@@ -71,40 +72,38 @@ after_as s a p q = record { made = a.made; index = a.index; state = a.state ∙ 
 
 -- ---- the loop
 -- after i walks of s: their effects were written
-pub record SoFar (s : Sheet) (answer₀ : List ℕ) (at : ℕ) (ws answer : List ℕ) (to i : ℕ) : Type 0 where
+pub record SoFar (s : Sheet) (o₀ : Writer ℕ) (ws : List ℕ) (i : ℕ) (o : Writer ℕ) : Type 0 where
   pub effects : List Effect
   pub after : After s i (state_of ws HANDED) (simulated_of ws i) effects
-  pub wrote : Wrote (gather effect_words effects) answer₀ at answer to
+  pub wrote : Writes (gather effect_words effects) o₀ o
 
-pub record Turned (ws₀ : List ℕ) (count index returns : ℕ) (answer₀ : List ℕ) (at : ℕ) (ws answer : List ℕ) (to i next : ℕ) : Type 0 where
-  pub sofar : (s : Sheet) → Marked s ws₀ count index returns → SoFar s answer₀ at ws answer to i
+pub record Turned (ws₀ : List ℕ) (count index returns : ℕ) (o₀ : Writer ℕ) (ws : List ℕ) (i : ℕ) (o : Writer ℕ) : Type 0 where
+  pub sofar : (s : Sheet) → Marked s ws₀ count index returns → SoFar s o₀ ws i o
   pub walkable : Walkable ws₀ ws
   pub mid : i ≤ count
-  pub number : next ≡ index + i
   pub places : drop TRACKED ws ≡ drop TRACKED ws₀
   pub kept : slice MUTATIONS SIMULATED ws ≡ slice MUTATIONS SIMULATED ws₀
-  pub few : to ≤ at + effect_width * most_tracked * i
-  pub buffer : length answer ≡ length answer₀
+  pub few : o.at ≤ o₀.at + effect_width * most_tracked * i
+  pub same : o.buffer.ghost_name ≡ o₀.buffer.ghost_name
 
-pub turned_start : (ws : List ℕ) (count index returns : ℕ) (answer : List ℕ) (at : ℕ) → Indexed ws → Handing ws HANDED → Turned ws count index returns answer at ws answer at 0 index
-turned_start ws count index returns answer at indexed handing = record {
+pub turned_start : (ws : List ℕ) (count index returns : ℕ) (o : Writer ℕ) → Indexed ws → Handing ws HANDED → Turned ws count index returns o ws 0 o
+turned_start ws count index returns o indexed handing = record {
   sofar = λ s m. record {
     effects = [];
     after = after_as s (after-start s) (sym m.state) (sym (counts_none ws));
-    wrote = wrote_none answer at;
+    wrote = writes_none o;
   };
   walkable = record { graph = refl; indexed = indexed; handing = handing; same = refl };
   mid = omega arith;
-  number = omega arith;
   places = refl;
   kept = refl;
   few = omega arith;
-  buffer = refl;
+  same = refl;
 }
 
-module _ {ws₀ : List ℕ} {count index returns : ℕ} {answer₀ : List ℕ} {at : ℕ} {ws answer : List ℕ} {to i next : ℕ} (p : Turned ws₀ count index returns answer₀ at ws answer to i next)
+module _ {ws₀ : List ℕ} {count index returns : ℕ} {o₀ : Writer ℕ} {ws : List ℕ} {i : ℕ} {o : Writer ℕ} (p : Turned ws₀ count index returns o₀ ws i o)
     (least : count ≤ most_tracked) (more : i < count) {into : Place} (is : into ≡ tracked_at ws i)
-    {m : CodeMutation} (said : (mutation_says m ≡ simulation next into) × ((mode_says m ≡ simulated) × Callable m)) {ws₁ : List ℕ} {c h : ℕ} (w : Mutated m ws HANDED ws₁ c h) where
+    {m : CodeMutation} (said : (mutation_says m ≡ simulation (index + i) into) × ((mode_says m ≡ simulated) × Callable m)) {ws₁ : List ℕ} {c h : ℕ} (w : Mutated m ws HANDED ws₁ c h) where
   -- the count has room
   pub long : SIMULATED + i < length ws₁
   long = omega (arith, w.aside.same, p.walkable.indexed.size)
@@ -137,8 +136,8 @@ module _ {ws₀ : List ℕ} {count index returns : ℕ} {answer₀ : List ℕ} {
     abbrev walk : Walk
     walk = mutate simulated (simulation ((build s).index + i) (get_or (tracked s) i no_place)) (state_of ws HANDED)
 
-    number_is : next ≡ (build s).index + i
-    number_is = omega (arith, p.number, d.first)
+    number_is : index + i ≡ (build s).index + i
+    number_is = ap (λ (k : ℕ). k + i) d.first
 
     place_is_lem : into ≡ get_or (tracked s) i no_place
     place_is_lem =
@@ -161,32 +160,31 @@ module _ {ws₀ : List ℕ} {count index returns : ℕ} {answer₀ : List ℕ} {
         (λ j q. get_or-set_other ws₁ (SIMULATED + i) (SIMULATED + j) c 0 (λ e. omega (arith, e, q)) ∙ drop-word MUTATIONS (SIMULATED + j) ws ws₁ (omega arith) w.aside.behind)
         (get_or-set_same ws₁ (SIMULATED + i) c 0 long ∙ w.counts ∙ ap (λ (v : Walk). v.taken) walk_is)
 
-    module _ {answer' : List ℕ} {to' : ℕ} (f : Flows stored count into next returns answer to answer' to') where
+    module _ {o' : Writer ℕ} (f : Flows stored count into (index + i) returns o o') where
       places_are : tracked s ≡ tracked_of stored count
       places_are = d.places ∙ sym (tracked_kept ws₀ stored count stored_places)
 
-      flows_few : to' ≤ to + effect_width * count
-      flows_few = flows_next stored count into next returns s walk.state (holds_state stored h state_is) places_are d.identifier f
+      flows_few : o'.at ≤ o.at + effect_width * count
+      flows_few = flows_next stored count into (index + i) returns s walk.state (holds_state stored h state_is) places_are d.identifier f
 
-      found : Wrote (gather effect_words (flow_effects s ((build s).index + i) (get_or (tracked s) i no_place) walk.state)) answer to answer' to'
+      found : Writes (gather effect_words (flow_effects s ((build s).index + i) (get_or (tracked s) i no_place) walk.state)) o o'
       found =
-          wrote_as (f s walk.state (holds_state stored h state_is) places_are d.identifier)
+          writes_as (f.wrote s walk.state (holds_state stored h state_is) places_are d.identifier)
           (ap (λ (k : ℕ). gather effect_words (flow_effects s k into walk.state)) number_is
           ∙ ap (λ (q : Place). gather effect_words (flow_effects s ((build s).index + i) q walk.state)) place_is_lem)
 
-      sofar_next : SoFar s answer₀ at ws answer to i → SoFar s answer₀ at stored answer' to' (i + 1)
+      sofar_next : SoFar s o₀ ws i o → SoFar s o₀ stored (i + 1) o'
       sofar_next a =
           let new : List Effect = flow_effects s ((build s).index + i) (get_or (tracked s) i no_place) walk.state in
           let n : i < length (tracked s) = omega (arith, ap (λ (l : List Place). length l) d.places, tracked-length ws₀ count) in
           record {
             effects = a.effects ++ new;
             after = after_as s (after_turn s n a.after) (ap (with_handed []) (sym state_is) ∙ begin_anew stored h) (sym counts_are);
-            wrote = wrote_as (wrote_then a.wrote found) (sym (gather_append effect_words a.effects new));
+            wrote = writes_as (writes_then a.wrote found) (sym (gather_append effect_words a.effects new));
           }
 
-  pub turned_turn : (s : Sheet) × Marked s ws₀ count index returns → {answer' : List ℕ} {to' : ℕ} → Flows stored count into next returns answer to answer' to' → length answer' ≡ length answer
-      → Turned ws₀ count index returns answer₀ at stored answer' to' (i + 1) (next + 1)
-  turned_turn sd f e = record {
+  pub turned_turn : (s : Sheet) × Marked s ws₀ count index returns → {o' : Writer ℕ} → Flows stored count into (index + i) returns o o' → Turned ws₀ count index returns o₀ stored (i + 1) o'
+  turned_turn sd f = record {
     sofar = λ s d. sofar_next s d f (p.sofar s d);
     walkable = record {
       graph = stored_rows ∙ p.walkable.graph;
@@ -195,19 +193,17 @@ module _ {ws₀ : List ℕ} {count index returns : ℕ} {answer₀ : List ℕ} {
       same = stored_kept.same ∙ w.aside.same ∙ p.walkable.same;
     };
     mid = omega arith;
-    number = omega (arith, p.number);
     places = stored_places;
     kept = stored_slice;
     few = omega (arith, p.few, flows_few sd.0 sd.1 f);
-    buffer = e ∙ p.buffer;
+    same = f.same ∙ p.same;
   }
 
-pub turned_end : {ws₀ : List ℕ} {count index returns : ℕ} {answer₀ : List ℕ} {at : ℕ} {ws answer : List ℕ} {to i next : ℕ} → Turned ws₀ count index returns answer₀ at ws answer to i next → count ≤ i
-    → Simulates ws₀ count index returns answer₀ at ws answer to
-turned_end {ws₀} {count} {index} {returns} {answer₀} {at} {ws} {answer} {to} {i} p done =
+pub turned_end : {ws₀ : List ℕ} {count index returns : ℕ} {o₀ : Writer ℕ} {ws : List ℕ} {i : ℕ} {o : Writer ℕ} → Turned ws₀ count index returns o₀ ws i o → count ≤ i → Simulates ws₀ count index returns o₀ ws o
+turned_end {ws₀} {count} {index} {returns} {o₀} {ws} {i} {o} p done =
     let e : count ≡ i = omega (arith, p.mid) in
     record {
-      wrote = λ s d. wrote_as (p.sofar s d).wrote (ap (gather effect_words) (sym (p.sofar s d).after.found ∙ ap (λ (m : Simulated). m.effects) (over s d)));
+      wrote = λ s d. writes_as (p.sofar s d).wrote (ap (gather effect_words) (sym (p.sofar s d).after.found ∙ ap (λ (m : Simulated). m.effects) (over s d)));
       left = λ s d.
           let a = (p.sofar s d).after in
           record {
@@ -218,6 +214,7 @@ turned_end {ws₀} {count} {index} {returns} {answer₀} {at} {ws} {answer} {to}
       walkable = p.walkable;
       kept = p.kept;
       few = omega (arith, p.few, e);
+      same = p.same;
     }
   where
     over : (s : Sheet) (d : Marked s ws₀ count index returns) → (p.sofar s d).after.made ≡ simulate s
@@ -232,8 +229,8 @@ module _ (ws : List ℕ) (indexed : Indexed ws) (l : List ℕ) (clear : Unmarked
   u : Remarked ws l
   u = remarked ws l indexed clear.kept
 
-  pub cleared_start : (count index returns : ℕ) (answer : List ℕ) (at : ℕ) → Turned l count index returns answer at l answer at 0 index
-  cleared_start count index returns answer at = turned_start l count index returns answer at u.indexed (unmarked_handing ws l clear)
+  pub cleared_start : (count index returns : ℕ) (o : Writer ℕ) → Turned l count index returns o l 0 o
+  cleared_start count index returns o = turned_start l count index returns o u.indexed (unmarked_handing ws l clear)
 
   pub cleared_marked : (s : Sheet) {count index returns : ℕ} → Marked s ws count index returns → Marked s l count index returns
   cleared_marked s {count} d = record {
@@ -243,11 +240,12 @@ module _ (ws : List ℕ) (indexed : Indexed ws) (l : List ℕ) (clear : Unmarked
     first = d.first;
   }
 
-  pub cleared_end : {count index returns : ℕ} {answer : List ℕ} {at : ℕ} {ws' answer' : List ℕ} {r : ℕ} → Simulates l count index returns answer at ws' answer' r → Simulates ws count index returns answer at ws' answer' r
+  pub cleared_end : {count index returns : ℕ} {o : Writer ℕ} {ws' : List ℕ} {o' : Writer ℕ} → Simulates l count index returns o ws' o' → Simulates ws count index returns o ws' o'
   cleared_end p = record {
     wrote = λ s d. p.wrote s (cleared_marked s d);
     left = λ s d. p.left s (cleared_marked s d);
     walkable = walkable_from u.aside.graph u.aside.same p.walkable;
     kept = p.kept ∙ slice_drop MUTATIONS MUTATIONS SIMULATED l ws (omega arith) (omega arith) u.aside.behind;
     few = p.few;
+    same = p.same;
   }

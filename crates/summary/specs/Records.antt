@@ -6,7 +6,8 @@ use Rattle.model.specs.State.{State}
 use Rattle.model.specs.Summary.{collect_param_effects}
 use Rattle.model.specs.Answer.{effect_words}
 use Rattle.aliasing.specs.State.{nodes_of, records_of}
-use Rattle.writing.specs.Wrote.{Wrote}
+use Rattle.writing.specs.declared.Writer.{Writer}
+use Rattle.writing.specs.Wrote.{Writes}
 
 -- the state's records are those of the words
 abbrev pub Holds : List ℕ → State → Type 0
@@ -23,5 +24,5 @@ level_effects (suc zero) conditional definite x p = effect_on conditional p 0 �
 level_effects (suc (suc k)) conditional definite x p = effect_on definite p x ∷ []
 
 -- the effects of the records of the places were written
-abbrev pub Collected : List ℕ → List Place → List ℕ → ℕ → List ℕ → ℕ → Type 0
-Collected ws places answer at answer' r = (t : State) → Holds ws t → Wrote (gather effect_words (gather (collect_param_effects t) places)) answer at answer' r
+abbrev pub Collected : List ℕ → List Place → Writer ℕ → Writer ℕ → Type 0
+Collected ws places o o' = (t : State) → Holds ws t → Writes (gather effect_words (gather (collect_param_effects t) places)) o o'

@@ -13,7 +13,8 @@ use Rattle.model.specs.Answer.{effect_words, section, summary}
 use Rattle.workspace.specs.Layout.{HANDED, MUTATIONS, SIMULATED}
 use Rattle.workspace.specs.Rows.{rows_of, Indexed}
 use Rattle.aliasing.specs.State.{state_of, Handing}
-use Rattle.writing.specs.Wrote.{Wrote}
+use Rattle.writing.specs.declared.Writer.{Writer}
+use Rattle.writing.specs.Wrote.{Writes}
 use Rattle.workspace.specs.Tracked.{most_tracked, tracked_of}
 use Rattle.summary.specs.Sections.{simulated_of}
 use Rattle.dataflow.specs.declared.function.HirFunction.{HirFunction}
@@ -52,17 +53,19 @@ pub record Walkable (ws ws' : List ℕ) : Type 0 where
   pub same : length ws' ≡ length ws
 
 -- the simulated walks were run, and what they found was written
-pub record Simulates (ws : List ℕ) (count index returns : ℕ) (answer : List ℕ) (at : ℕ) (ws' answer' : List ℕ) (r : ℕ) : Type 0 where
-  pub wrote : (s : Sheet) → Marked s ws count index returns → Wrote (gather effect_words (simulate s).effects) answer at answer' r
+pub record Simulates (ws : List ℕ) (count index returns : ℕ) (o : Writer ℕ) (ws' : List ℕ) (o' : Writer ℕ) : Type 0 where
+  pub wrote : (s : Sheet) → Marked s ws count index returns → Writes (gather effect_words (simulate s).effects) o o'
   pub left : (s : Sheet) → Marked s ws count index returns → Left s ws' count (index + count)
   pub walkable : Walkable ws ws'
   pub kept : slice MUTATIONS SIMULATED ws' ≡ slice MUTATIONS SIMULATED ws
-  pub few : r ≤ at + effect_width * most_tracked * count
+  pub few : o'.at ≤ o.at + effect_width * most_tracked * count
+  pub same : o'.buffer.ghost_name ≡ o.buffer.ghost_name
 
 -- the copied effects were written
-pub record CopiedPut (sheet : List ℕ) (f : HirFunction) (answer : List ℕ) (at : ℕ) (answer' : List ℕ) (r : ℕ) : Type 0 where
-  pub wrote : (s : Sheet) → Describes s sheet f → Wrote (gather effect_words (copied s)) answer at answer' r
-  pub few : r ≤ at + length sheet
+pub record CopiedPut (sheet : List ℕ) (f : HirFunction) (o o' : Writer ℕ) : Type 0 where
+  pub wrote : (s : Sheet) → Describes s sheet f → Writes (gather effect_words (copied s)) o o'
+  pub few : o'.at ≤ o.at + length sheet
+  pub same : o'.buffer.ghost_name ≡ o.buffer.ghost_name
 
 -- the workspace before the section of effects of s is written
 pub record Before (s : Sheet) (sheet ws : List ℕ) (f : HirFunction) (index : ℕ) : Type 0 where
@@ -72,9 +75,10 @@ pub record Before (s : Sheet) (sheet ws : List ℕ) (f : HirFunction) (index : �
   pub first : index ≡ (build s).index
 
 -- the section was written, and the simulated walks were run
-pub record EffectsPut (sheet ws : List ℕ) (f : HirFunction) (index : ℕ) (answer : List ℕ) (at : ℕ) (ws' answer' : List ℕ) (r : ℕ) : Type 0 where
-  pub wrote : (s : Sheet) → Before s sheet ws f index → Wrote (section effect_words (summary s)) answer at answer' r
+pub record EffectsPut (sheet ws : List ℕ) (f : HirFunction) (index : ℕ) (o : Writer ℕ) (ws' : List ℕ) (o' : Writer ℕ) : Type 0 where
+  pub wrote : (s : Sheet) → Before s sheet ws f index → Writes (section effect_words (summary s)) o o'
   pub left : (s : Sheet) → Before s sheet ws f index → Left s ws' (f.params + f.context + 1) (index + (f.params + f.context + 1))
   pub walkable : Walkable ws ws'
   pub kept : slice MUTATIONS SIMULATED ws' ≡ slice MUTATIONS SIMULATED ws
-  pub few : r ≤ at + most_effects
+  pub few : o'.at ≤ o.at + most_effects
+  pub same : o'.buffer.ghost_name ≡ o.buffer.ghost_name

@@ -14,12 +14,13 @@ use copies::put_effect;
 use hir::{AliasingEffect, EffectKind, IdentifierId, Place};
 use workspace::RECORD;
 use workspace::tracked::tracked;
+use writing::Writer;
 
 // Alias into returns, Capture into any other place.
 fn flow_kind(into: IdentifierId, returns: IdentifierId) -> EffectKind
     ensures { kind_says result ≡ pick (eqb into.0 returns.0) Alias Capture }
 {
-    if into.0 == returns.0 {
+    if into == returns {
         EffectKind::Alias
     } else {
         EffectKind::Capture
@@ -27,38 +28,29 @@ fn flow_kind(into: IdentifierId, returns: IdentifierId) -> EffectKind
 }
 
 // The effect of one tracked place, if the walk of this index reached it last.
+// Kept: into, index and returns go together through this function and the next alone; a struct for them, made once in `simulate`, is longer than what it saves.
 fn put_flow(
     ws: &[u32],
     from: Place,
     into: Place,
     index: u32,
     returns: IdentifierId,
-    answer: &mut [u32],
-    at: usize,
-) -> usize
+    out: &mut Writer<'_, u32>,
+)
     requires identifier_lt_most_identifiers { (from.identifier.0 < most_identifiers) × (LEAST ≤ length ws.now) }
-    requires effect_width_bound { at + effect_width ≤ farthest }
-    ensures { Flow ws.now (place_is from) (place_is into) index returns.0 answer.old at answer.new result }
+    requires effect_width_bound { out.old.at + effect_width ≤ farthest }
+    ensures { Flow ws.now (place_is from) (place_is into) index returns.0 out.old out.new }
 {
     let x = from.identifier;
-    let y = into.identifier;
-    if x.0 == y.0 {
-        return at;
-    }
-    if x.0 == returns.0 {
-        return at;
-    }
-    let k = x.0 as usize;
-    if ws[RECORD + k] / 32 == index {
+    if x != into.identifier && x != returns && ws[RECORD + x.0 as usize] / 32 == index {
         let e = AliasingEffect {
-            kind: flow_kind(y, returns),
+            kind: flow_kind(into.identifier, returns),
             first: from,
             second: into,
             extra: 0,
         };
-        return put_effect(answer, at, e);
+        put_effect(out, e);
     }
-    at
 }
 
 // The effects of all `count` tracked places after the walk of `into`.
@@ -68,19 +60,13 @@ pub fn put_flows(
     into: Place,
     index: u32,
     returns: IdentifierId,
-    answer: &mut [u32],
-    at: usize,
-) -> usize
+    out: &mut Writer<'_, u32>,
+)
     requires count_le_most_tracked { (count ≤ most_tracked) × (LEAST ≤ length ws.now) }
-    requires count_bound { at + effect_width * count ≤ farthest }
-    ensures { Flows ws.now count (place_is into) index returns.0 answer.old at answer.new result }
+    requires count_bound { out.old.at + effect_width * count ≤ farthest }
+    ensures { Flows ws.now count (place_is into) index returns.0 out.old out.new }
 {
-    let mut to = at;
-    let mut i = 0;
-    while i < count {
-        let from = tracked(ws, i);
-        to = put_flow(ws, from, into, index, returns, answer, to);
-        i += 1;
+    for i in 0..count {
+        put_flow(ws, tracked(ws, i), into, index, returns, out);
     }
-    to
 }

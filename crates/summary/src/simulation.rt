@@ -21,20 +21,20 @@ use aliasing::{Mutation, MutationKind, clear_marks, mutate};
 use copies::effect_lists::{Section, copy_effects};
 use copies::returns::put_create_returns;
 use dataflow::function::HirFunction;
+use hir::at::EFFECT_WIDTH;
 use hir::{EvaluationOrder, IdentifierId, Place};
 use workspace::tracked::tracked;
 use workspace::{HANDED, SIMULATED};
-use writing::{patch, put};
+use writing::Writer;
 
 // The simulated mutation of a place: transitive, Conditional, moving no end.
 fn simulated(index: u32, into: Place) -> Mutation
     requires { (into.identifier.0 < most_identifiers) × (index ≤ most_index + most_tracked) }
     ensures { (mutation_says result ≡ simulation index (place_is into)) × ((mode_says result ≡ simulated) × Callable result) }
 {
-    let start = into.identifier;
     Mutation {
         index,
-        start,
+        start: into.identifier,
         end: EvaluationOrder::UNSET,
         transitive: true,
         kind: MutationKind::Conditional,
@@ -50,48 +50,32 @@ fn simulate(
     count: usize,
     index: u32,
     returns: IdentifierId,
-    answer: &mut [u32],
-    at: usize,
-) -> usize
+    out: &mut Writer<'_, u32>,
+)
     requires indexed { Indexed ws.old }
     requires marked { (s : Sheet) × Marked s ws.old count index returns.0 }
-    requires count_le_most_tracked { (count ≤ most_tracked) × ((index ≤ most_index) × (at + most_flows ≤ farthest)) }
-    ensures { Simulates ws.old count index returns.0 answer.old at ws.new answer.new result }
+    requires count_le_most_tracked { (count ≤ most_tracked) × ((index ≤ most_index) × (out.old.at + most_flows ≤ farthest)) }
+    ensures { Simulates ws.old count index returns.0 out.old ws.new out.new }
 {
     clear_marks(ws);
-    let mut to = at;
-    let mut i = 0;
-    let mut next = index;
-    while i < count {
+    for i in 0..count {
         let into = tracked(ws, i);
-        let r = mutate(ws, HANDED, simulated(next, into));
-        ws[SIMULATED + i] = r.count;
-        to = put_flows(ws, count, into, next, returns, answer, to);
-        next += 1;
-        i += 1;
+        let next = index + i as u32;
+        let walk = mutate(ws, HANDED, simulated(next, into));
+        ws[SIMULATED + i] = walk.count;
+        put_flows(ws, count, into, next, returns, out);
     }
-    to
 }
 
 // The effects of instructions that are copied: where there is none, no pass over the sheet.
-fn put_copied(sheet: &[u32], f: HirFunction, answer: &mut [u32], at: usize) -> usize
+fn put_copied(sheet: &[u32], f: HirFunction, out: &mut Writer<'_, u32>)
     requires first_in_bounds { (several f.blocks.count block_from sheet.now f.blocks.first).next ≤ length sheet.now }
-    requires sheet_bound { at + length sheet.now ≤ farthest }
-    ensures { CopiedPut sheet.now f answer.old at answer.new result }
+    requires sheet_bound { out.old.at + length sheet.now ≤ farthest }
+    ensures { CopiedPut sheet.now f out.old out.new }
 {
     if f.copies {
-        let blocks = f.blocks;
-        let r = copy_effects(
-            sheet,
-            blocks.first,
-            blocks.count,
-            Section::Effects,
-            answer,
-            at,
-        );
-        return r.at;
+        copy_effects(sheet, f.blocks, Section::Effects, out);
     }
-    at
 }
 
 // The section, the first simulated walk having this index.
@@ -100,33 +84,24 @@ pub fn put_effects(
     ws: &mut [u32],
     f: HirFunction,
     index: u32,
-    answer: &mut [u32],
-    at: usize,
-) -> usize
+    out: &mut Writer<'_, u32>,
+)
     requires limited { Limited f }
     requires indexed { Indexed ws.old }
     requires before { (s : Sheet) × Before s sheet.now ws.old f index }
-    requires index_le_most_index { (index ≤ most_index) × (at + most_effects ≤ farthest) }
-    ensures { EffectsPut sheet.now ws.old f index answer.old at ws.new answer.new result }
+    requires index_le_most_index { (index ≤ most_index) × (out.old.at + most_effects ≤ farthest) }
+    ensures { EffectsPut sheet.now ws.old f index out.old ws.new out.new }
 {
     let params = f.params as usize;
     let context = f.context as usize;
-    let returns = f.returns;
-    let identifiers = f.identifiers;
-    let a1 = put(answer, at, 0);
-    let a2 = put_copied(sheet, f, answer, a1);
-    let a3 = collect_effects(ws, params, context, answer, a2);
-    let a4 = collect_effects(ws, 0, params, answer, a3);
-    let a5 = put_create_returns(sheet, identifiers.first, returns, answer, a4);
+    let start = out.at;
+    out.put(0);
+    put_copied(sheet, f, out);
+    collect_effects(ws, params, context, out);
+    collect_effects(ws, 0, params, out);
+    put_create_returns(sheet, f.identifiers.first, f.returns, out);
     mark_tracked(ws, params + context);
-    let a6 = simulate(
-        ws,
-        params + context + 1,
-        index,
-        returns.identifier,
-        answer,
-        a5,
-    );
-    patch(answer, at, ((a6 - a1) / 8) as u32);
-    a6
+    simulate(ws, params + context + 1, index, f.returns.identifier, out);
+    let count = (out.at - (start + 1)) / EFFECT_WIDTH;
+    out.patch(start, count as u32);
 }

@@ -13,17 +13,17 @@ ghost use Rattle.summary.specs.Tracked.{Marks};
 ghost use Rattle.summary.specs.Sections.{Marked};
 
 use copies::put_place;
-use hir::{Effect, Place};
+use hir::{Effect, IdentifierId, Place};
 use workspace::RECORD;
 use workspace::tracked::{track, tracked};
-use writing::put;
+use writing::Writer;
 
 // Whether the node of x has a record.
-fn has_record(ws: &[u32], x: usize) -> bool
-    requires { (x < most_identifiers) × (LEAST ≤ length ws.now) }
-    ensures { result ≡ has_record (record_at (nodes_of ws.now) x) }
+fn has_record(ws: &[u32], x: IdentifierId) -> bool
+    requires { (x.0 < most_identifiers) × (LEAST ≤ length ws.now) }
+    ensures { result ≡ has_record (record_at (nodes_of ws.now) x.0) }
 {
-    ws[RECORD + x] % 16 != 0
+    ws[RECORD + x.0 as usize] % 16 != 0
 }
 
 // The place with the Capture mark, if its identifier has a record.
@@ -31,32 +31,27 @@ fn marked(ws: &[u32], p: Place) -> Place
     requires { (p.identifier.0 < most_identifiers) × (LEAST ≤ length ws.now) }
     ensures { (t : State) → Holds ws.now t → place_is result ≡ marked t (place_is p) }
 {
-    let identifier = p.identifier;
-    if has_record(ws, identifier.0 as usize) {
-        return Place {
-            identifier,
+    if has_record(ws, p.identifier) {
+        Place {
             effect: Effect::Capture,
-            reactive: p.reactive,
-            span: p.span,
-        };
+            ..p
+        }
+    } else {
+        p
     }
-    p
 }
 
 // The section of params or of context: `count` tracked places from `first` on, with their marks.
-pub fn put_marked(ws: &[u32], first: usize, count: usize, answer: &mut [u32], at: usize) -> usize
+// Kept: the loops over tracked places (here, in `mark_tracked` and in `collect_effects`) share their head alone; `each_tracked(ws, first, count, |p| put_place(out, marked(ws, p)))` is no plainer, and `mark_tracked` writes to ws.
+pub fn put_marked(ws: &[u32], first: usize, count: usize, out: &mut Writer<'_, u32>)
     requires count_bound { (first + count ≤ most_tracked) × (LEAST ≤ length ws.now) }
-    requires count_bound_2 { at + 1 + place_width * count ≤ farthest }
-    ensures { Marked ws.now first count answer.old at answer.new result }
+    requires count_bound_2 { out.old.at + 1 + place_width * count ≤ farthest }
+    ensures { Marked ws.now first count out.old out.new }
 {
-    let mut to = put(answer, at, count as u32);
-    let mut i = 0;
-    while i < count {
-        let p = tracked(ws, first + i);
-        to = put_place(answer, to, marked(ws, p));
-        i += 1;
+    out.put(count as u32);
+    for i in 0..count {
+        put_place(out, marked(ws, tracked(ws, first + i)));
     }
-    to
 }
 
 // The first `count` places get their marks in the workspace.
@@ -64,11 +59,8 @@ pub fn mark_tracked(ws: &mut [u32], count: usize)
     requires { (count < most_tracked) × (LEAST ≤ length ws.old) }
     ensures { Marks ws.old count ws.new }
 {
-    let mut i = 0;
-    while i < count {
-        let p = tracked(ws, i);
-        let q = marked(ws, p);
-        track(ws, i, q);
-        i += 1;
+    for i in 0..count {
+        let p = marked(ws, tracked(ws, i));
+        track(ws, i, p);
     }
 }

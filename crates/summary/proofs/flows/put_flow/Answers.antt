@@ -1,18 +1,17 @@
-use Rattle.summary.proofs.Flowing.{flow_own, flow_returns, flow_none, flow_some}
+use borrow.Author.Tests.{eq-eqb, ne_eqb}
+use mathlib.Core.Path.{◌∙◌, sym}
+use Rattle.summary.proofs.Flowing.{all_hold, first_fails, later_fails, flow_not, flow_some}
+use Rattle.summary.proofs.flows.put_flow.Goals.{else-ne-via-then-ne+then-ne-2+else-ws-x, else-ne-via-then-ne+else-ne-2, else-ne-via-else-ne}
 use Rattle.summary.proofs.flows.put_flow.Goals as goal
 
-pub returns-then-x-y : goal.returns-then-x-y
-returns-then-x-y c =
-    flow_own _ _ _ _ _ c.requires.identifier_lt_most_identifiers.0 c.if-x-y.true _ _
+pub returns-then-ws-x : goal.returns-then-ws-x
+returns-then-ws-x c =
+    flow_some _ _ _ _ _ c.requires.identifier_lt_most_identifiers.0
+    (all_hold (sym c.ne.ensures ∙ c.if-ne.true) (sym c.ne-then-ne.ensures ∙ c.if-ne-2.true) (eq-eqb _ _ c.if-ws-x.true)) c.flow_kind.ensures c.put_effect.ensures
 
-pub returns-then-x-returns : goal.returns-then-x-returns
-returns-then-x-returns c =
-    flow_returns _ _ _ _ _ c.requires.identifier_lt_most_identifiers.0 c.if-x-y.false c.if-x-returns.true _ _
-
-pub returns-then-ws-k : goal.returns-then-ws-k
-returns-then-ws-k c =
-    flow_some _ _ _ _ _ c.requires.identifier_lt_most_identifiers.0 c.flow_kind.ensures c.if-x-y.false c.if-x-returns.false c.if-ws-k.true c.put_effect.ensures
-
-pub returns : goal.returns
-returns c =
-    flow_none _ _ _ _ _ c.requires.identifier_lt_most_identifiers.0 c.if-x-y.false c.if-x-returns.false c.if-ws-k.false _ _
+pub returns-else-ne : goal.returns-else-ne
+returns-else-ne c = elim c.else-ne.branch [
+  | else-ne-via-then-ne+then-ne-2+else-ws-x w ↦ flow_not _ _ _ _ _ c.requires.identifier_lt_most_identifiers.0 (later_fails _ (later_fails _ (ne_eqb _ _ w.if-ws-x.false))) _
+  | else-ne-via-then-ne+else-ne-2 w ↦ flow_not _ _ _ _ _ c.requires.identifier_lt_most_identifiers.0 (later_fails _ (first_fails (sym w.ne-then-ne.ensures ∙ w.if-ne-2.false) _)) _
+  | else-ne-via-else-ne w ↦ flow_not _ _ _ _ _ c.requires.identifier_lt_most_identifiers.0 (first_fails (sym c.ne.ensures ∙ w.if-ne.false) _) _
+]

@@ -1,25 +1,16 @@
-use Rattle.summary.proofs.Marking.{mark-below}
-use Rattle.workspace.proofs.Places.{is_below}
-use Rattle.summary.proofs.Marking.{marking_start, marking_turn, marking_end}
 use native.Mathlib.Omega.{arith}
+use Rattle.workspace.proofs.Places.{is_below}
+use Rattle.summary.proofs.Marking.{mark-below, marking_turn, marking_end}
 use Rattle.summary.proofs.tracked.mark_tracked.Goals as goal
 
-pub loop-i-init : goal.loop-i-init
-loop-i-init c = (marking_start _, omega arith)
+pub marked-p-requires : goal.marked-p-requires
+marked-p-requires c = (is_below _ _ c.tracked.ensures, omega arith)
 
-pub marked-q-requires : goal.marked-q-requires
-marked-q-requires c = (is_below _ _ c.tracked-p.ensures, omega arith)
-
-pub track-requires : goal.track-requires
-track-requires c =
-    record { i_lt_most_tracked = (omega arith, omega arith); identifier_lt_most_identifiers = mark-below _ _ _ c.marked-q.ensures (is_below _ _ c.tracked-p.ensures) }
+pub track-requires-clause-identifier_lt_most_identifiers : goal.track-requires-clause-identifier_lt_most_identifiers
+track-requires-clause-identifier_lt_most_identifiers c = mark-below _ _ _ c.marked-p.ensures (is_below _ _ c.tracked.ensures)
 
 pub loop-i-preserved : goal.loop-i-preserved
-loop-i-preserved c =
-    (marking_turn c.loop-i.invariant.0 c.tracked-p.ensures c.marked-q.ensures c.track.ensures, omega arith)
-
-pub shape_of-ws : goal.shape_of-ws
-shape_of-ws c = c.loop-i.invariant.0.kept.same
+loop-i-preserved c = marking_turn c.loop-i.invariant c.tracked.ensures c.marked-p.ensures c.track.ensures
 
 pub returns : goal.returns
-returns c = marking_end c.loop-i.invariant.0 _ (omega arith)
+returns c = marking_end c.loop-i.invariant _ (omega arith)
