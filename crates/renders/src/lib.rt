@@ -36,9 +36,9 @@ fn push_origins(ws: &mut [u32], index: u32, place: IdentifierId, top: usize) -> 
         direction: Direction::Backwards,
         kind: MutationKind::Conditional,
     };
-    let a = push_list(ws, 4 * x, index, entry, top);
-    let b = push_list(ws, 4 * x + ALIASES as usize, index, entry, a);
-    push_list(ws, 4 * x + CAPTURES as usize, index, entry, b)
+    let top = push_list(ws, 4 * x, index, entry, top);
+    let top = push_list(ws, 4 * x + ALIASES as usize, index, entry, top);
+    push_list(ws, 4 * x + CAPTURES as usize, index, entry, top)
 }
 
 // Takes the last entry pushed.
