@@ -1,5 +1,5 @@
 -- The bits of the code's values, and what they say.
-use Prim.Native.Nat.{◌<◌}
+use Prim.Native.Nat.{ℕ, zero, suc, ◌<◌}
 use native.Mathlib.Omega.{arith}
 use mathlib.Core.Bool.{Bool, true, false}
 use mathlib.Core.Path.{◌≡◌, refl}
@@ -13,6 +13,8 @@ use Rattle.workspace.specs.Pending.{kind_of}
 use Rattle.hir.specs.declared.MutationKind.{MutationKind}
 use Rattle.hir.specs.declared.MutationKind.TheVariants.{Conditional, Definite}
 use Rattle.hir.specs.declared.MutationReason.{MutationReason}
+use Rattle.hir.specs.declared.MutationReason.TheVariants.{AssignCurrentProperty}
+use Rattle.std.specs.Bool.{then_some}
 use Rattle.hir.specs.Mutations.{kind_says, kind_bit, reason_says, reason_bit}
 use Rattle.aliasing.specs.Says.{bit}
 
@@ -39,6 +41,12 @@ kind_is Definite = refl
 pub reason_is : (o : Option MutationReason) → reason_of (reason_bit o) ≡ reason_says o
 reason_is None = refl
 reason_is (Some r) = refl
+
+-- the reason of a bit
+pub reason_then : (n : ℕ) → n < 2 → reason_says (then_some (eqb n 1) AssignCurrentProperty) ≡ reason_of n
+reason_then zero h = refl
+reason_then (suc zero) h = refl
+reason_then (suc (suc n)) h = absurd (omega arith)
 
 -- a kind as a number
 pub tag_bit : (k : MutationKind) → tag_of the_type k ≡ kind_bit k

@@ -24,20 +24,22 @@ use Rattle.workspace.proofs.Pending.{mutations_next, mutations_end, mutations_ke
 use Rattle.std.specs.Prelude.{Option}
 use Rattle.hir.specs.declared.MutationKind.{MutationKind}
 use Rattle.hir.specs.declared.MutationReason.{MutationReason}
-use Rattle.hir.specs.Mutations.{kind_says, reason_bit}
+use Rattle.hir.specs.declared.MutationReason.TheVariants.{AssignCurrentProperty}
+use Rattle.std.specs.Bool.{then_some}
+use Rattle.hir.specs.Mutations.{kind_says}
 use Rattle.aliasing.specs.declared.Mutation.{Mutation as CodeMutation}
 use Rattle.aliasing.specs.Says.{mode_of, mode_says, mutation_says}
 use Rattle.aliasing.specs.State.{state_of, Handing}
 use Rattle.aliasing.specs.Walks.{index_room, Unmarked, Mutated}
 use Rattle.aliasing.specs.Pending.{Pending, Made, taken_of, Processed}
-use Rattle.aliasing.proofs.Bits.{reason_is}
+use Rattle.aliasing.proofs.Bits.{reason_then}
 use Rattle.aliasing.proofs.Parts.{slice_below, nodes_below, rows_below}
 use Rattle.aliasing.proofs.Hands.{handing_behind}
 use Rattle.aliasing.proofs.Entries.{state_same}
 use Rattle.aliasing.proofs.Begin.{Remarked, remarked, unmarked_handing}
 
 -- ---- one mutation by its words
-pub made : (w order span : ℕ) (errors : Bool) (kind : MutationKind) (reason : Option MutationReason) → w / 4096 < index_room → kind_says kind ≡ kind_of (w / 1024 % 2) → reason_bit reason ≡ w / 2048 % 2
+pub made : (w order span : ℕ) (errors : Bool) (kind : MutationKind) (reason : Option MutationReason) → w / 4096 < index_room → kind_says kind ≡ kind_of (w / 1024 % 2) → reason ≡ then_some (eqb (w / 2048 % 2) 1) AssignCurrentProperty
     → Made w order span errors (record {
       index = w / 4096;
       start = record { 0 = w % 512 };
@@ -53,7 +55,7 @@ made w order span errors kind reason low k r =
     let e : order + 1 ≡ suc order = omega arith in
     let p : order + 1 - 1 ≡ order = omega arith in
     record {
-      is = rw (p, k, sym (reason_is reason), r);
+      is = rw (p, k, r, reason_then (w / 2048 % 2) (omega arith));
       how = ap (λ (n : ℕ). mode_of n errors) e;
       callable = record { start = omega arith; index = low; quiet = λ z. absurd (omega (arith, z)) };
     }

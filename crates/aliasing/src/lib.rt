@@ -6,7 +6,7 @@ ghost use Rattle.model.specs.Limits.{most_identifiers, most_order};
 ghost use Rattle.workspace.specs.Layout.{LEAST, BASE, MUTATIONS, QUEUE, VALUE};
 ghost use Rattle.workspace.specs.Rows.{Indexed};
 ghost use Rattle.writing.specs.Wrote.{Wrote};
-ghost use Rattle.hir.specs.Mutations.{kind_bit, reason_bit};
+ghost use Rattle.hir.specs.Mutations.{kind_bit};
 ghost use Rattle.aliasing.specs.Says.{bit};
 ghost use Rattle.aliasing.specs.State.{Handing, NoneAbove};
 ghost use Rattle.aliasing.specs.Accepts.{enter_w, enters_w, raise_w, record_w, accept_w, function_w, hand_w};
@@ -208,18 +208,6 @@ pub fn mutate(ws: &mut [u32], hand: usize, m: Mutation) -> Taken
     walk(ws, QUEUE + 1, hand, m, base)
 }
 
-// The reason of a bit.
-fn reason_of(bit: u32) -> Option<MutationReason>
-    requires { bit < 2 }
-    ensures { reason_bit result ≡ bit }
-{
-    if bit == 0 {
-        None
-    } else {
-        Some(MutationReason::AssignCurrentProperty)
-    }
-}
-
 // The pending mutation of three words, as `mutate` is called with it.
 fn pending_mutation(w: u32, order: u32, span: u32, errors: bool) -> Mutation
     requires { order ≤ most_order }
@@ -232,7 +220,7 @@ fn pending_mutation(w: u32, order: u32, span: u32, errors: bool) -> Mutation
         transitive: w / 512 % 2 == 1,
         kind: kind_of(w / 1024 % 2),
         span,
-        reason: reason_of(w / 2048 % 2),
+        reason: (w / 2048 % 2 == 1).then_some(MutationReason::AssignCurrentProperty),
         should_record_errors: errors,
     }
 }

@@ -1,4 +1,5 @@
 // What an accepted node pushes onto the walk's queue, which lies in the lent workspace (in the original, inside `mutate`).
+// A word of a node's edges or entries is the other node's identifier + 512 * the relation + 2048 * the index.
 ghost use Rattle.std.specs.Prelude.{◌≡◌, ◌+◌, ◌-◌, ◌*◌, ◌≤◌, ◌<◌, length, get_or};
 ghost use Rattle.std.proofs.Math.Seq.{slice};
 ghost use Rattle.model.specs.Limits.{most_identifiers};
@@ -59,7 +60,7 @@ impl QueueEntry {
 }
 
 // The kind of a bit.
-pub fn kind_of(bit: u32) -> MutationKind
+pub(crate) fn kind_of(bit: u32) -> MutationKind
     ensures { kind_says result ≡ kind_of bit }
 {
     if bit == 0 {
@@ -98,13 +99,13 @@ fn push_forward(
         if w / 2048 >= index {
             break;
         }
-        ws[len] = QueueEntry {
+        let pushed = QueueEntry {
             place: IdentifierId(w % 512),
             direction: Direction::Forwards,
             kind: edge_kind(w, entry.kind),
             ..entry
-        }
-        .pack();
+        };
+        ws[len] = pushed.pack();
         len += 1;
     }
     len
@@ -128,12 +129,12 @@ fn push_entries(
         if w / 2048 >= index {
             continue;
         }
-        ws[len] = QueueEntry {
+        let pushed = QueueEntry {
             place: IdentifierId(w % 512),
             direction: Direction::Backwards,
             ..entry
-        }
-        .pack();
+        };
+        ws[len] = pushed.pack();
         len += 1;
     }
     len
@@ -189,12 +190,12 @@ fn push_aliases(ws: &mut [u32], index: u32, entry: QueueEntry, top: usize) -> us
     if blocked(ws[VALUE + x], entry.direction) {
         return top;
     }
-    let t = push_list(ws, 4 * x + ALIASES as usize, index, entry, top);
+    let top = push_list(ws, 4 * x + ALIASES as usize, index, entry, top);
     let maybe = QueueEntry {
         kind: MutationKind::Conditional,
         ..entry
     };
-    push_list(ws, 4 * x + MAYBE as usize, index, maybe, t)
+    push_list(ws, 4 * x + MAYBE as usize, index, maybe, top)
 }
 
 // Only transitive mutations affect captures backward.
@@ -221,8 +222,8 @@ pub fn push_all(ws: &mut [u32], index: u32, entry: QueueEntry, top: usize) -> us
         transitive: true,
         ..entry
     };
-    let a = push_edges(ws, index, entry, top);
-    let b = push_list(ws, 4 * x, index, created, a);
-    let d = push_aliases(ws, index, entry, b);
-    push_captures(ws, index, entry, d)
+    let top = push_edges(ws, index, entry, top);
+    let top = push_list(ws, 4 * x, index, created, top);
+    let top = push_aliases(ws, index, entry, top);
+    push_captures(ws, index, entry, top)
 }

@@ -75,9 +75,6 @@ module _ (ws : List ℕ) (top x index : ℕ) (room : Room ws top (deg (rows_of w
   is : deg (rows_of ws) x ≡ (words_f (rows_of ws) x + words_b (rows_of ws) (4 * x)) + ((words_b (rows_of ws) (4 * x + 1) + words_b (rows_of ws) (4 * x + 2)) + words_b (rows_of ws) (4 * x + 3))
   is = deg_is (rows_of ws) x room.good h
 
-  pub room_created : Room ws top (words_b (rows_of ws) (4 * x))
-  room_created = room_less _ _ (omega (arith, is)) room
-
   module _ (ws₁ : List ℕ) (t₁ : ℕ) (p₁ : Wrote (entries_w index 0 0 (row_b (rows_of ws) (4 * x))) ws top ws₁ t₁) where
     pub room_aliases : Room ws₁ t₁ (words_b (rows_of ws₁) (4 * x + 1))
     room_aliases =

@@ -9,9 +9,9 @@ ghost use Rattle.aliasing.specs.Pushes.{Room, deg};
 ghost use Rattle.writing.specs.Wrote.{Wrote};
 ghost use Rattle.renders.specs.Renders.{passes_w, origins_w, Ready, Stepped, Walked, Rendered};
 
-use aliasing::pushes::push_list;
+use aliasing::pushes::{Direction, QueueEntry, push_list};
 use aliasing::{StepLeft, Taken, hand_over_function};
-use hir::IdentifierId;
+use hir::{IdentifierId, MutationKind};
 use workspace::{
     ALIASES, CAPTURES, HANDED, IDENTIFIERS, MISSING, QUEUE, RECORD, SEEN, VALUE, clear,
 };
@@ -20,21 +20,25 @@ use workspace::{
 fn passes_by(v: u32, w: u32) -> bool
     ensures { result ≡ passes_w v w }
 {
-    if v == MISSING {
-        return true;
-    }
-    w % 16 != 0
+    v == MISSING || w % 16 != 0
 }
 
-// Created-from, aliases and captures of node x.
-fn push_origins(ws: &mut [u32], x: usize, index: u32, top: usize) -> usize
-    requires room { Room ws.old top (deg (rows_of ws.old) x) }
-    requires x_lt_most_identifiers { x < most_identifiers }
-    ensures { Wrote (origins_w (rows_of ws.old) x index) ws.old top ws.new result }
+// Created-from, aliases and captures of the node of a place. An entry of this walk says no more than its place.
+fn push_origins(ws: &mut [u32], index: u32, place: IdentifierId, top: usize) -> usize
+    requires room { Room ws.old top (deg (rows_of ws.old) place.0) }
+    requires place_lt_most_identifiers { place.0 < most_identifiers }
+    ensures { Wrote (origins_w (rows_of ws.old) place.0 index) ws.old top ws.new result }
 {
-    let a = push_list(ws, 4 * x, index, 0, 0, top);
-    let b = push_list(ws, 4 * x + ALIASES as usize, index, 0, 0, a);
-    push_list(ws, 4 * x + CAPTURES as usize, index, 0, 0, b)
+    let x = place.0 as usize;
+    let entry = QueueEntry {
+        place,
+        transitive: false,
+        direction: Direction::Backwards,
+        kind: MutationKind::Conditional,
+    };
+    let top = push_list(ws, 4 * x, index, entry, top);
+    let top = push_list(ws, 4 * x + ALIASES as usize, index, entry, top);
+    push_list(ws, 4 * x + CAPTURES as usize, index, entry, top)
 }
 
 // Takes the last entry pushed.
@@ -43,38 +47,34 @@ fn step(ws: &mut [u32], top: usize, hand: usize, index: u32) -> StepLeft
     requires lt_top { QUEUE < top }
     ensures { Stepped index ws.old top hand ws.new result.top result.hand }
 {
-    let t = top - 1;
-    let x = (ws[t] % 512) as usize;
-    if 0 < ws[SEEN + x] {
-        return StepLeft { top: t, hand: hand };
+    let top = top - 1;
+    let place = IdentifierId(ws[top] % 512);
+    let x = place.0 as usize;
+    if ws[SEEN + x] != 0 {
+        return StepLeft { top, hand };
     }
     ws[SEEN + x] = 1;
     if passes_by(ws[VALUE + x], ws[RECORD + x]) {
-        return StepLeft { top: t, hand: hand };
+        return StepLeft { top, hand };
     }
-    let h = hand_over_function(ws, x, hand);
-    let r = push_origins(ws, x, index, t);
-    StepLeft { top: r, hand: h }
+    let hand = hand_over_function(ws, x, hand);
+    let top = push_origins(ws, index, place, top);
+    StepLeft { top, hand }
 }
 
 // Takes entries until none is left.
-fn walk(ws: &mut [u32], index: u32, top: usize, hand: usize) -> Taken
+fn walk(ws: &mut [u32], index: u32, mut top: usize, mut hand: usize) -> Taken
     requires { Ready ws.old top hand }
     ensures { Walked index ws.old top hand ws.new result.count result.hand }
 {
-    let mut t = top;
-    let mut h = hand;
-    let mut taken: u32 = 0;
-    while QUEUE < t {
-        let r = step(ws, t, h, index);
-        t = r.top;
-        h = r.hand;
-        taken += 1;
+    let mut count: u32 = 0;
+    while QUEUE < top {
+        let left = step(ws, top, hand, index);
+        top = left.top;
+        hand = left.hand;
+        count += 1;
     }
-    Taken {
-        count: taken,
-        hand: h,
-    }
+    Taken { count, hand }
 }
 
 // The render walk from `start`: the entries taken, and where the functions handed over end.

@@ -1,22 +1,16 @@
-use mathlib.Core.Path.{◌∙◌, ap}
-use mathlib.Core.Bool.{not}
-use lib.ListN.{length-set}
-use lib.Seq.{get_or-set_other}
-use lib.Dec.{eqb}
-use native.Mathlib.Omega.{arith}
 use Prim.Native.Nat.{ℕ, ◌+◌}
+use native.Mathlib.Omega.{arith}
+use mathlib.Core.Bool.{not}
+use mathlib.Core.Path.{ap, ◌∙◌}
+use lib.Dec.{eqb}
+use lib.Seq.{get_or-set_other}
 use Rattle.workspace.specs.Graph.{MISSING}
 use Rattle.workspace.specs.Layout.{SEEN, VALUE}
 use Rattle.aliasing.proofs.Enters.{enters_seen, enters_marked}
-use mathlib.Core.Bool.{not}
 use Rattle.aliasing.proofs.enter.Goals as goal
 
 pub returns-then-level-ws : goal.returns-then-level-ws
-returns-then-level-ws c =
-    enters_seen c.args.ws.now c.args.x c.args.level c.if-level-ws.true
-
-pub bounds-ws-x-3 : goal.bounds-ws-x-3
-bounds-ws-x-3 c = simp length-set (omega arith)
+returns-then-level-ws c = enters_seen _ _ _ c.if-level-ws.true
 
 pub returns : goal.returns
 returns c =

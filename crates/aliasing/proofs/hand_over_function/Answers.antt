@@ -1,7 +1,7 @@
-use Rattle.writing.proofs.Writing.{wrote_none}
-use Rattle.aliasing.specs.Accepts.{function_w}
 use mathlib.Core.Path.{refl}
 use borrow.Author.Tests.{lt-ltb, le-ltb}
+use Rattle.writing.proofs.Writing.{wrote_none}
+use Rattle.aliasing.specs.Accepts.{function_w}
 use Rattle.aliasing.proofs.hand_over_function.Goals as goal
 
 pub returns-then-v-lt-FUNCTION : goal.returns-then-v-lt-FUNCTION

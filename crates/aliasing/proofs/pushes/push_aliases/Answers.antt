@@ -20,11 +20,11 @@ pub push_list-requires-clause-room : goal.push_list-requires-clause-room
 push_list-requires-clause-room c =
     let e = c.args.entry in
     let g = rows_of c.args.ws.now in
-    room_then (λ g. words_b g (4 * e.place.0 + MAYBE)) (words_b g (4 * e.place.0 + ALIASES)) c.requires.room c.push_list-t.ensures
+    room_then (λ g. words_b g (4 * e.place.0 + MAYBE)) (words_b g (4 * e.place.0 + ALIASES)) c.requires.room c.push_list-top.ensures
     (list_le g (rows_length c.args.ws.now c.requires.room.size) c.requires.room.good c.args.index (bit e.transitive) (kind_bit e.kind) (4 * e.place.0 + ALIASES) (omega (arith, c.requires)))
 
 pub returns : goal.returns
 returns c =
     let e = c.args.entry in
-    wrote_as (pushed_on (λ g. entries_w c.args.index (bit e.transitive) 0 (row_b g (4 * e.place.0 + MAYBE))) c.requires.room.low c.push_list-t.ensures c.push_list.ensures)
+    wrote_as (pushed_on (λ g. entries_w c.args.index (bit e.transitive) 0 (row_b g (4 * e.place.0 + MAYBE))) c.requires.room.low c.push_list-top.ensures c.push_list.ensures)
     (aliases_open c.args.ws.now c.requires.room.size e.place.0 (direction_bit e.direction) c.args.index (bit e.transitive) (kind_bit e.kind) c.requires.place_lt_most_identifiers c.blocked.ensures c.if-blocked.false)
