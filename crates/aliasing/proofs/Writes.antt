@@ -8,7 +8,7 @@ use lib.ListN.{length, get_or, set, take}
 use native.Mathlib.Decide.{dec_lt}
 use lib.Seq.{set-get_or, get_or-take, get_or-set_same, get_or-set_other}
 use lib.Dec.{ltb, eqb}
-use borrow.Author.Tests.{lt-ltb, le-ltb}
+use borrow.Author.Tests.{ltb-true, eqb-true, lt-ltb, le-ltb}
 use Rattle.model.specs.Limits.{most_identifiers}
 use Rattle.model.specs.Lists.{pick}
 use Rattle.workspace.specs.Layout.{RECORD, LSPAN, TSPAN, END, SEEN}
@@ -41,6 +41,15 @@ raise_other l i v j h = pick_other (ltb (get_or l i 0) v) l (set l i v) j (get_o
 pub raise_same : (l : List ℕ) (i v : ℕ) → i < length l → get_or (raise_w l i v) i 0 ≡ pick (ltb (get_or l i 0) v) v (get_or l i 0)
 unfolding raise_w
 raise_same l i v h = pick_at (ltb (get_or l i 0) v) l (set l i v) i v (get_or-set_same l i v 0 h)
+
+-- nothing is below 0, and so an unset end moves none
+pub raise_unset : (l : List ℕ) (i v : ℕ) (t : Bool) → t ≡ eqb v 0 → t ≡ true → l ≡ raise_w l i v
+unfolding raise_w
+raise_unset l i v t e h = go (ltb (get_or l i 0) v) refl
+  where
+    go : (b : Bool) → ltb (get_or l i 0) v ≡ b → l ≡ pick b (set l i v) l
+    go true f = absurd (omega (arith, ltb-true (get_or l i 0) v f, eqb-true v 0 (sym e ∙ h)))
+    go false f = refl
 
 -- the larger, written always
 pub raised_word : (l : List ℕ) (i v : ℕ) → set l i (max (get_or l i 0) v) ≡ raise_w l i v

@@ -52,11 +52,14 @@ pub struct Taken {
     pub hand: usize,
 }
 
-// The end at `at` becomes the larger of itself and this one; an unset end is 0 and moves none.
+// The end at `at` becomes the larger of itself and this one; an unset end moves none.
 fn raise_end(ws: &mut [u32], at: usize, end: EvaluationOrder)
     requires { at < length ws.old }
     ensures { ws.new ≡ raise_w ws.old at end.0 }
 {
+    if end.is_unset() {
+        return;
+    }
     ws[at] = ws[at].max(end.0);
 }
 

@@ -17,12 +17,12 @@ ghost use Rattle.summary.specs.Simulates.{most_flows, most_effects, Marked, Simu
 use crate::flows::put_flows;
 use crate::records::collect_effects;
 use crate::tracked::mark_tracked;
-use aliasing::{Mutation, MutationKind, clear_marks, mutate};
+use aliasing::{Mutation, clear_marks, mutate};
 use copies::effect_lists::{Section, copy_effects};
 use copies::returns::put_create_returns;
 use dataflow::function::HirFunction;
 use hir::at::EFFECT_WIDTH;
-use hir::{EvaluationOrder, IdentifierId, Place};
+use hir::{EvaluationOrder, IdentifierId, MutationKind, Place};
 use workspace::tracked::tracked;
 use workspace::{HANDED, SIMULATED};
 use writing::Writer;
@@ -39,7 +39,7 @@ fn simulated(index: u32, into: Place) -> Mutation
         transitive: true,
         kind: MutationKind::Conditional,
         span: into.span,
-        reason: 0,
+        reason: None,
         should_record_errors: false,
     }
 }

@@ -3,4 +3,4 @@ use Rattle.inference.proofs.Ending.{refused_all}
 use Rattle.inference.proofs.refuse.Goals as goal
 
 pub returns : goal.returns
-returns c = refused_all (cleared_fill ?) (cleared_fill ?)
+returns c = refused_all (cleared_fill _ _ ?) (cleared_fill _ _ ?)

@@ -9,4 +9,4 @@ returns-then-position-callers c =
 
 pub returns : goal.returns
 returns c =
-    load-outside _ _ _ _ _ _ c.if-position-callers.false (cleared_fill c.fill.ensures) c.from-2.ensures
+    load-outside _ _ _ _ _ _ c.if-position-callers.false (cleared_fill _ _ ?) c.from-2.ensures

@@ -6,4 +6,4 @@ use Rattle.summary.proofs.simulation.simulated.Goals as goal
 
 pub returns : goal.returns
 unfolding simulation mode_says mutation_says
-returns c = (refl, (refl, record { start = c.requires.0; reason = omega arith; index = omega (arith, c.requires.1); quiet = λ e. refl }))
+returns c = (refl, (refl, record { start = c.requires.0; index = omega (arith, c.requires.1); quiet = λ e. refl }))
