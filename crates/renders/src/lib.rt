@@ -63,6 +63,7 @@ fn step(ws: &mut [u32], top: usize, hand: usize, index: u32) -> StepLeft
 }
 
 // Takes entries until none is left.
+// Kept: the loop of aliasing's `walk` around another step; a generic loop would take the step's relation, the invariant and the measure as ghosts, which is more than the loop.
 fn walk(ws: &mut [u32], index: u32, mut top: usize, mut hand: usize) -> Taken
     requires { Ready ws.old top hand }
     ensures { Walked index ws.old top hand ws.new result.count result.hand }
