@@ -21,14 +21,6 @@ use Rattle.reading.specs.Whole.{length_of, skip, passing_numbered, uses, judged_
 use Rattle.reading.proofs.JudgeLaws.{result_case, judge_got, judge_refused, got_judged, refused_judged, then_got, then_refused, then_made, each_keeps, counted_keeps, numbered_keeps}
 use Rattle.reading.proofs.TallyLaws.{standing_within, asked_on, asked_off}
 
--- a search: what is found or stands from here on, one number later
-pub listed_next : (x : ℕ) (l : List ℕ) (i : ℕ) (found : Bool) → i < length l → found || among x (drop i l) ≡ eqb x (get_or l i 0) || found || among x (drop (i + 1) l)
-listed_next x l i found h = rw (drop-cons l i 0 h, add-one, or_comm (eqb x (get_or l i 0)) found, or_assoc)
-
--- and at the end nothing stands any more
-pub listed_end : (x : ℕ) (l : List ℕ) (i : ℕ) (found : Bool) → i ≡ length l → found || among x (drop i l) ≡ found
-listed_end x l i found e = rw (e, drop-length l, or-false found)
-
 -- a section of phis, and one of instructions
 abbrev phis : ℕ → Tally → Read (List Phi)
 phis n = counted_from most_count (asking.phi counting n) (tell_phi counting)
@@ -148,21 +140,6 @@ unfolding telling tell_block
 block-told n m x t u v ws c ps is g k = rw (g, k)
 
 module _ (n m : ℕ) (t : Tally) (ws : List ℕ) (c : Position) where
-  -- the effects of an instruction: the word is the count of an absent list
-  pub absent_judged : (w : ℕ) (d : Position) → word ws c ≡ got w d → eqb w absent_count ≡ true → instruction_effects n m t ws c ≡ got t d
-  unfolding optional telling
-  absent_judged w d e h = rw (e, h) (rw e)
-
-  -- it counts
-  pub present-judged : (w : ℕ) (d : Position) → word ws c ≡ got w d → eqb w absent_count ≡ false → instruction_effects n m t ws c ≡ judge (effects counting false n m) (each (tell_effect counting false)) t ws c
-  unfolding optional telling
-  present-judged w d e h = result_case (effects counting false n m t ws c) (λ l i f. rw (e, h, f)) (λ k f. rw (e, h, f))
-
-  -- it is not there
-  pub missing_judged : (k : ℕ) → word ws c ≡ refused k → instruction_effects n m t ws c ≡ refused k
-  unfolding optional telling effects counted_from count
-  missing_judged k e = rw e (rw e)
-
   -- an instruction: of its words before the effects nothing goes on
   pub instruction-judged : judge (instruction counting n m) (tell_instruction counting) t ws c ≡ judged_instruction n m t ws c
   unfolding instruction judged_instruction uses length_of telling

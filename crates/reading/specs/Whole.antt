@@ -82,7 +82,7 @@ diagnoses s = tally (λ (b : Block). with_role is_diagnosis b.instructions) s.bl
 
 -- what is told of an accepted sheet: its totals, whether there is a diagnosis, and whether refusal 10 applies
 unfoldable pub told : Sheet → Told
-told s = record { mutations = (totals s).mutations; renders = (totals s).renders; diagnoses = one_if (ltb 0 (diagnoses s)); applies = one_if (applies s) }
+told s = record { mutations = (totals s).mutations; renders = (totals s).renders; diagnoses = ltb 0 (diagnoses s); applies = applies s }
 
 -- what is said of a sheet: a refusal's number, or what is told of it
 pub data Judgement : Type 0 where
