@@ -1,22 +1,19 @@
 -- The parts of a block, judged: what is left to read once the words so far were read.
-use Prim.Native.Nat.{ℕ, ◌+◌, ◌<◌}
-use native.Mathlib.Numerals.{add-one}
+use Prim.Native.Nat.{ℕ}
 use mathlib.Core.Path.{◌≡◌, ◌∙◌, refl, sym, ap}
-use mathlib.Core.Bool.{Bool, true, false, ◌||◌, or-false, or_assoc, or_comm}
+use mathlib.Core.Bool.{Bool, true, false}
 use mathlib.Core.List.{List, []}
-use lib.ListN.{length, drop, get_or}
-use lib.Seq.{drop-length, drop-cons}
-use lib.Dec.{eqb}
-use Rattle.model.specs.Limits.{most_count, most_kind, most_order, most_lvalues, most_operands, no_operands, most_terminal, most_blocks, absent_count}
-use Rattle.model.specs.Lists.{each, among}
+use lib.ListN.{length}
+use Rattle.model.specs.Limits.{most_count, most_kind, most_order, most_lvalues, most_operands, no_operands, most_terminal, most_blocks}
+use Rattle.model.specs.Lists.{each}
 use Rattle.model.specs.Sheet.{Place, EffectKind, Effect, Phi, Instruction, Terminal, BlockId}
-use Rattle.model.specs.Reading.{Position, got, refused, ◌>>=◌, pure, Read, count, fixed, word, at_most, numbered, counted, optional, numbered_from, counted_from}
+use Rattle.model.specs.Reading.{Position, got, refused, ◌>>=◌, pure, Read, count, fixed, at_most, numbered, counted, optional, numbered_from, counted_from}
 use Rattle.model.specs.Sections.{place, effect_after, operand, phi, instruction_value}
 use Rattle.model.specs.Effects.{kind_of}
 use Rattle.model.proofs.SheetAhead.{after_kind}
 use Rattle.model.specs.Asking as asking
 use Rattle.model.specs.Asking.{effect, effects, instruction, terminal_of, terminal, block, tell_effect, tell_operand, tell_phi, tell_instruction, tell_terminal, tell_block}
-use Rattle.reading.specs.Judging.{Told, telling, judge, tell_kind, over_told, Tally, within, standing, count_kind, ask_tally, counting, instruction_effects, terminal_effects, blocks_of}
+use Rattle.reading.specs.Judging.{Told, telling, judge, tell_kind, over_told, Tally, within, standing, count_kind, ask_tally, counting, terminal_effects, blocks_of}
 use Rattle.reading.specs.Whole.{length_of, skip, passing_numbered, uses, judged_instruction}
 use Rattle.reading.proofs.JudgeLaws.{result_case, judge_got, judge_refused, got_judged, refused_judged, then_got, then_refused, then_made, each_keeps, counted_keeps, numbered_keeps}
 use Rattle.reading.proofs.TallyLaws.{standing_within, asked_on, asked_off}

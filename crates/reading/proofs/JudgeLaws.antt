@@ -1,12 +1,8 @@
 -- Laws of judging: a part, parts in sequence, a part k times over, and k times over with numbers; and parts that count nothing.
 use Rattle.std.specs.Prelude.{Result as Code, Ok, Err, MatchResult, IsErrAnd}
-use Rattle.hir.specs.Says.{says}
-use Rattle.hir.specs.declared.Cursor.{Cursor}
 use Prim.Native.Nat.{ℕ, zero, suc, ◌+◌, ◌≤◌, ◌<◌}
-use native.Mathlib.Nat.{not-suc-le-zero, le_of_suc-le-suc}
-use native.Mathlib.Numerals.{sub-one}
 use native.Mathlib.Omega.{arith}
-use mathlib.Core.Path.{◌≡◌, ◌∙◌, refl, sym, ap, subst}
+use mathlib.Core.Path.{◌≡◌, ◌∙◌, refl, sym, ap}
 use mathlib.Core.Bool.{Bool, true, false, or-false, or_comm}
 use mathlib.Core.List.{List, [], ◌∷◌}
 use lib.ListN.{length, take, set}
@@ -23,7 +19,6 @@ use Rattle.model.specs.Reading.{Position, Result, got, refused, Read, and_then, 
 use Rattle.model.proofs.Everywhere.{every_mem}
 use Rattle.hir.specs.Refusals.{refusal_number}
 use Rattle.hir.specs.declared.refusal.Refusal.{Refusal}
-use Rattle.reading.specs.Says.{cursor_says}
 use Rattle.reading.specs.Parts.{Times}
 use Rattle.reading.specs.Judging.{map_result, telling, judge}
 
@@ -236,10 +231,7 @@ module _ {A T : Type 0} (tell : A → T → T) (t : T) (keeps : (a : A) → tell
       (λ n x. rw x)
 
 -- ---- what a `?` hands over
-pub exits : {T A : Type 0} (f : T → A) (r : Code (T × Cursor) Refusal) (e : Refusal) {x : Result A} → IsErrAnd r (λ (y : Refusal). y ≡ e) → x ≡ refused (refusal_number e) → says f r ≡ x
-exits f (Ok p) e h q = absurd h
-exits f (Err y) e h q = ap (λ (k : Refusal). refused (refusal_number k)) h ∙ sym q
-
-pub passing_exits : (r : Code Cursor Refusal) (e : Refusal) {x : Result (Unit {0})} → IsErrAnd r (λ (y : Refusal). y ≡ e) → x ≡ refused (refusal_number e) → cursor_says r ≡ x
-passing_exits (Ok c) e h q = absurd h
-passing_exits (Err y) e h q = ap (λ (k : Refusal). refused (refusal_number k)) h ∙ sym q
+pub exits : {P A : Type 0} (said : Code P Refusal → Result A) → ((k : Refusal) → said (Err k) ≡ refused (refusal_number k)) → (r : Code P Refusal) (e : Refusal) {x : Result A} →
+    IsErrAnd r (λ (y : Refusal). y ≡ e) → x ≡ refused (refusal_number e) → said r ≡ x
+exits said err (Ok p) e h q = absurd h
+exits said err (Err y) e h q = err y ∙ ap (λ (k : Refusal). refused (refusal_number k)) h ∙ sym q

@@ -1,5 +1,5 @@
 -- A search among the predecessors' numbers, over the words of each operand in turn.
-use Rattle.std.specs.Prelude.{IfSome, IsSomeAnd, MatchBool, Option, Some, None, IsTrue, slice_index_or, slice_range}
+use Rattle.std.specs.Prelude.{IfSome, IsSomeAnd, MatchBool, Option, Some, None, slice_range}
 use Rattle.std.specs.Option.{option_map}
 use Rattle.std.specs.List.{IsSubsliceAt}
 use Rattle.std.proofs.lemmas.List.{get_or-take, get_or-drop, length-take, length-drop}
@@ -9,7 +9,7 @@ use native.Mathlib.Omega.{arith}
 use mathlib.Core.Path.{◌≡◌, ◌∙◌, refl, sym, ap}
 use mathlib.Core.Bool.{Bool, true, false, ◌||◌}
 use mathlib.Core.List.{List}
-use lib.ListN.{length, get_or, take, drop}
+use lib.ListN.{length, get_or, drop}
 use lib.Dec.{eqb, ltb}
 use borrow.Author.Tests.{eq-eqb, ne_eqb, ltb-true, ltb-false}
 use Rattle.model.specs.Lists.{among}

@@ -3,10 +3,8 @@ use Prim.Native.Nat.{ℕ, zero, suc}
 use mathlib.Core.Path.{◌≡◌, ◌∙◌, refl, sym}
 use mathlib.Core.List.{List, ◌∷◌}
 use lib.ListN.{length}
-use Rattle.model.specs.Limits.{most_inner_diagnostics, most_inner_context}
 use Rattle.model.specs.Lists.{each}
-use Rattle.model.specs.Reading.{Position, Result, got, refused, and_then, Read, ◌>>=◌, pure, count, times, counted, times_from}
-use Rattle.model.specs.Sections.{diagnostic, inner_function, place}
+use Rattle.model.specs.Reading.{Position, Result, got, refused, and_then, Read, count, times, counted, times_from}
 use Rattle.model.proofs.ReadLaws.{times_length}
 use Rattle.reading.specs.Judging.{map_result, telling}
 use Rattle.reading.proofs.JudgeLaws.{result_case, got_judged, refused_judged, times_keeps}

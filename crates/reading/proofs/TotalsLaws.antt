@@ -1,5 +1,5 @@
 -- The running totals are document 01's mutations and renders, each stopped one above its limit, and whether there is a diagnosis or an Apply; so without refusal 8 both are one.
-use Prim.Native.Nat.{ℕ, zero, suc, ◌+◌, ◌≤◌, ◌<◌}
+use Prim.Native.Nat.{ℕ, ◌+◌, ◌≤◌, ◌<◌}
 use native.Mathlib.Omega.{arith}
 use mathlib.Core.Path.{◌≡◌, ◌∙◌, refl, sym, ap}
 use mathlib.Core.Bool.{Bool, true, false}
@@ -12,7 +12,7 @@ use Rattle.model.specs.Effects.{Role, relation, mutation, render, diagnosis, not
 use Rattle.model.specs.Totals.{Totals, with_role, totals, over}
 use Rattle.model.specs.Asking.{tell_effect, tell_phi, tell_instruction, tell_terminal, tell_block}
 use Rattle.model.proofs.Limited.{not-over, over_limit}
-use Rattle.reading.specs.Judging.{bump, mutation_stop, render_stop, Told, with_mutation, with_render, with_diagnosis, with_apply, tell_role, tell_kind, no_totals, over_told, Tally, within, standing, nothing_yet, count_kind, counting}
+use Rattle.reading.specs.Judging.{bump, mutation_stop, render_stop, Told, with_mutation, with_render, with_diagnosis, with_apply, tell_role, tell_kind, over_told, Tally, within, standing, nothing_yet, count_kind, counting}
 use Rattle.reading.specs.Whole.{tell_sheet, diagnoses, told}
 use Rattle.reading.proofs.JudgeLaws.{each_keeps}
 use Rattle.reading.proofs.TallyLaws.{standing_within, standing_passed}

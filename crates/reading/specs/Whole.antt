@@ -1,7 +1,7 @@
 -- A whole sheet judged: the heading, the lists of places, an instruction, the blocks; and the verdict.
 use Rattle.std.specs.Prelude.{ℕ, List, length, ltb}
 use Rattle.model.specs.Limits.{most_identifiers, most_functions, most_params, most_context, returns_count, most_order, most_lvalues, most_operands}
-use Rattle.model.specs.Lists.{each, tally, one_if}
+use Rattle.model.specs.Lists.{each, tally}
 use Rattle.model.specs.Sheet.{Place, BlockId, Block, Sheet}
 use Rattle.model.specs.Effects.{is_diagnosis}
 use Rattle.model.specs.Reading.{Result, got, refused, Read, ◌>>=◌, pure, fixed, at_most, counted, times_from, numbered_from}

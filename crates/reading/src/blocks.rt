@@ -48,7 +48,11 @@ fn effects(c: Cursor, s: &[u32], h: Heading, terminal: bool, totals: Totals) -> 
     ensures { totals_says result ≡ judge (effects counting terminal h.identifiers h.functions) (each (tell_effect counting terminal)) (so_far totals) s.now c.at }
 {
     let (count, c) = c.count(s, MOST_COUNT)?;
-    times(count, (totals, c), |(totals, c)| effect(c, s, h, terminal, totals))
+    times(
+        count,
+        (totals, c),
+        |(totals, c)| effect(c, s, h, terminal, totals),
+    )
 }
 
 // An instruction's effects, of which the list may be absent.
@@ -89,7 +93,11 @@ fn instructions(c: Cursor, s: &[u32], h: Heading, totals: Totals) -> Step<Totals
     ensures { totals_says result ≡ judge (counted_from most_count (instruction counting h.identifiers h.functions) (tell_instruction counting)) (each (tell_instruction counting)) (so_far totals) s.now c.at }
 {
     let (count, c) = c.count(s, MOST_COUNT)?;
-    times(count, (totals, c), |(totals, c)| instruction(c, s, h, totals))
+    times(
+        count,
+        (totals, c),
+        |(totals, c)| instruction(c, s, h, totals),
+    )
 }
 
 // The effects of a Return or a MaybeThrow, and the count of its operands, which is 0.
@@ -110,8 +118,8 @@ fn terminal(c: Cursor, s: &[u32], h: Heading, totals: Totals) -> Step<Totals>
     let (_, c) = c.order(s)?;
     match kind {
         TerminalKind::Other => {
-            let (_, c) = places(c, s, h.identifiers, MOST_OPERANDS)?;
-            Ok((totals, c))
+            let (_, end) = places(c, s, h.identifiers, MOST_OPERANDS)?;
+            Ok((totals, end))
         }
         TerminalKind::Return => {
             let (_, c) = c.place(s, h.identifiers)?;

@@ -18,7 +18,12 @@ use hir::refusal::Refusal;
 use hir::{Cursor, Step};
 
 // A count, at most `most`, and the parts: how many there are.
-fn section<F: Fn(Cursor) -> Result<Cursor, Refusal>>(start: Cursor, s: &[u32], most: u32, part: F) -> Step<u32>
+fn section<F: Fn(Cursor) -> Result<Cursor, Refusal>>(
+    start: Cursor,
+    s: &[u32],
+    most: u32,
+    part: F,
+) -> Step<u32>
     requires { F.IsAlwaysCallable part }
     ensures { (f : Read (Unit {0})) → IsPart (F.post part) f s.now → word_says result ≡ length_of (counted most f) s.now start.at }
 {

@@ -1,16 +1,16 @@
-use Rattle.std.proofs.Common.{◌≡◌, ℕ, suc, ◌+◌, ◌-◌, ◌≤◌, length, length-set, take, reverse, false, refl, sym, ◌∙◌, arith}
+use Rattle.std.proofs.Common.{◌≡◌, ℕ, suc, ◌-◌, ◌≤◌, length, length-set, take, reverse, false, refl, sym, ◌∙◌, arith}
 use Rattle.model.specs.Limits.{most_blocks, most_block_number}
 use Rattle.model.specs.Lists.{among}
 use Rattle.model.proofs.ReadLaws.{count_reads, at_most_reads}
 use Rattle.reading.specs.Judging.{nothing_yet}
-use Rattle.reading.specs.TotalsSays.{so_far}
+use Rattle.reading.specs.TotalsSays.{so_far, totals_says}
 use Rattle.reading.proofs.BlockLaws.{blocks_got, blocks_refused}
 use Rattle.reading.proofs.JudgeLaws.{numbered_next, numbered_refused, numbered_stop, numbered_done, new_got, new_used, new_refused, used_as, latest-stored, stored-any, none_above, below_more, exits}
 use Rattle.reading.proofs.blocks.blocks.Goals.{else-number-above-via-then-number-above+else-contains, else-number-above-via-else-number-above}
 use Rattle.reading.proofs.blocks.blocks.Goals as goal
 
 pub returns-in_err-count : goal.returns-in_err-count
-returns-in_err-count c = exits so_far _ _ c.from_residual.ensures.1 (blocks_refused _ _ _ _ _ _ (sym c.in_err-count.ensures))
+returns-in_err-count c = exits totals_says (λ k. refl) _ _ c.from_residual.ensures.1 (blocks_refused _ _ _ _ _ _ (sym c.in_err-count.ensures))
 
 pub loop-k-init : goal.loop-k-init
 loop-k-init c =
@@ -24,7 +24,7 @@ loop-k-init c =
 
 pub returns-in_err-number : goal.returns-in_err-number
 returns-in_err-number c =
-    exits so_far _ _ c.from_residual-in_err-number.ensures.1
+    exits totals_says (λ k. refl) _ _ c.from_residual-in_err-number.ensures.1
     (blocks_got _ _ _ _ _ _ _ (sym c.in_ok-count.ensures)
     ∙ c.loop-k.invariant.told (suc (c.in_ok-count.count - c.loop-k.k - 1)) (omega arith)
     ∙ numbered_refused _ _ _ _ _ _ _ _ (new_refused _ _ _ _ (sym c.in_err-number.ensures)))
@@ -48,11 +48,11 @@ returns-in_err-totals c =
     let l = c.loop-k in
     let x : ℕ = c.in_ok-number.field-0-0.0 in
     let fresh : among x (reverse (take l.k l.used)) ≡ false =
-        elim c.else-number-above.branch [
-          else-number-above-via-then-number-above+else-contains w ↦ sym (stored-any x (take l.k l.used)) ∙ sym w.contains.ensures.value ∙ w.if-contains.false
-        | else-number-above-via-else-number-above w ↦ sym (none_above x l.above _ w.if-number-above.false l.invariant.below)
-        ] in
-    exits so_far _ _ c.from_residual-in_err-totals.ensures.1
+    elim c.else-number-above.branch [
+      | else-number-above-via-then-number-above+else-contains w ↦ sym (stored-any x (take l.k l.used)) ∙ sym w.contains.ensures.value ∙ w.if-contains.false
+      | else-number-above-via-else-number-above w ↦ sym (none_above x l.above _ w.if-number-above.false l.invariant.below)
+    ] in
+    exits totals_says (λ k. refl) _ _ c.from_residual-in_err-totals.ensures.1
     (blocks_got _ _ _ _ _ _ _ (sym c.in_ok-count.ensures)
     ∙ l.invariant.told (suc (c.in_ok-count.count - l.k - 1)) (omega arith)
     ∙ numbered_stop _ _ _ _ _ _ _ _ _ _ (new_got _ _ _ _ _ (sym c.in_ok-number.ensures) fresh) (sym (c.in_err-totals.ensures x)))
@@ -62,10 +62,10 @@ loop-k-preserved c =
     let l = c.loop-k in
     let x : ℕ = c.in_ok-number.field-0-0.0 in
     let fresh : among x (reverse (take l.k l.used)) ≡ false =
-        elim c.else-number-above.branch [
-          else-number-above-via-then-number-above+else-contains w ↦ sym (stored-any x (take l.k l.used)) ∙ sym w.contains.ensures.value ∙ w.if-contains.false
-        | else-number-above-via-else-number-above w ↦ sym (none_above x l.above _ w.if-number-above.false l.invariant.below)
-        ] in
+    elim c.else-number-above.branch [
+      | else-number-above-via-then-number-above+else-contains w ↦ sym (stored-any x (take l.k l.used)) ∙ sym w.contains.ensures.value ∙ w.if-contains.false
+      | else-number-above-via-else-number-above w ↦ sym (none_above x l.above _ w.if-number-above.false l.invariant.below)
+    ] in
     let long : length l.used ≡ most_blocks = l.invariant.long in
     let latest = latest-stored l.used l.k x (omega arith) in
     record {

@@ -14,5 +14,5 @@ invariant-loop-k l = record {
       ≡ judge (numbered_from j (reverse (take l.k l.used)) (block counting l.h.identifiers l.h.functions) (tell_block counting)) (each (tell_block counting)) (so_far l.totals) l.s l.c.at;
   few : l.initial.k-end ≤ most_blocks;
   long : length l.used ≡ most_blocks;
-  below : Every (λ (v : ℕ). v < l.above) (reverse (take l.k l.used))
+  below : Every (λ (v : ℕ). v < l.above) (reverse (take l.k l.used));
 }

@@ -1,13 +1,13 @@
-use Rattle.std.proofs.Common.{sym, ap, ◌∙◌}
+use Rattle.std.proofs.Common.{refl, sym, ap, ◌∙◌}
 use Rattle.hir.proofs.AtLaws.{row_kind, own_row}
 use Rattle.reading.specs.Judging.{Told, over_told}
-use Rattle.reading.specs.TotalsSays.{so_far}
+use Rattle.reading.specs.TotalsSays.{totals_says}
 use Rattle.reading.proofs.JudgeLaws.{exits}
 use Rattle.reading.proofs.BlockLaws.{effect_got, effect_refused, effect_8, effect_kind_refused}
 use Rattle.reading.proofs.blocks.effect.Goals as goal
 
 pub returns-in_err-number : goal.returns-in_err-number
-returns-in_err-number c = exits so_far _ _ c.from_residual.ensures.1 (effect_kind_refused _ _ _ _ _ _ _ (sym c.in_err-number.ensures))
+returns-in_err-number c = exits totals_says (λ k. refl) _ _ c.from_residual.ensures.1 (effect_kind_refused _ _ _ _ _ _ _ (sym c.in_err-number.ensures))
 
 pub returns-then-over : goal.returns-then-over
 returns-then-over c =
@@ -21,7 +21,7 @@ pub returns-in_err-c : goal.returns-in_err-c
 returns-in_err-c c =
     let k = row_kind _ c.row_of-row.ensures in
     let o = sym (ap (λ (u : Told). over_told u) c.effect-totals.ensures) ∙ sym c.over.ensures ∙ c.if-over.false in
-    exits so_far _ _ c.from_residual-in_err-c.ensures.1 (effect_refused _ _ _ _ _ _ _ _ (sym c.in_ok-number.ensures) _ k _ o (sym c.in_err-c.ensures))
+    exits totals_says (λ k. refl) _ _ c.from_residual-in_err-c.ensures.1 (effect_refused _ _ _ _ _ _ _ _ (sym c.in_ok-number.ensures) _ k _ o (sym c.in_err-c.ensures))
 
 pub returns : goal.returns
 returns c =

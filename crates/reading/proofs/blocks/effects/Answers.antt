@@ -6,7 +6,7 @@ use Rattle.reading.proofs.blocks.effects.Goals as goal
 
 pub returns-in_err-count : goal.returns-in_err-count
 unfolding effects
-returns-in_err-count c = exits so_far _ _ c.from_residual.ensures.1 (section_refused _ _ _ _ _ _ _ (sym c.in_err-count.ensures))
+returns-in_err-count c = exits totals_says (λ k. refl) _ _ c.from_residual.ensures.1 (section_refused _ _ _ _ _ _ _ (sym c.in_err-count.ensures))
 
 pub returns : goal.returns
 unfolding effects

@@ -1,4 +1,4 @@
-use Rattle.std.proofs.Common.{rules, tests, refl, sym, ap, ◌∙◌, ◌≡◌, ℕ, ◌+◌, ◌-◌, ◌*◌, ◌/◌, ◌<◌, ◌≤◌, length, arith, slice_range, List, [], Bor}
+use Rattle.std.proofs.Common.{rules, tests, ap, ◌∙◌, ◌≡◌, ℕ, ◌-◌, ◌*◌, ◌/◌, ◌≤◌, length, arith, slice_range, List, [], Bor}
 use Rattle.std.specs.List.{IsSubsliceAt}
 use Rattle.std.proofs.lemmas.Option.{IfSome_then}
 use Rattle.reading.proofs.OperandSearch.{some_found, none_found, answer_by, length_between}
@@ -18,9 +18,9 @@ returns c =
     let no_words : Bor (List ℕ) = record { ref_ptr = (0, 0); now = [] } in
     answer_by c.any.result c.any.ensures.runs.2
     (λ q.
-        let w = q (λ x r f k. search rules) in
-        let few : p.len * 4 ≤ length p.from.rest.now = rw four at h.0 in
-        some_found ws a.from a.to a.number c.requires.whole p.at (λ y. y.now) part _ (λ y k. search (rules, tests)) w.0 (omega (arith, few, long, w.1)) w.2)
+    let w = q (λ x r f k. search rules) in
+    let few : p.len * 4 ≤ length p.from.rest.now = rw four at h.0 in
+    some_found ws a.from a.to a.number c.requires.whole p.at (λ y. y.now) part _ (λ y k. search (rules, tests)) w.0 (omega (arith, few, long, w.1)) w.2)
     (λ q.
-        let all : p.len ≡ length p.from.rest.now / 4 = rw four at (h.1 q.0) in
-        none_found ws a.from a.to a.number c.requires.whole p.at (λ y. y.now) part _ (λ y k e. search (rules, tests)) (λ k l. (_, p.reads k no_words (omega (arith, all, long, l)))) (q.1 (λ x r f k. search rules)))
+    let all : p.len ≡ length p.from.rest.now / 4 = rw four at (h.1 q.0) in
+    none_found ws a.from a.to a.number c.requires.whole p.at (λ y. y.now) part _ (λ y k e. search (rules, tests)) (λ k l. (_, p.reads k no_words (omega (arith, all, long, l)))) (q.1 (λ x r f k. search rules)))

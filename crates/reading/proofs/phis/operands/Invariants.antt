@@ -9,5 +9,5 @@ abbrev pub invariant-loop : goal.invariant-loop
 invariant-loop l = record {
   told : (k : ℕ) → l.counter + k ≡ l.count → passing_numbered l.count [] (operand l.n) l.s l.start.at ≡ passing_numbered k (predecessors l.s l.start.at l.c.at) (operand l.n) l.s l.c.at;
   whole : Whole l.start.at l.c.at;
-  below : Every (λ (v : ℕ). v < l.above) (predecessors l.s l.start.at l.c.at)
+  below : Every (λ (v : ℕ). v < l.above) (predecessors l.s l.start.at l.c.at);
 }
