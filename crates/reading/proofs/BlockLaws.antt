@@ -1,33 +1,22 @@
 -- The parts of a block, judged: what is left to read once the words so far were read.
-use Prim.Native.Nat.{ℕ, ◌+◌, ◌<◌}
-use native.Mathlib.Numerals.{add-one}
+use Prim.Native.Nat.{ℕ}
 use mathlib.Core.Path.{◌≡◌, ◌∙◌, refl, sym, ap}
-use mathlib.Core.Bool.{Bool, true, false, ◌||◌, or-false, or_assoc, or_comm}
+use mathlib.Core.Bool.{Bool, true, false}
 use mathlib.Core.List.{List, []}
-use lib.ListN.{length, drop, get_or}
-use lib.Seq.{drop-length, drop-cons}
-use lib.Dec.{eqb}
-use Rattle.model.specs.Limits.{most_count, most_kind, most_order, most_lvalues, most_operands, no_operands, most_terminal, most_blocks, absent_count}
-use Rattle.model.specs.Lists.{each, among}
+use lib.ListN.{length}
+use Rattle.model.specs.Limits.{most_count, most_kind, most_order, most_lvalues, most_operands, no_operands, most_terminal, most_blocks}
+use Rattle.model.specs.Lists.{each}
 use Rattle.model.specs.Sheet.{Place, EffectKind, Effect, Phi, Instruction, Terminal, BlockId}
-use Rattle.model.specs.Reading.{Position, got, refused, ◌>>=◌, pure, Read, count, fixed, word, at_most, numbered, counted, optional, numbered_from, counted_from}
+use Rattle.model.specs.Reading.{Position, got, refused, ◌>>=◌, pure, Read, count, fixed, at_most, numbered, counted, optional, numbered_from, counted_from}
 use Rattle.model.specs.Sections.{place, effect_after, operand, phi, instruction_value}
 use Rattle.model.specs.Effects.{kind_of}
 use Rattle.model.proofs.SheetAhead.{after_kind}
 use Rattle.model.specs.Asking as asking
 use Rattle.model.specs.Asking.{effect, effects, instruction, terminal_of, terminal, block, tell_effect, tell_operand, tell_phi, tell_instruction, tell_terminal, tell_block}
-use Rattle.reading.specs.Judging.{Told, telling, judge, tell_kind, over_told, Tally, within, standing, count_kind, ask_tally, counting, instruction_effects, terminal_effects, blocks_of}
+use Rattle.reading.specs.Judging.{Told, telling, judge, tell_kind, over_told, Tally, within, standing, count_kind, ask_tally, counting, terminal_effects, blocks_of}
 use Rattle.reading.specs.Whole.{length_of, skip, passing_numbered, uses, judged_instruction}
 use Rattle.reading.proofs.JudgeLaws.{result_case, judge_got, judge_refused, got_judged, refused_judged, then_got, then_refused, then_made, each_keeps, counted_keeps, numbered_keeps}
 use Rattle.reading.proofs.TallyLaws.{standing_within, asked_on, asked_off}
-
--- a search: what is found or stands from here on, one number later
-pub listed_next : (x : ℕ) (l : List ℕ) (i : ℕ) (found : Bool) → i < length l → found || among x (drop i l) ≡ eqb x (get_or l i 0) || found || among x (drop (i + 1) l)
-listed_next x l i found h = rw (drop-cons l i 0 h, add-one, or_comm (eqb x (get_or l i 0)) found, or_assoc)
-
--- and at the end nothing stands any more
-pub listed_end : (x : ℕ) (l : List ℕ) (i : ℕ) (found : Bool) → i ≡ length l → found || among x (drop i l) ≡ found
-listed_end x l i found e = rw (e, drop-length l, or-false found)
 
 -- a section of phis, and one of instructions
 abbrev phis : ℕ → Tally → Read (List Phi)
@@ -148,21 +137,6 @@ unfolding telling tell_block
 block-told n m x t u v ws c ps is g k = rw (g, k)
 
 module _ (n m : ℕ) (t : Tally) (ws : List ℕ) (c : Position) where
-  -- the effects of an instruction: the word is the count of an absent list
-  pub absent_judged : (w : ℕ) (d : Position) → word ws c ≡ got w d → eqb w absent_count ≡ true → instruction_effects n m t ws c ≡ got t d
-  unfolding optional telling
-  absent_judged w d e h = rw (e, h) (rw e)
-
-  -- it counts
-  pub present-judged : (w : ℕ) (d : Position) → word ws c ≡ got w d → eqb w absent_count ≡ false → instruction_effects n m t ws c ≡ judge (effects counting false n m) (each (tell_effect counting false)) t ws c
-  unfolding optional telling
-  present-judged w d e h = result_case (effects counting false n m t ws c) (λ l i f. rw (e, h, f)) (λ k f. rw (e, h, f))
-
-  -- it is not there
-  pub missing_judged : (k : ℕ) → word ws c ≡ refused k → instruction_effects n m t ws c ≡ refused k
-  unfolding optional telling effects counted_from count
-  missing_judged k e = rw e (rw e)
-
   -- an instruction: of its words before the effects nothing goes on
   pub instruction-judged : judge (instruction counting n m) (tell_instruction counting) t ws c ≡ judged_instruction n m t ws c
   unfolding instruction judged_instruction uses length_of telling

@@ -1,19 +1,25 @@
 -- Laws of judging: a part, parts in sequence, a part k times over, and k times over with numbers; and parts that count nothing.
-use Prim.Native.Nat.{ℕ, zero, suc, ◌-◌, ◌≤◌, ◌<◌}
-use native.Mathlib.Nat.{not-suc-le-zero, le_of_suc-le-suc}
-use native.Mathlib.Numerals.{sub-one}
+use Rattle.std.specs.Prelude.{Result as Code, Ok, Err, MatchResult, IsErrAnd}
+use Prim.Native.Nat.{ℕ, zero, suc, ◌+◌, ◌≤◌, ◌<◌}
 use native.Mathlib.Omega.{arith}
-use mathlib.Core.Path.{◌≡◌, ◌∙◌, refl, sym, ap, subst}
-use mathlib.Core.Bool.{true, false}
+use mathlib.Core.Path.{◌≡◌, ◌∙◌, refl, sym, ap}
+use mathlib.Core.Bool.{Bool, true, false, or-false, or_comm}
 use mathlib.Core.List.{List, [], ◌∷◌}
-use lib.ListN.{length, drop, set}
-use lib.Seq.{drop-length}
-use borrow.Author.Tests.{ne_eqb}
+use lib.ListN.{length, take, set}
+use lib.Dec.{eqb}
+use borrow.Author.Tests.{eq-eqb, ne_eqb, eqb-true, eqb-false}
+use Rattle.std.specs.Prelude.{reverse}
+use Rattle.std.specs.List.{list_any}
+use Rattle.std.proofs.lemmas.List.{reverse-append, take_more_set}
+use Rattle.std.proofs.lemmas.List.Folds.{list_any-append}
 use Rattle.model.specs.Limits.{most_block_number}
 use Rattle.model.specs.Lists.{each, among, Every}
 use Rattle.model.specs.Sheet.{BlockId}
 use Rattle.model.specs.Reading.{Position, Result, got, refused, Read, and_then, ◌>>=◌, pure, count, at_most, new_number, times, numbered, counted, times_from, numbered_from, counted_from}
 use Rattle.model.proofs.Everywhere.{every_mem}
+use Rattle.hir.specs.Refusals.{refusal_number}
+use Rattle.hir.specs.declared.refusal.Refusal.{Refusal}
+use Rattle.reading.specs.Parts.{Times}
 use Rattle.reading.specs.Judging.{map_result, telling, judge}
 
 -- what was read, or refused
@@ -80,44 +86,45 @@ unfolding telling
 cons_told tell b b1 ws c g a w = rw w
 
 module _ {A B : Type 0} (f : B → Read A) (tell : A → B → B) (ws : List ℕ) where
-  pub times_next : (k : ℕ) (b b1 : B) (c d : Position) → 0 < k → judge f tell b ws c ≡ got b1 d →
-      judge (times_from k f tell) (each tell) b ws c ≡ judge (times_from (k - 1) f tell) (each tell) b1 ws d
+  pub times_next : (k : ℕ) (b b1 : B) (c d : Position) → judge f tell b ws c ≡ got b1 d →
+      judge (times_from (suc k) f tell) (each tell) b ws c ≡ judge (times_from k f tell) (each tell) b1 ws d
   unfolding times_from
-  times_next zero b b1 c d h q = absurd (not-suc-le-zero h)
-  times_next (suc k) b b1 c d h q =
-      rw sub-one
-      (got_judged (f b) tell b ws c b1 d q
+  times_next k b b1 c d q =
+      got_judged (f b) tell b ws c b1 d q
       (λ a e w. then_got (f b) (λ (a : A). times_from k f tell (tell a b) >>= λ (l : List A). pure (a ∷ l)) (each tell) b ws c a d e
       ∙ then_made (times_from k f tell (tell a b)) (λ (l : List A). a ∷ l) (each tell) b ws d
-      ∙ cons_told tell b b1 ws d (times_from k f tell) a w))
+      ∙ cons_told tell b b1 ws d (times_from k f tell) a w)
 
-  pub times_stop : (k : ℕ) (b : B) (c : Position) (n : ℕ) → 0 < k → judge f tell b ws c ≡ refused n → judge (times_from k f tell) (each tell) b ws c ≡ refused n
+  pub times_stop : (k : ℕ) (b : B) (c : Position) (n : ℕ) → judge f tell b ws c ≡ refused n → judge (times_from (suc k) f tell) (each tell) b ws c ≡ refused n
   unfolding times_from
-  times_stop zero b c n h q = absurd (not-suc-le-zero h)
-  times_stop (suc k) b c n h q =
+  times_stop k b c n q =
       then_refused (f b) (λ (a : A). times_from k f tell (tell a b) >>= λ (l : List A). pure (a ∷ l)) (each tell) b ws c n (refused_judged (f b) tell b ws c n q)
 
-  pub times_done : (k : ℕ) (b : B) (c : Position) → k ≤ 0 → judge (times_from k f tell) (each tell) b ws c ≡ got b c
+  pub times_done : (b : B) (c : Position) → judge (times_from 0 f tell) (each tell) b ws c ≡ got b c
   unfolding times_from telling
-  times_done zero b c h = refl
-  times_done (suc k) b c h = absurd (not-suc-le-zero h)
+  times_done b c = refl
 
-  -- a section: its count, then its parts; from one part to another nothing is lost
-  module _ (most : ℕ) (b : B) (c : Position) (k : ℕ) (d : Position) (x : count most ws c ≡ got k d) (j : ℕ) (b1 : B) (e : Position)
-      (same : judge (times_from k f tell) (each tell) b ws d ≡ judge (times_from j f tell) (each tell) b1 ws e) where
-    section-from : judge (counted_from most f tell) (each tell) b ws c ≡ judge (times_from j f tell) (each tell) b1 ws e
-    unfolding counted_from
-    section-from = then_got (count most) (λ (k : ℕ). times_from k f tell b) (each tell) b ws c k d x ∙ same
-
-    pub section_stop : (n : ℕ) → 0 < j → judge f tell b1 ws e ≡ refused n → judge (counted_from most f tell) (each tell) b ws c ≡ refused n
-    section_stop n h q = section-from ∙ times_stop j b1 e n h q
-
-    pub section_done : j ≤ 0 → judge (counted_from most f tell) (each tell) b ws c ≡ got b1 e
-    section_done h = section-from ∙ times_done j b1 e h
+  -- a section: its count, then its parts
+  pub section_got : (most : ℕ) (b : B) (c : Position) (k : ℕ) (d : Position) → count most ws c ≡ got k d →
+      judge (counted_from most f tell) (each tell) b ws c ≡ judge (times_from k f tell) (each tell) b ws d
+  unfolding counted_from
+  section_got most b c k d x = then_got (count most) (λ (k : ℕ). times_from k f tell b) (each tell) b ws c k d x
 
   pub section_refused : (most : ℕ) (b : B) (c : Position) (n : ℕ) → count most ws c ≡ refused n → judge (counted_from most f tell) (each tell) b ws c ≡ refused n
   unfolding counted_from
   section_refused most b c n e = then_refused (count most) (λ (k : ℕ). times_from k f tell b) (each tell) b ws c n e
+
+  -- so the code's parts, where each of them says what is judged
+  module _ {P : Type 0} (said : Code P Refusal → Result B) (known : P → B) (at : P → Position) (ok : (p : P) → said (Ok p) ≡ got (known p) (at p)) (err : (e : Refusal) → said (Err e) ≡ refused (refusal_number e)) where
+    pub times_said : (part : P → Code P Refusal → Type 0) → ((p : P) (r : Code P Refusal) → part p r → said r ≡ judge f tell (known p) ws (at p)) →
+        (k : ℕ) (p : P) (r : Code P Refusal) → Times part k p r → said r ≡ judge (times_from k f tell) (each tell) (known p) ws (at p)
+    times_said part h zero p r t = ap said t ∙ ok p ∙ sym (times_done (known p) (at p))
+    times_said part h (suc k) p r t = go (λ q. times_said part h k q r) t.0 t.1 t.2
+      where
+        go : ((q : P) → Times part k q r → said r ≡ judge (times_from k f tell) (each tell) (known q) ws (at q)) → (v : Code P Refusal) → part p v →
+            MatchResult v (λ q. Times part k q r) (λ e. r ≡ Err e) → said r ≡ judge (times_from (suc k) f tell) (each tell) (known p) ws (at p)
+        go rest (Ok q) a b = rest q b ∙ sym (times_next k (known p) (known q) (at p) (at q) (sym (h p (Ok q) a) ∙ ok q))
+        go rest (Err e) a b = ap said b ∙ err e ∙ sym (times_stop k (known p) (at p) (refusal_number e) (sym (h p (Err e) a) ∙ err e))
 
 module _ (used : List BlockId) (ws : List ℕ) (c : Position) where
   -- a number that none had
@@ -134,15 +141,28 @@ module _ (used : List BlockId) (ws : List ℕ) (c : Position) where
   unfolding new_number
   new_refused n e = rw e
 
--- a number stored right before those in use
-drop-stored : (l : List ℕ) (i x : ℕ) → 0 < i → i ≤ length l → drop (i - 1) (set l (i - 1) x) ≡ x ∷ drop i l
-drop-stored l zero x h g = absurd (not-suc-le-zero h)
-drop-stored l (suc i) x h g = rw sub-one (go l i g)
+-- ---- numbers stored one after another: the last one first
+pub latest-stored : (l : List ℕ) (k x : ℕ) → k < length l → reverse (take (k + 1) (set l k x)) ≡ x ∷ reverse (take k l)
+latest-stored l k x h = ap reverse (take_more_set l k x h) ∙ reverse-append (take k l) (x ∷ [])
+
+any_reverse : (p : ℕ → Bool) (l : List ℕ) → list_any p (reverse l) ≡ list_any p l
+any_reverse p [] = refl
+any_reverse p (y ∷ l) = ap (list_any p) (reverse-append (y ∷ []) l) ∙ list_any-append p (reverse l) (y ∷ []) ∙ rw (any_reverse p l, or-false, or_comm)
+
+eqb_turned : (x y : ℕ) → eqb x y ≡ eqb y x
+eqb_turned x y = go (eqb y x) refl
   where
-    go : (l : List ℕ) (i : ℕ) → suc i ≤ length l → drop i (set l i x) ≡ x ∷ drop (suc i) l
-    go [] i g = absurd (not-suc-le-zero g)
-    go (y ∷ l) zero g = refl
-    go (y ∷ l) (suc i) g = go l i (le_of_suc-le-suc g)
+    go : (b : Bool) → eqb y x ≡ b → eqb x y ≡ b
+    go true e = eq-eqb x y (sym (eqb-true y x e))
+    go false e = ne_eqb x y (λ q. eqb-false y x e (sym q))
+
+any_among : (x : ℕ) (l : List ℕ) → list_any (λ (y : ℕ). eqb y x) l ≡ among x l
+any_among x [] = refl
+any_among x (y ∷ l) = rw (eqb_turned y x, any_among x l)
+
+-- one of them is the number
+pub stored-any : (x : ℕ) (l : List ℕ) → list_any (λ (y : ℕ). eqb y x) l ≡ among x (reverse l)
+stored-any x l = sym (any_reverse (λ (y : ℕ). eqb y x) l) ∙ any_among x (reverse l)
 
 -- ---- numbers below a bound
 -- a number from the bound on is none of them
@@ -150,64 +170,42 @@ pub none_above : (v a : ℕ) (l : List ℕ) → a ≤ v → Every (λ (x : ℕ).
 none_above v a [] h e = refl
 none_above v a (x ∷ l) h e = rw (ne_eqb v x (λ q. absurd (omega (arith, h, e.0, q)))) (none_above v a l h e.1)
 
--- there is none yet
-pub below_none : (a i : ℕ) (l : List ℕ) → length l ≡ i → Every (λ (x : ℕ). x < a) (drop i l)
-below_none a i l e = subst (λ (k : List ℕ). Every (λ (x : ℕ). x < a) k) (sym (drop-length l) ∙ ap (λ (j : ℕ). drop j l) e) tt
-
 -- one more, and the bound was raised
 pub below_more : (l : List ℕ) (x a b : ℕ) → Every (λ (y : ℕ). y < a) l → (a ≤ b) × (x < b) → Every (λ (y : ℕ). y < b) (x ∷ l)
 below_more l x a b e r = (r.1, every_mem (λ (y : ℕ). y < a) (λ (y : ℕ). y < b) l (λ y m q. omega (arith, q, r.0)) e)
 
--- it was stored
-pub below-stored : (l : List ℕ) (i x a b : ℕ) → 0 < i → i ≤ length l → Every (λ (y : ℕ). y < a) (drop i l) → (a ≤ b) × (x < b) → Every (λ (y : ℕ). y < b) (drop (i - 1) (set l (i - 1) x))
-below-stored l i x a b h g e r = subst (λ (k : List ℕ). Every (λ (y : ℕ). y < b) k) (sym (drop-stored l i x h g)) (below_more (drop i l) x a b e r)
-
 module _ {A B : Type 0} (f : BlockId → B → Read A) (tell : A → B → B) (ws : List ℕ) where
-  pub numbered_next : (k : ℕ) (used : List BlockId) (b b1 : B) (c d e : Position) (x : BlockId) → 0 < k → new_number used ws c ≡ got x d →
+  pub numbered_next : (k : ℕ) (used : List BlockId) (b b1 : B) (c d e : Position) (x : BlockId) → new_number used ws c ≡ got x d →
       judge (f x) tell b ws d ≡ got b1 e →
-      judge (numbered_from k used f tell) (each tell) b ws c ≡ judge (numbered_from (k - 1) (x ∷ used) f tell) (each tell) b1 ws e
+      judge (numbered_from (suc k) used f tell) (each tell) b ws c ≡ judge (numbered_from k (x ∷ used) f tell) (each tell) b1 ws e
   unfolding numbered_from
-  numbered_next zero used b b1 c d e x h p q = absurd (not-suc-le-zero h)
-  numbered_next (suc k) used b b1 c d e x h p q =
-      rw sub-one
-      (got_judged (f x b) tell b ws d b1 e q
+  numbered_next k used b b1 c d e x p q =
+      got_judged (f x b) tell b ws d b1 e q
       (λ a y w. then_got (new_number used) (λ (x : BlockId). f x b >>= λ (a : A). numbered_from k (x ∷ used) f tell (tell a b) >>= λ (l : List A). pure (a ∷ l)) (each tell) b ws c x d p
       ∙ then_got (f x b) (λ (a : A). numbered_from k (x ∷ used) f tell (tell a b) >>= λ (l : List A). pure (a ∷ l)) (each tell) b ws d a e y
       ∙ then_made (numbered_from k (x ∷ used) f tell (tell a b)) (λ (l : List A). a ∷ l) (each tell) b ws e
-      ∙ cons_told tell b b1 ws e (numbered_from k (x ∷ used) f tell) a w))
+      ∙ cons_told tell b b1 ws e (numbered_from k (x ∷ used) f tell) a w)
 
-  pub numbered_refused : (k : ℕ) (used : List BlockId) (b : B) (c : Position) (n : ℕ) → 0 < k → new_number used ws c ≡ refused n →
-      judge (numbered_from k used f tell) (each tell) b ws c ≡ refused n
+  pub numbered_refused : (k : ℕ) (used : List BlockId) (b : B) (c : Position) (n : ℕ) → new_number used ws c ≡ refused n →
+      judge (numbered_from (suc k) used f tell) (each tell) b ws c ≡ refused n
   unfolding numbered_from
-  numbered_refused zero used b c n h p = absurd (not-suc-le-zero h)
-  numbered_refused (suc k) used b c n h p =
+  numbered_refused k used b c n p =
       then_refused (new_number used) (λ (x : BlockId). f x b >>= λ (a : A). numbered_from k (x ∷ used) f tell (tell a b) >>= λ (l : List A). pure (a ∷ l)) (each tell) b ws c n p
 
-  pub numbered_stop : (k : ℕ) (used : List BlockId) (b : B) (c d : Position) (x : BlockId) (n : ℕ) → 0 < k → new_number used ws c ≡ got x d →
-      judge (f x) tell b ws d ≡ refused n → judge (numbered_from k used f tell) (each tell) b ws c ≡ refused n
+  pub numbered_stop : (k : ℕ) (used : List BlockId) (b : B) (c d : Position) (x : BlockId) (n : ℕ) → new_number used ws c ≡ got x d →
+      judge (f x) tell b ws d ≡ refused n → judge (numbered_from (suc k) used f tell) (each tell) b ws c ≡ refused n
   unfolding numbered_from
-  numbered_stop zero used b c d x n h p q = absurd (not-suc-le-zero h)
-  numbered_stop (suc k) used b c d x n h p q =
+  numbered_stop k used b c d x n p q =
       then_got (new_number used) (λ (x : BlockId). f x b >>= λ (a : A). numbered_from k (x ∷ used) f tell (tell a b) >>= λ (l : List A). pure (a ∷ l)) (each tell) b ws c x d p
       ∙ then_refused (f x b) (λ (a : A). numbered_from k (x ∷ used) f tell (tell a b) >>= λ (l : List A). pure (a ∷ l)) (each tell) b ws d n (refused_judged (f x b) tell b ws d n q)
 
-  pub numbered_done : (k : ℕ) (used : List BlockId) (b : B) (c : Position) → k ≤ 0 → judge (numbered_from k used f tell) (each tell) b ws c ≡ got b c
+  pub numbered_done : (used : List BlockId) (b : B) (c : Position) → judge (numbered_from 0 used f tell) (each tell) b ws c ≡ got b c
   unfolding numbered_from telling
-  numbered_done zero used b c h = refl
-  numbered_done (suc k) used b c h = absurd (not-suc-le-zero h)
+  numbered_done used b c = refl
 
   -- the same numbers, as another list
   pub used_as : (k : ℕ) (used used' : List BlockId) (b : B) (c : Position) → used ≡ used' → judge (numbered_from k used f tell) (each tell) b ws c ≡ judge (numbered_from k used' f tell) (each tell) b ws c
   used_as k used used' b c e = ap (λ (l : List BlockId). judge (numbered_from k l f tell) (each tell) b ws c) e
-
-  -- before the first number is stored
-  pub nothing_used : (k : ℕ) (l : List ℕ) (i : ℕ) (b : B) (c : Position) → length l ≡ i → judge (numbered_from k [] f tell) (each tell) b ws c ≡ judge (numbered_from k (drop i l) f tell) (each tell) b ws c
-  nothing_used k l i b c e = rw (← e, drop-length l)
-
-  -- one more was stored
-  pub one-stored : (k : ℕ) (l : List ℕ) (i x : ℕ) (b : B) (c : Position) → 0 < i → i ≤ length l →
-      judge (numbered_from k (x ∷ drop i l) f tell) (each tell) b ws c ≡ judge (numbered_from k (drop (i - 1) (set l (i - 1) x)) f tell) (each tell) b ws c
-  one-stored k l i x b c h g = used_as k (x ∷ drop i l) (drop (i - 1) (set l (i - 1) x)) b c (sym (drop-stored l i x h g))
 
 -- ---- parts that count nothing: a tally that each of them leaves as it was
 module _ {A T : Type 0} (tell : A → T → T) (t : T) (keeps : (a : A) → tell a t ≡ t) where
@@ -231,3 +229,9 @@ module _ {A T : Type 0} (tell : A → T → T) (t : T) (keeps : (a : A) → tell
       result_case (new_number used ws c)
       (λ b d x. result_case (f b t ws d) (λ a e y. rw (x, y, keeps a, numbered_keeps k (b ∷ used) f ws e)) (λ n y. rw (x, y)))
       (λ n x. rw x)
+
+-- ---- what a `?` hands over
+pub exits : {P A : Type 0} (said : Code P Refusal → Result A) → ((k : Refusal) → said (Err k) ≡ refused (refusal_number k)) → (r : Code P Refusal) (e : Refusal) {x : Result A} →
+    IsErrAnd r (λ (y : Refusal). y ≡ e) → x ≡ refused (refusal_number e) → said r ≡ x
+exits said err (Ok p) e h q = absurd h
+exits said err (Err y) e h q = err y ∙ ap (λ (k : Refusal). refused (refusal_number k)) h ∙ sym q

@@ -2,6 +2,7 @@ pub mod JudgeLaws
 pub mod TallyLaws
 pub mod BlockLaws
 pub mod OperandLaws
+pub mod OperandSearch
 pub mod SectionLaws
 pub mod WholeLaws
 pub mod TotalsLaws

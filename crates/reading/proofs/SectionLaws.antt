@@ -1,13 +1,12 @@
 -- A section of which only the length goes on: its count, if all of its parts are read.
-use Prim.Native.Nat.{ℕ}
+use Prim.Native.Nat.{ℕ, zero, suc}
 use mathlib.Core.Path.{◌≡◌, ◌∙◌, refl, sym}
-use mathlib.Core.List.{List}
-use Rattle.model.specs.Limits.{most_inner_diagnostics, most_inner_context}
+use mathlib.Core.List.{List, ◌∷◌}
+use lib.ListN.{length}
 use Rattle.model.specs.Lists.{each}
-use Rattle.model.specs.Reading.{Position, got, refused, Read, ◌>>=◌, pure, count, times, counted, times_from}
-use Rattle.model.specs.Sections.{diagnostic, inner_function, place}
+use Rattle.model.specs.Reading.{Position, Result, got, refused, and_then, Read, count, times, counted, times_from}
 use Rattle.model.proofs.ReadLaws.{times_length}
-use Rattle.reading.specs.Judging.{telling}
+use Rattle.reading.specs.Judging.{map_result, telling}
 use Rattle.reading.proofs.JudgeLaws.{result_case, got_judged, refused_judged, times_keeps}
 use Rattle.reading.specs.Whole.{length_of, skip, passing}
 
@@ -30,14 +29,25 @@ module _ {A : Type 0} (most : ℕ) (f : Read A) (ws : List ℕ) (c : Position) w
   unfolding length_of counted
   count_stopped r x = rw x
 
--- an inner function: two sections of which nothing goes on
-pub inner_judged : (n : ℕ) (ws : List ℕ) (c : Position) →
-    telling (inner_function n) skip tt ws c
-    ≡ (length_of (counted most_inner_diagnostics diagnostic) >>= λ (k : ℕ). length_of (counted most_inner_context (place n)) >>= λ (j : ℕ). pure tt) ws c
-unfolding inner_function length_of telling
-inner_judged n ws c =
-    result_case (counted most_inner_diagnostics diagnostic ws c)
-    (λ l d1 e1. result_case (counted most_inner_context (place n) ws d1)
-    (λ cs d2 e2. rw (e1, e2))
-    (λ k e2. rw (e1, e2)))
-    (λ k e1. rw e1)
+-- a part that gives nothing is one of which nothing goes on
+pub skipped : (f : Read (Unit {0})) (ws : List ℕ) (c : Position) → f ws c ≡ telling f skip tt ws c
+unfolding telling
+skipped f ws c = result_case (f ws c) (λ a d e. rw e) (λ n e. rw e)
+
+-- of a section only how many parts it has goes on, whatever they are
+module _ {A : Type 0} (f : Read A) (ws : List ℕ) where
+  longer : {B : Type 0} (b : B) (x : Result (List B)) → map_result length (and_then x (λ (l : List B) (d : Position). got (b ∷ l) d)) ≡ map_result suc (map_result length x)
+  longer b (got l d) = refl
+  longer b (refused k) = refl
+
+  times_skipped : (k : ℕ) (c : Position) → map_result length (times k (telling f skip tt) ws c) ≡ map_result length (times k f ws c)
+  unfolding times telling
+  times_skipped zero c = refl
+  times_skipped (suc k) c =
+      result_case (f ws c)
+      (λ a d e. rw (e, longer tt (times k (telling f skip tt) ws d), longer a (times k f ws d), times_skipped k d))
+      (λ n e. rw e)
+
+  pub counted_skipped : (most : ℕ) (c : Position) → length_of (counted most (telling f skip tt)) ws c ≡ length_of (counted most f) ws c
+  unfolding length_of counted
+  counted_skipped most c = result_case (count most ws c) (λ k d e. rw (e, times_skipped k d)) (λ n e. rw e)

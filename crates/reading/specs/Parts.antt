@@ -1,21 +1,15 @@
--- The parts that a section has after its count, by the readers of `Sections`.
-use Rattle.std.specs.Prelude.{ℕ}
-use Rattle.model.specs.Sheet.{Identifier as ModelIdentifier, Diagnostic as ModelDiagnostic, Place as ModelPlace, Phi as ModelPhi}
+-- Parts one after another: what is known of each, and so of all.
+use Rattle.std.specs.Prelude.{ℕ, zero, suc, ◌≡◌, List, Result, Ok, Err, MatchResult}
 use Rattle.model.specs.Reading.{Read}
-use Rattle.model.specs.Sections.{identifier, diagnostic, place, phi}
-use Rattle.reading.specs.declared.sections.Part.{Part}
-use Rattle.reading.specs.declared.sections.Part.TheVariants.{Identifier, Diagnostic, Place, Phi}
+use Rattle.hir.specs.declared.Cursor.{Cursor}
+use Rattle.hir.specs.declared.refusal.Refusal.{Refusal}
+use Rattle.reading.specs.Says.{cursor_says}
 
--- what a part is read as
-abbrev pub PartType : Part → Type 0
-PartType Identifier = ModelIdentifier
-PartType Diagnostic = ModelDiagnostic
-PartType Place = ModelPlace
-PartType Phi = ModelPhi
+-- so many parts, each read from what the one before left; the first refusal decides
+abbrev pub Times : {P : Type 0} → (P → Result P Refusal → Type 0) → ℕ → P → Result P Refusal → Type 0
+Times part zero p r = r ≡ Ok p
+Times {P} part (suc k) p r = (v : Result P Refusal) × part p v × MatchResult v (λ q. Times part k q r) (λ e. r ≡ Err e)
 
--- its reader; a place's identifier, in a phi too, is below n
-abbrev pub part_of : (what : Part) → ℕ → Read (PartType what)
-part_of Identifier n = identifier
-part_of Diagnostic n = diagnostic
-part_of Place n = place n
-part_of Phi n = phi n
+-- a part of which nothing goes on is read so
+abbrev pub IsPart : (Cursor → Result Cursor Refusal → Type 0) → Read (Unit {0}) → List ℕ → Type 0
+IsPart part f ws = (c : Cursor) (r : Result Cursor Refusal) → part c r → cursor_says r ≡ f ws c.at

@@ -1,25 +1,29 @@
 -- What the answers of the code say.
-use Rattle.model.specs.Reading.{Result, got, refused}
+use Rattle.std.specs.Prelude.{Result, Ok, Err}
+use Rattle.model.specs.Reading.{Result as Got, got, refused}
+use Rattle.hir.specs.Says.{says}
+use Rattle.hir.specs.Refusals.{refusal_number}
+use Rattle.hir.specs.declared.Cursor.{Cursor}
+use Rattle.hir.specs.declared.refusal.Refusal.{Refusal}
 use Rattle.reading.specs.TotalsSays.{totals_are}
 use Rattle.reading.specs.Whole.{Heading as TheHeading, Judgement, refusal, acceptance}
-use Rattle.reading.specs.declared.CursorStep.{CursorStep}
-use Rattle.reading.specs.declared.CursorStep.TheVariants.{Got as GotCursor, Refused as NoCursor}
-use Rattle.reading.specs.declared.HeadingStep.{HeadingStep}
-use Rattle.reading.specs.declared.HeadingStep.TheVariants.{Got as GotHeading, Refused as NoHeading}
-use Rattle.reading.specs.declared.Verdict.{Verdict}
-use Rattle.reading.specs.declared.Verdict.TheVariants.{Refused, Accepted}
+use Rattle.reading.specs.declared.Heading.{Heading}
+use Rattle.reading.specs.declared.blocks.Totals.{Totals}
 
 -- the next position, or the refusal's number
-abbrev pub cursor_says : CursorStep → Result (Unit {0})
-cursor_says (GotCursor c) = got tt c.at
-cursor_says (NoCursor k) = refused k
+abbrev pub cursor_says : Result Cursor Refusal → Got (Unit {0})
+cursor_says (Ok c) = got tt c.at
+cursor_says (Err k) = refused (refusal_number k)
+
+-- both counts
+abbrev pub heading_is : Heading → TheHeading
+heading_is h = record { identifiers = h.identifiers; functions = h.functions }
 
 -- both counts with the next position, or the refusal's number
-abbrev pub heading_says : HeadingStep → Result TheHeading
-heading_says (GotHeading h c) = got (record { identifiers = h.identifiers; functions = h.functions }) c.at
-heading_says (NoHeading k) = refused k
+abbrev pub heading_says : Result (Heading × Cursor) Refusal → Got TheHeading
+heading_says = says heading_is
 
--- the verdict's number, or what it tells
-abbrev pub verdict_says : Verdict → Judgement
-verdict_says (Refused k) = refusal k
-verdict_says (Accepted t) = acceptance (totals_are t)
+-- the refusal's number, or what is told of the sheet
+abbrev pub verdict_says : Result Totals Refusal → Judgement
+verdict_says (Ok t) = acceptance (totals_are t)
+verdict_says (Err k) = refusal (refusal_number k)

@@ -1,9 +1,11 @@
 -- What the answers of the judging readers say.
-use Rattle.model.specs.Reading.{Result, got, refused}
+use Rattle.std.specs.Prelude.{Result}
+use Rattle.model.specs.Reading.{Result as Got}
+use Rattle.hir.specs.Says.{says}
+use Rattle.hir.specs.declared.Cursor.{Cursor}
+use Rattle.hir.specs.declared.refusal.Refusal.{Refusal}
 use Rattle.reading.specs.Judging.{Told, Tally, within}
 use Rattle.reading.specs.declared.blocks.Totals.{Totals}
-use Rattle.reading.specs.declared.blocks.TotalsStep.{TotalsStep}
-use Rattle.reading.specs.declared.blocks.TotalsStep.TheVariants.{Got, Refused}
 
 -- the totals as the definitions have them
 abbrev pub totals_are : Totals → Told
@@ -14,6 +16,5 @@ abbrev pub so_far : Totals → Tally
 so_far t = within (totals_are t)
 
 -- the totals so far with the next position, or the refusal's number
-abbrev pub totals_says : TotalsStep → Result Tally
-totals_says (Got t c) = got (so_far t) c.at
-totals_says (Refused k) = refused k
+abbrev pub totals_says : Result (Totals × Cursor) Refusal → Got Tally
+totals_says = says so_far

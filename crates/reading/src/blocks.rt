@@ -1,5 +1,6 @@
 // Judges the blocks of a sheet: each word is held to its range, and what refusal 8 counts is counted on the way.
 ghost use Rattle.std.specs.Prelude.{◌≡◌};
+ghost use Rattle.model.specs.Sheet.{BlockId as ModelBlock};
 ghost use Rattle.model.specs.Lists.{each};
 ghost use Rattle.model.specs.Reading.{counted_from};
 ghost use Rattle.model.specs.Asking.{effect, effects, instruction, terminal, block, tell_effect, tell_instruction, tell_terminal, tell_block};
@@ -9,277 +10,150 @@ ghost use Rattle.reading.specs.TotalsSays.{so_far, totals_says};
 ghost use Rattle.reading.specs.Says.{cursor_says};
 ghost use Rattle.reading.specs.Whole.{uses};
 
-use crate::CursorStep;
+use crate::Heading;
+use crate::parts::times;
+use crate::sections::{phis, places};
 use hir::effects::{effect_after, row_of};
 use hir::limits::{
     ABSENT_COUNT, MOST_BLOCKS, MOST_COUNT, MOST_KIND, MOST_LVALUES, MOST_OPERANDS, NO_OPERANDS,
 };
-use hir::{
-    BlockStep, Cursor, EffectStep, KindStep, OrderStep, PlaceStep, TerminalKind, ValueStep,
-    WordStep,
-};
+use hir::refusal::Refusal;
+use hir::{BlockId, Cursor, Step, TerminalKind};
 
-// The mutations and renders so far, each no higher than one above its limit; 1 if an instruction had a diagnosis; 1 if one had an Apply.
-#[derive(Clone, Copy)]
+// The mutations and renders so far, each no higher than one above its limit; whether an instruction had a diagnosis; whether one had an Apply.
+#[derive(Clone, Copy, Debug, Default, PartialEq, Eq)]
 pub struct Totals {
     pub mutations: u32,
     pub renders: u32,
-    pub diagnoses: u32,
-    pub applies: u32,
-}
-
-// The totals and the position after a part of the sheet, or a refusal.
-#[derive(Clone, Copy)]
-pub enum TotalsStep {
-    Got(Totals, Cursor),
-    Refused(u32),
+    pub diagnoses: bool,
+    pub applies: bool,
 }
 
 // An effect: an instruction's is counted at its kind, where refusal 8 may come, before its places; a terminal's is asked with the totals as they were.
-fn effect(c: Cursor, s: &[u32], n: u32, m: u32, terminal: bool, totals: Totals) -> TotalsStep
-    ensures { totals_says result ≡ judge (effect counting terminal n m) (tell_effect counting terminal) (so_far totals) s.now c.at }
+fn effect(c: Cursor, s: &[u32], h: Heading, terminal: bool, totals: Totals) -> Step<Totals>
+    ensures { totals_says result ≡ judge (effect counting terminal h.identifiers h.functions) (tell_effect counting terminal) (so_far totals) s.now c.at }
 {
-    match c.at_most(s, MOST_KIND) {
-        WordStep::Got(number, c1) => {
-            let row = row_of(number);
-            let kind = row.kind;
-            let t = totals.effect(kind, terminal);
-            if t.over() {
-                return TotalsStep::Refused(8);
-            }
-            match effect_after(c1, s, n, m, row) {
-                EffectStep::Got(_, c2) => TotalsStep::Got(t, c2),
-                EffectStep::Refused(k2) => TotalsStep::Refused(k2),
-            }
-        }
-        WordStep::Refused(k1) => TotalsStep::Refused(k1),
+    let (number, c) = c.at_most(s, MOST_KIND)?;
+    let row = row_of(number);
+    let totals = totals.effect(row.kind, terminal);
+    if totals.over() {
+        return Err(Refusal::Totals);
     }
+    let (_, c) = effect_after(c, s, h.identifiers, h.functions, row)?;
+    Ok((totals, c))
 }
 
 // An effect count and the effects, of an instruction or of a terminal.
-fn effects(start: Cursor, s: &[u32], n: u32, m: u32, terminal: bool, totals: Totals) -> TotalsStep
-    ensures { totals_says result ≡ judge (effects counting terminal n m) (each (tell_effect counting terminal)) (so_far totals) s.now start.at }
+fn effects(c: Cursor, s: &[u32], h: Heading, terminal: bool, totals: Totals) -> Step<Totals>
+    ensures { totals_says result ≡ judge (effects counting terminal h.identifiers h.functions) (each (tell_effect counting terminal)) (so_far totals) s.now c.at }
 {
-    let mut left: u32;
-    let mut c: Cursor;
-    match start.count(s, MOST_COUNT) {
-        WordStep::Got(count, d) => {
-            left = count;
-            c = d;
-        }
-        WordStep::Refused(k1) => {
-            return TotalsStep::Refused(k1);
-        }
-    }
-    let mut t = totals;
-    while 0 < left {
-        match effect(c, s, n, m, terminal, t) {
-            TotalsStep::Got(u, d2) => {
-                t = u;
-                c = d2;
-            }
-            TotalsStep::Refused(k2) => {
-                return TotalsStep::Refused(k2);
-            }
-        }
-        left -= 1;
-    }
-    TotalsStep::Got(t, c)
+    let (count, c) = c.count(s, MOST_COUNT)?;
+    times(
+        count,
+        (totals, c),
+        |(totals, c)| effect(c, s, h, terminal, totals),
+    )
 }
 
 // An instruction's effects, of which the list may be absent.
-fn instruction_effects(c: Cursor, s: &[u32], n: u32, m: u32, totals: Totals) -> TotalsStep
-    ensures { totals_says result ≡ instruction_effects n m (so_far totals) s.now c.at }
+#[tactic(auto, unfolding(model::specs::Reading::optional, crate::specs::Judging::telling, model::specs::Asking::effects, model::specs::Reading::counted_from, model::specs::Reading::count))]
+fn instruction_effects(c: Cursor, s: &[u32], h: Heading, totals: Totals) -> Step<Totals>
+    ensures { totals_says result ≡ instruction_effects h.identifiers h.functions (so_far totals) s.now c.at }
 {
-    match c.word(s) {
-        WordStep::Got(count, d) => {
-            if count == ABSENT_COUNT {
-                return TotalsStep::Got(totals, d);
-            }
-            effects(c, s, n, m, false, totals)
-        }
-        WordStep::Refused(k) => TotalsStep::Refused(k),
+    let (count, after) = c.word(s)?;
+    if count == ABSENT_COUNT {
+        return Ok((totals, after));
     }
+    effects(c, s, h, false, totals)
 }
 
 // What stands between an instruction's order and its effects: lvalue, value lvalues, operands, value.
-fn uses(c: Cursor, s: &[u32], n: u32, m: u32) -> CursorStep
-    ensures { cursor_says result ≡ uses n m s.now c.at }
+#[tactic(auto, unfolding(crate::specs::Whole::uses))]
+fn uses(c: Cursor, s: &[u32], h: Heading) -> Result<Cursor, Refusal>
+    ensures { cursor_says result ≡ uses h.identifiers h.functions s.now c.at }
 {
-    match c.place(s, n) {
-        PlaceStep::Got(_, c1) => match crate::sections::places(c1, s, n, MOST_LVALUES) {
-            WordStep::Got(_, c2) => match crate::sections::places(c2, s, n, MOST_OPERANDS) {
-                WordStep::Got(_, c3) => match c3.value(s, n, m) {
-                    ValueStep::Got(_, c4) => CursorStep::Got(c4),
-                    ValueStep::Refused(k4) => CursorStep::Refused(k4),
-                },
-                WordStep::Refused(k3) => CursorStep::Refused(k3),
-            },
-            WordStep::Refused(k2) => CursorStep::Refused(k2),
-        },
-        PlaceStep::Refused(k1) => CursorStep::Refused(k1),
-    }
+    let (_, c) = c.place(s, h.identifiers)?;
+    let (_, c) = places(c, s, h.identifiers, MOST_LVALUES)?;
+    let (_, c) = places(c, s, h.identifiers, MOST_OPERANDS)?;
+    let (_, c) = c.value(s, h.identifiers, h.functions)?;
+    Ok(c)
 }
 
 // An order, places and a value, an effect count and the effects.
-fn instruction(c: Cursor, s: &[u32], n: u32, m: u32, totals: Totals) -> TotalsStep
-    ensures { totals_says result ≡ judge (instruction counting n m) (tell_instruction counting) (so_far totals) s.now c.at }
+fn instruction(c: Cursor, s: &[u32], h: Heading, totals: Totals) -> Step<Totals>
+    ensures { totals_says result ≡ judge (instruction counting h.identifiers h.functions) (tell_instruction counting) (so_far totals) s.now c.at }
 {
-    match c.order(s) {
-        OrderStep::Got(_, c1) => match uses(c1, s, n, m) {
-            CursorStep::Got(c2) => instruction_effects(c2, s, n, m, totals),
-            CursorStep::Refused(k2) => TotalsStep::Refused(k2),
-        },
-        OrderStep::Refused(k1) => TotalsStep::Refused(k1),
-    }
+    let (_, c) = c.order(s)?;
+    let c = uses(c, s, h)?;
+    instruction_effects(c, s, h, totals)
 }
 
 // An instruction count and the instructions.
-fn instructions(start: Cursor, s: &[u32], n: u32, m: u32, totals: Totals) -> TotalsStep
-    ensures { totals_says result ≡ judge (counted_from most_count (instruction counting n m) (tell_instruction counting)) (each (tell_instruction counting)) (so_far totals) s.now start.at }
+fn instructions(c: Cursor, s: &[u32], h: Heading, totals: Totals) -> Step<Totals>
+    ensures { totals_says result ≡ judge (counted_from most_count (instruction counting h.identifiers h.functions) (tell_instruction counting)) (each (tell_instruction counting)) (so_far totals) s.now c.at }
 {
-    let mut left: u32;
-    let mut c: Cursor;
-    match start.count(s, MOST_COUNT) {
-        WordStep::Got(count, d) => {
-            left = count;
-            c = d;
-        }
-        WordStep::Refused(k1) => {
-            return TotalsStep::Refused(k1);
-        }
-    }
-    let mut t = totals;
-    while 0 < left {
-        match instruction(c, s, n, m, t) {
-            TotalsStep::Got(u, d2) => {
-                t = u;
-                c = d2;
-            }
-            TotalsStep::Refused(k2) => {
-                return TotalsStep::Refused(k2);
-            }
-        }
-        left -= 1;
-    }
-    TotalsStep::Got(t, c)
+    let (count, c) = c.count(s, MOST_COUNT)?;
+    times(
+        count,
+        (totals, c),
+        |(totals, c)| instruction(c, s, h, totals),
+    )
 }
 
 // The effects of a Return or a MaybeThrow, and the count of its operands, which is 0.
-fn terminal_effects(c: Cursor, s: &[u32], n: u32, m: u32, totals: Totals) -> TotalsStep
-    ensures { totals_says result ≡ terminal_effects n m (so_far totals) s.now c.at }
+#[tactic(auto, unfolding(crate::specs::Judging::terminal_effects))]
+fn terminal_effects(c: Cursor, s: &[u32], h: Heading, totals: Totals) -> Step<Totals>
+    ensures { totals_says result ≡ terminal_effects h.identifiers h.functions (so_far totals) s.now c.at }
 {
-    match effects(c, s, n, m, true, totals) {
-        TotalsStep::Got(t, c1) => match c1.fixed(s, NO_OPERANDS) {
-            WordStep::Got(_, c2) => TotalsStep::Got(t, c2),
-            WordStep::Refused(k2) => TotalsStep::Refused(k2),
-        },
-        TotalsStep::Refused(k1) => TotalsStep::Refused(k1),
-    }
+    let (totals, c) = effects(c, s, h, true, totals)?;
+    let (_, c) = c.fixed(s, NO_OPERANDS)?;
+    Ok((totals, c))
 }
 
 // Kind and order; of a Return its value; of a Return and a MaybeThrow the effects; the operands.
-fn terminal(c: Cursor, s: &[u32], n: u32, m: u32, totals: Totals) -> TotalsStep
-    ensures { totals_says result ≡ judge (terminal counting n m) (tell_terminal counting) (so_far totals) s.now c.at }
+fn terminal(c: Cursor, s: &[u32], h: Heading, totals: Totals) -> Step<Totals>
+    ensures { totals_says result ≡ judge (terminal counting h.identifiers h.functions) (tell_terminal counting) (so_far totals) s.now c.at }
 {
-    let kind: TerminalKind;
-    let c1: Cursor;
-    match c.terminal_kind(s) {
-        KindStep::Got(t, d1) => {
-            kind = t;
-            c1 = d1;
-        }
-        KindStep::Refused(k1) => {
-            return TotalsStep::Refused(k1);
-        }
-    }
-    let c2: Cursor;
-    match c1.order(s) {
-        OrderStep::Got(_, d2) => {
-            c2 = d2;
-        }
-        OrderStep::Refused(k2) => {
-            return TotalsStep::Refused(k2);
-        }
-    }
+    let (kind, c) = c.terminal_kind(s)?;
+    let (_, c) = c.order(s)?;
     match kind {
-        TerminalKind::Other => match crate::sections::places(c2, s, n, MOST_OPERANDS) {
-            WordStep::Got(_, c3) => TotalsStep::Got(totals, c3),
-            WordStep::Refused(k3) => TotalsStep::Refused(k3),
-        },
-        TerminalKind::Return => match c2.place(s, n) {
-            PlaceStep::Got(_, c4) => terminal_effects(c4, s, n, m, totals),
-            PlaceStep::Refused(k4) => TotalsStep::Refused(k4),
-        },
-        TerminalKind::MaybeThrow => terminal_effects(c2, s, n, m, totals),
+        TerminalKind::Other => {
+            let (_, end) = places(c, s, h.identifiers, MOST_OPERANDS)?;
+            Ok((totals, end))
+        }
+        TerminalKind::Return => {
+            let (_, c) = c.place(s, h.identifiers)?;
+            terminal_effects(c, s, h, totals)
+        }
+        TerminalKind::MaybeThrow => terminal_effects(c, s, h, totals),
     }
 }
 
 // What follows a block's number.
-fn block(c: Cursor, s: &[u32], n: u32, m: u32, totals: Totals, number: u32) -> TotalsStep
-    ensures { totals_says result ≡ judge (block counting n m number) (tell_block counting) (so_far totals) s.now c.at }
+fn block(c: Cursor, s: &[u32], h: Heading, totals: Totals) -> Step<Totals>
+    ensures { (number : ModelBlock) → totals_says result ≡ judge (block counting h.identifiers h.functions number) (tell_block counting) (so_far totals) s.now c.at }
 {
-    match crate::sections::phis(c, s, n) {
-        WordStep::Got(_, c1) => match instructions(c1, s, n, m, totals) {
-            TotalsStep::Got(t2, c2) => terminal(c2, s, n, m, t2),
-            TotalsStep::Refused(k2) => TotalsStep::Refused(k2),
-        },
-        WordStep::Refused(k1) => TotalsStep::Refused(k1),
-    }
+    let (_, c) = phis(c, s, h.identifiers)?;
+    let (totals, c) = instructions(c, s, h, totals)?;
+    terminal(c, s, h, totals)
 }
 
-// A block count and the blocks, of which no two have one number.
-pub fn blocks(start: Cursor, s: &[u32], n: u32, m: u32) -> TotalsStep
-    ensures { totals_says result ≡ judge (blocks_of n m) (each (tell_block counting)) nothing_yet s.now start.at }
+// A block count and the blocks, of which no two have one number. Numbers mostly rise, and then none of those before is looked at.
+pub fn blocks(c: Cursor, s: &[u32], h: Heading) -> Step<Totals>
+    ensures { totals_says result ≡ judge (blocks_of h.identifiers h.functions) (each (tell_block counting)) nothing_yet s.now c.at }
 {
-    let mut left: u32;
-    let mut c: Cursor;
-    match start.count(s, MOST_BLOCKS) {
-        WordStep::Got(count, d) => {
-            left = count;
-            c = d;
+    let (count, mut c) = c.count(s, MOST_BLOCKS)?;
+    let mut totals = Totals::default();
+    let mut used = [0; MOST_BLOCKS as usize];
+    let mut above = 0;
+    for k in 0..count as usize {
+        let (BlockId(number), after) = c.block_number(s)?;
+        if number < above && used[..k].contains(&number) {
+            return Err(Refusal::UsedTwice);
         }
-        WordStep::Refused(k1) => {
-            return TotalsStep::Refused(k1);
-        }
+        above = above.max(number + 1);
+        used[k] = number;
+        (totals, c) = block(after, s, h, totals)?;
     }
-    let mut t = Totals {
-        mutations: 0,
-        renders: 0,
-        diagnoses: 0,
-        applies: 0,
-    };
-    let mut used = [0u16; MOST_BLOCKS as usize];
-    let mut free = MOST_BLOCKS as usize;
-    let mut above: u32 = 0;
-    while 0 < left {
-        let number: u32;
-        let c1: Cursor;
-        match c.block_number(s) {
-            BlockStep::Got(b, d1) => {
-                number = b.0;
-                c1 = d1;
-            }
-            BlockStep::Refused(k2) => {
-                return TotalsStep::Refused(k2);
-            }
-        }
-        if crate::phis::repeated(&used, free, above, number) {
-            return TotalsStep::Refused(6);
-        }
-        above = crate::phis::raised(above, number);
-        free -= 1;
-        used[free] = number as u16;
-        match block(c1, s, n, m, t, number) {
-            TotalsStep::Got(u, d2) => {
-                t = u;
-                c = d2;
-            }
-            TotalsStep::Refused(k3) => {
-                return TotalsStep::Refused(k3);
-            }
-        }
-        left -= 1;
-    }
-    TotalsStep::Got(t, c)
+    Ok((totals, c))
 }

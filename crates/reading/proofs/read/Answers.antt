@@ -1,25 +1,26 @@
-use Rattle.reading.proofs.VerdictLaws.{judged_refused, judged_seven, judged_accepted}
-use Rattle.reading.specs.TotalsSays.{totals_says}
+use Rattle.std.proofs.Common.{sym}
+use Rattle.std.proofs.lemmas.Result.{err_from_is_err_and}
 use borrow.Author.Tests.{lt-ltb, le-ltb}
 use Rattle.model.specs.Call.{read}
-use Rattle.hir.proofs.Answers.{says}
+use Rattle.reading.proofs.VerdictLaws.{judged_refused, judged_seven, judged_accepted}
 use Rattle.reading.proofs.read.Goals as goal
 
 pub returns-then-s-gt-MOST_SHEET : goal.returns-then-s-gt-MOST_SHEET
 unfolding read
 returns-then-s-gt-MOST_SHEET c = rw (lt-ltb _ _ c.if-s-gt-MOST_SHEET.true)
 
-pub returns-then-at-s : goal.returns-then-at-s
+pub returns-in_err-totals : goal.returns-in_err-totals
 unfolding read
-returns-then-at-s c =
-    rw (le-ltb _ _ c.if-s-gt-MOST_SHEET.false) (judged_seven _ _ _ (says totals_says c.in-Got.is c.sheet.ensures) c.if-at-s.true)
+returns-in_err-totals c =
+    let e = err_from_is_err_and c.from_residual.result c.from_residual.ensures.1 in
+    rw (e.1, e.2, le-ltb _ _ c.if-s-gt-MOST_SHEET.false) (judged_refused _ _ (sym c.in_err-totals.ensures))
 
-pub returns-else-at-s : goal.returns-else-at-s
+pub returns-then-c-s : goal.returns-then-c-s
 unfolding read
-returns-else-at-s c =
-    rw (le-ltb _ _ c.if-s-gt-MOST_SHEET.false) (judged_accepted _ _ _ (says totals_says c.in-Got.is c.sheet.ensures) c.if-at-s.false)
+returns-then-c-s c =
+    rw (le-ltb _ _ c.if-s-gt-MOST_SHEET.false) (judged_seven _ _ _ (sym c.in_ok-totals.ensures) c.if-c-s.true)
 
-pub returns-in-Refused : goal.returns-in-Refused
+pub returns : goal.returns
 unfolding read
-returns-in-Refused c =
-    rw (le-ltb _ _ c.if-s-gt-MOST_SHEET.false) (judged_refused _ _ (says totals_says c.in-Refused.is c.sheet.ensures))
+returns c =
+    rw (le-ltb _ _ c.if-s-gt-MOST_SHEET.false) (judged_accepted _ _ _ (sym c.in_ok-totals.ensures) c.if-c-s.false)

@@ -1,70 +1,85 @@
-use Rattle.reading.proofs.BlockLaws.{blocks_got, blocks_refused}
-use Rattle.reading.proofs.JudgeLaws.{numbered_next, numbered_refused, numbered_stop, numbered_done, new_got, new_used, new_refused, nothing_used, one-stored, below_none, below-stored}
-use Rattle.reading.specs.TotalsSays.{totals_says}
-use Rattle.hir.specs.Says.{word_says, block_says}
-use Rattle.model.proofs.ReadLaws.{count_reads, at_most_reads}
-use lib.ListN.{length, length-set, replicate}
-use Prim.Native.Nat.{◌≤◌}
-use native.Mathlib.Omega.{arith}
-use mathlib.Core.Path.{◌≡◌, ◌∙◌, sym, refl}
-use Rattle.hir.proofs.Answers.{says}
+use Rattle.std.proofs.Common.{◌≡◌, ℕ, suc, ◌-◌, ◌≤◌, length, length-set, take, reverse, false, refl, sym, ◌∙◌, arith}
 use Rattle.model.specs.Limits.{most_blocks, most_block_number}
+use Rattle.model.specs.Lists.{among}
+use Rattle.model.proofs.ReadLaws.{count_reads, at_most_reads}
+use Rattle.reading.specs.Judging.{nothing_yet}
+use Rattle.reading.specs.TotalsSays.{so_far, totals_says}
+use Rattle.reading.proofs.BlockLaws.{blocks_got, blocks_refused}
+use Rattle.reading.proofs.JudgeLaws.{numbered_next, numbered_refused, numbered_stop, numbered_done, new_got, new_used, new_refused, used_as, latest-stored, stored-any, none_above, below_more, exits}
+use Rattle.reading.proofs.blocks.blocks.Goals.{else-number-above-via-then-number-above+else-contains, else-number-above-via-else-number-above}
 use Rattle.reading.proofs.blocks.blocks.Goals as goal
 
-pub returns-in-Refused : goal.returns-in-Refused
-returns-in-Refused c =
-    sym (blocks_refused _ _ _ _ _ _ (says word_says c.in-Refused.is c.count.ensures))
+pub returns-in_err-count : goal.returns-in_err-count
+returns-in_err-count c = exits totals_says (λ k. refl) _ _ c.from_residual.ensures.1 (blocks_refused _ _ _ _ _ _ (sym c.in_err-count.ensures))
 
-pub loop-left-init : goal.loop-left-init
-loop-left-init c =
-    (nothing_used _ _ _ _ (replicate most_blocks 0) most_blocks _ _ refl, count_reads most_blocks _ _ _ _ (says word_says c.in-Got.is c.count.ensures), omega arith, refl, below_none 0 most_blocks (replicate most_blocks 0) refl)
-
-pub returns-in-Refused-block_number : goal.returns-in-Refused-block_number
-returns-in-Refused-block_number c =
-    sym (blocks_got _ _ _ _ _ _ _ (says word_says c.in-Got.is c.count.ensures)
-    ∙ c.loop-left.invariant.0
-    ∙ numbered_refused _ _ _ _ _ _ _ _ c.loop-left-test.true (new_refused _ _ _ _ (says block_says c.in-Refused-block_number.is c.block_number.ensures)))
-
-pub slice_bounds-repeated-end : goal.slice_bounds-repeated-end
-slice_bounds-repeated-end c =
-    sym c.loop-left.invariant.3
-
-pub repeated-requires : goal.repeated-requires
-repeated-requires c =
+pub loop-k-init : goal.loop-k-init
+loop-k-init c =
+    let e = c.default-totals.ensures in
     record {
-      from_in_bounds = omega (arith, c.loop-left.invariant.3);
-      every = c.loop-left.invariant.4;
-      number_le_most_block_number =
-          at_most_reads most_block_number _ _ _ _ (says block_says c.in-Got-block_number.is c.block_number.ensures);
+      told = λ j z. (let q : j ≡ c.in_ok-count.count = omega arith in let n : nothing_yet ≡ so_far c.default-totals.result = rw (e.0, e.1.0, e.1.1.0, e.1.1.1) in rw (q, n));
+      few = count_reads most_blocks _ _ _ _ (sym c.in_ok-count.ensures);
+      long = refl;
+      below = tt;
     }
 
-pub returns-then-repeated : goal.returns-then-repeated
-returns-then-repeated c =
-    sym (blocks_got _ _ _ _ _ _ _ (says word_says c.in-Got.is c.count.ensures) ∙ c.loop-left.invariant.0 ∙ numbered_refused _ _ _ _ _ _ _ _ c.loop-left-test.true (new_used _ _ _ _ _ (says block_says c.in-Got-block_number.is c.block_number.ensures) (sym c.repeated.ensures ∙ c.if-repeated.true)))
+pub returns-in_err-number : goal.returns-in_err-number
+returns-in_err-number c =
+    exits totals_says (λ k. refl) _ _ c.from_residual-in_err-number.ensures.1
+    (blocks_got _ _ _ _ _ _ _ (sym c.in_ok-count.ensures)
+    ∙ c.loop-k.invariant.told (suc (c.in_ok-count.count - c.loop-k.k - 1)) (omega arith)
+    ∙ numbered_refused _ _ _ _ _ _ _ _ (new_refused _ _ _ _ (sym c.in_err-number.ensures)))
 
-pub raised-above-requires : goal.raised-above-requires
-raised-above-requires c =
-    at_most_reads most_block_number _ _ _ _ (says block_says c.in-Got-block_number.is c.block_number.ensures)
+pub returns-then-contains : goal.returns-then-contains
+returns-then-contains c =
+    let l = c.loop-k in
+    let k : ℕ = c.in_ok-count.count - l.k - 1 in
+    let named = sym (stored-any _ (take l.k l.used)) ∙ sym c.contains.ensures.value ∙ c.if-contains.true in
+    sym (blocks_got _ _ _ _ _ _ _ (sym c.in_ok-count.ensures)
+    ∙ l.invariant.told (suc k) (omega arith)
+    ∙ numbered_refused _ _ _ _ _ _ _ _ (new_used _ _ _ _ _ (sym c.in_ok-number.ensures) named))
 
-pub overflow_cast-used : goal.overflow_cast-used
-overflow_cast-used c =
-    let few : c.in-Got-block_number.b.0 ≤ most_block_number = at_most_reads most_block_number _ _ _ _ (says block_says c.in-Got-block_number.is c.block_number.ensures) in omega (arith, few)
+pub overflow_add-number : goal.overflow_add-number
+overflow_add-number c =
+    let h : c.in_ok-number.field-0-0.0 ≤ most_block_number = at_most_reads most_block_number _ _ _ _ (sym c.in_ok-number.ensures) in
+    omega arith
 
-pub returns-in-Refused-block : goal.returns-in-Refused-block
-returns-in-Refused-block c =
-    sym (blocks_got _ _ _ _ _ _ _ (says word_says c.in-Got.is c.count.ensures)
-    ∙ c.loop-left.invariant.0
-    ∙ numbered_stop _ _ _ _ _ _ _ _ _ _ c.loop-left-test.true (new_got _ _ _ _ _ (says block_says c.in-Got-block_number.is c.block_number.ensures) (sym c.repeated.ensures
-    ∙ c.if-repeated.false)) (says totals_says c.in-Refused-block.is c.block.ensures))
+pub returns-in_err-totals : goal.returns-in_err-totals
+returns-in_err-totals c =
+    let l = c.loop-k in
+    let x : ℕ = c.in_ok-number.field-0-0.0 in
+    let fresh : among x (reverse (take l.k l.used)) ≡ false =
+    elim c.else-number-above.branch [
+      | else-number-above-via-then-number-above+else-contains w ↦ sym (stored-any x (take l.k l.used)) ∙ sym w.contains.ensures.value ∙ w.if-contains.false
+      | else-number-above-via-else-number-above w ↦ sym (none_above x l.above _ w.if-number-above.false l.invariant.below)
+    ] in
+    exits totals_says (λ k. refl) _ _ c.from_residual-in_err-totals.ensures.1
+    (blocks_got _ _ _ _ _ _ _ (sym c.in_ok-count.ensures)
+    ∙ l.invariant.told (suc (c.in_ok-count.count - l.k - 1)) (omega arith)
+    ∙ numbered_stop _ _ _ _ _ _ _ _ _ _ (new_got _ _ _ _ _ (sym c.in_ok-number.ensures) fresh) (sym (c.in_err-totals.ensures x)))
 
-pub loop-left-preserved : goal.loop-left-preserved
-loop-left-preserved c =
-    let l = c.loop-left in
-    let e : length l.used ≡ most_blocks = l.invariant.3 in
-    (l.invariant.0 ∙ numbered_next _ _ _ _ _ _ _ _ _ _ _ c.loop-left-test.true (new_got _ _ _ _ _ (says block_says c.in-Got-block_number.is c.block_number.ensures) (sym c.repeated.ensures ∙ c.if-repeated.false)) (says totals_says c.in-Got-block.is c.block.ensures) ∙ one-stored _ _ _ _ l.used l.free _ _ _ (omega arith) (omega arith), omega arith, omega arith, simp length-set e, below-stored l.used l.free _ _ _ (omega arith) (omega arith) l.invariant.4 c.raised-above.ensures)
+pub loop-k-preserved : goal.loop-k-preserved
+loop-k-preserved c =
+    let l = c.loop-k in
+    let x : ℕ = c.in_ok-number.field-0-0.0 in
+    let fresh : among x (reverse (take l.k l.used)) ≡ false =
+    elim c.else-number-above.branch [
+      | else-number-above-via-then-number-above+else-contains w ↦ sym (stored-any x (take l.k l.used)) ∙ sym w.contains.ensures.value ∙ w.if-contains.false
+      | else-number-above-via-else-number-above w ↦ sym (none_above x l.above _ w.if-number-above.false l.invariant.below)
+    ] in
+    let long : length l.used ≡ most_blocks = l.invariant.long in
+    let latest = latest-stored l.used l.k x (omega arith) in
+    record {
+      told = λ j z.
+          l.invariant.told (suc j) (omega arith)
+          ∙ numbered_next _ _ _ _ _ _ _ _ _ _ _ (new_got _ _ _ _ _ (sym c.in_ok-number.ensures) fresh) (sym (c.in_ok-totals.ensures x))
+          ∙ used_as _ _ _ _ _ _ _ _ (sym latest);
+      few = l.invariant.few;
+      long = simp length-set long;
+      below = rw latest (below_more _ _ _ _ l.invariant.below (omega arith, omega arith));
+    }
 
 pub returns : goal.returns
 returns c =
-    sym (blocks_got _ _ _ _ _ _ _ (says word_says c.in-Got.is c.count.ensures)
-    ∙ c.loop-left.invariant.0
-    ∙ numbered_done _ _ _ _ _ _ _ c.loop-left-test.false)
+    sym (blocks_got _ _ _ _ _ _ _ (sym c.in_ok-count.ensures)
+    ∙ c.loop-k.invariant.told 0 (omega arith)
+    ∙ numbered_done _ _ _ _ _ _)

@@ -1,24 +1,11 @@
-use Rattle.reading.proofs.JudgeLaws.{times_next, section_stop, section_done, section_refused}
-use Rattle.reading.specs.TotalsSays.{totals_says}
-use Rattle.hir.specs.Says.{word_says}
-use mathlib.Core.Path.{◌∙◌, sym, refl}
-use Rattle.hir.proofs.Answers.{says}
+use Rattle.std.proofs.Common.{rules, refl, sym, ◌∙◌}
+use Rattle.reading.specs.TotalsSays.{so_far, totals_says}
+use Rattle.reading.proofs.JudgeLaws.{section_got, section_refused, times_said, exits}
 use Rattle.reading.proofs.blocks.instructions.Goals as goal
 
-pub returns-in-Refused : goal.returns-in-Refused
-returns-in-Refused c = sym (section_refused _ _ _ _ _ _ _ (says word_says c.in-Refused.is c.count.ensures))
-
-pub loop-left-init : goal.loop-left-init
-loop-left-init c = refl
-
-pub returns-in-Refused-instruction : goal.returns-in-Refused-instruction
-returns-in-Refused-instruction c =
-    sym (section_stop _ _ _ _ _ _ _ _ (says word_says c.in-Got.is c.count.ensures) _ _ _ c.loop-left.invariant _ c.loop-left-test.true (says totals_says c.in-Refused-instruction.is c.instruction.ensures))
-
-pub loop-left-preserved : goal.loop-left-preserved
-loop-left-preserved c =
-    c.loop-left.invariant ∙ times_next _ _ _ _ _ _ _ _ c.loop-left-test.true (says totals_says c.in-Got-instruction.is c.instruction.ensures)
+pub returns-in_err-count : goal.returns-in_err-count
+returns-in_err-count c = exits totals_says (λ k. refl) _ _ c.from_residual.ensures.1 (section_refused _ _ _ _ _ _ _ (sym c.in_err-count.ensures))
 
 pub returns : goal.returns
 returns c =
-    sym (section_done _ _ _ _ _ _ _ _ (says word_says c.in-Got.is c.count.ensures) _ _ _ c.loop-left.invariant c.loop-left-test.false)
+    times_said _ _ _ totals_says (λ p. so_far p.0) (λ p. p.1.at) (λ p. refl) (λ e. refl) _ (λ p r k. search rules) _ _ _ c.times.ensures ∙ sym (section_got _ _ _ _ _ _ _ _ (sym c.in_ok-count.ensures))

@@ -1,54 +1,71 @@
-use Rattle.model.proofs.ReadLaws.{at_most_reads}
-use Rattle.reading.proofs.BlockLaws.{operand_got, operand_refused}
-use Rattle.reading.proofs.JudgeLaws.{numbered_next, numbered_refused, numbered_stop, numbered_done, new_got, new_used, new_refused, used_as}
-use Rattle.reading.proofs.OperandLaws.{none_before, at_most_read, whole_next, one-read, below-read}
-use Rattle.hir.specs.Says.{block_says, place_says}
-use native.Mathlib.Omega.{arith}
-use mathlib.Core.Path.{◌∙◌, sym}
-use Rattle.hir.proofs.Answers.{says}
+use Rattle.std.proofs.Common.{refl, ◌≡◌, ℕ, suc, ◌-◌, ◌≤◌, false, sym, ◌∙◌, arith}
+use Rattle.model.specs.Lists.{among}
 use Rattle.model.specs.Limits.{most_block_number}
+use Rattle.model.proofs.ReadLaws.{at_most_reads}
+use Rattle.reading.specs.Operands.{predecessors}
+use Rattle.reading.proofs.BlockLaws.{operand_got, operand_refused}
+use Rattle.reading.specs.Says.{cursor_says}
+use Rattle.reading.proofs.JudgeLaws.{numbered_next, numbered_refused, numbered_stop, numbered_done, new_got, new_used, new_refused, used_as, none_above, exits}
+use Rattle.reading.proofs.OperandLaws.{none_before, at_most_read, whole_next, one-read, below-read}
+use Rattle.reading.proofs.phis.operands.Goals.{else-number-above-via-then-number-above+else-among_operands, else-number-above-via-else-number-above}
 use Rattle.reading.proofs.phis.operands.Goals as goal
 
-pub loop-left-init : goal.loop-left-init
-loop-left-init c =
+pub loop-init : goal.loop-init
+loop-init c =
+    let e = none_before c.args.s.now c.args.start.at in
+    record { told = λ k z. (let q : k ≡ c.args.count = omega arith in rw q (used_as _ _ _ _ _ _ _ _ (sym e))); whole = omega arith; below = rw e tt }
+
+pub returns-in_err-number : goal.returns-in_err-number
+returns-in_err-number c =
+    exits cursor_says (λ k. refl) _ _ c.from_residual.ensures.1
+    (c.loop.invariant.told (suc (c.args.count - c.loop.counter - 1)) (omega arith) ∙ numbered_refused _ _ _ _ _ _ _ _ (new_refused _ _ _ _ (sym c.in_err-number.ensures)))
+
+pub among_operands-requires-clause-to_in_bounds : goal.among_operands-requires-clause-to_in_bounds
+among_operands-requires-clause-to_in_bounds c =
+    let q = at_most_read most_block_number c.args.s.now c.loop.c.at _ _ (sym c.in_ok-number.ensures) in
+    omega (arith, q.1, q.2)
+
+pub returns-then-among_operands : goal.returns-then-among_operands
+returns-then-among_operands c =
+    sym (c.loop.invariant.told (suc (c.args.count - c.loop.counter - 1)) (omega arith)
+    ∙ numbered_refused _ _ _ _ _ _ _ _ (new_used _ _ _ _ _ (sym c.in_ok-number.ensures) (sym c.if-among_operands.ensures)))
+
+pub overflow_add-number : goal.overflow_add-number
+overflow_add-number c =
+    let h : c.in_ok-number.field-0-0.0 ≤ most_block_number = at_most_reads most_block_number _ _ _ _ (sym c.in_ok-number.ensures) in
+    omega arith
+
+pub returns-in_err-c : goal.returns-in_err-c
+returns-in_err-c c =
+    let l = c.loop in
     let a = c.args in
-    let e = none_before a.s.now a.start.at in
-    (used_as _ _ _ _ _ _ _ _ (sym e), omega arith, rw e tt)
+    let x : ℕ = c.in_ok-number.field-0-0.0 in
+    let fresh : among x (predecessors a.s.now a.start.at l.c.at) ≡ false =
+    elim c.else-number-above.branch [
+      | else-number-above-via-then-number-above+else-among_operands w ↦ sym w.among_operands.ensures ∙ w.if-among_operands.false
+      | else-number-above-via-else-number-above w ↦ sym (none_above x l.above _ w.if-number-above.false l.invariant.below)
+    ] in
+    exits cursor_says (λ k. refl) _ _ c.from_residual-in_err-c.ensures.1
+    (l.invariant.told (suc (a.count - l.counter - 1)) (omega arith)
+    ∙ numbered_stop _ _ _ _ _ _ _ _ _ _ (new_got _ _ _ _ _ (sym c.in_ok-number.ensures) fresh) (operand_refused _ _ _ _ _ (sym c.in_err-c.ensures)))
 
-pub returns-in-Refused : goal.returns-in-Refused
-returns-in-Refused c =
-    sym (c.loop-left.invariant.0
-    ∙ numbered_refused _ _ _ _ _ _ _ _ c.loop-left-test.true (new_refused _ _ _ _ (says block_says c.in-Refused.is c.block_number.ensures)))
-
-pub repeated_operand-requires : goal.repeated_operand-requires
-repeated_operand-requires c =
-    let l = c.loop-left in
-    let q = at_most_read most_block_number c.args.s.now l.c.at _ _ (says block_says c.in-Got.is c.block_number.ensures) in
-    record { whole = l.invariant.1; to_in_bounds = omega (arith, q.1, q.2); every = l.invariant.2 }
-
-pub returns-then-repeated_operand : goal.returns-then-repeated_operand
-returns-then-repeated_operand c =
-    sym (c.loop-left.invariant.0
-    ∙ numbered_refused _ _ _ _ _ _ _ _ c.loop-left-test.true (new_used _ _ _ _ _ (says block_says c.in-Got.is c.block_number.ensures) (sym c.repeated_operand.ensures
-    ∙ c.if-repeated_operand.true)))
-
-pub raised-above-requires : goal.raised-above-requires
-raised-above-requires c =
-    at_most_reads most_block_number _ _ _ _ (says block_says c.in-Got.is c.block_number.ensures)
-
-pub returns-in-Refused-place : goal.returns-in-Refused-place
-returns-in-Refused-place c =
-    sym (c.loop-left.invariant.0
-    ∙ numbered_stop _ _ _ _ _ _ _ _ _ _ c.loop-left-test.true (new_got _ _ _ _ _ (says block_says c.in-Got.is c.block_number.ensures) (sym c.repeated_operand.ensures
-    ∙ c.if-repeated_operand.false)) (operand_refused _ _ _ _ _ (says place_says c.in-Refused-place.is c.place.ensures)))
-
-pub loop-left-preserved : goal.loop-left-preserved
-loop-left-preserved c =
-    let l = c.loop-left in
+pub loop-preserved : goal.loop-preserved
+loop-preserved c =
+    let l = c.loop in
     let a = c.args in
-    let q = says block_says c.in-Got.is c.block_number.ensures in
-    let r = says place_says c.in-Got-place.is c.place.ensures in
-    (l.invariant.0 ∙ numbered_next _ _ _ _ _ _ _ _ _ _ _ c.loop-left-test.true (new_got _ _ _ _ _ q (sym c.repeated_operand.ensures ∙ c.if-repeated_operand.false)) (operand_got _ _ _ _ _ _ r) ∙ used_as _ _ _ _ _ _ _ _ (one-read a.s.now a.start.at l.c.at _ _ _ _ _ q r l.invariant.1), whole_next a.s.now a.start.at l.c.at _ _ _ _ _ q r l.invariant.1, below-read a.s.now a.start.at l.c.at _ _ _ _ _ q r l.invariant.1 _ _ l.invariant.2 c.raised-above.ensures)
+    let x : ℕ = c.in_ok-number.field-0-0.0 in
+    let q = sym c.in_ok-number.ensures in
+    let r = sym c.in_ok-c.ensures in
+    let fresh : among x (predecessors a.s.now a.start.at l.c.at) ≡ false =
+    elim c.else-number-above.branch [
+      | else-number-above-via-then-number-above+else-among_operands w ↦ sym w.among_operands.ensures ∙ w.if-among_operands.false
+      | else-number-above-via-else-number-above w ↦ sym (none_above x l.above _ w.if-number-above.false l.invariant.below)
+    ] in
+    record {
+      told = λ k z. l.invariant.told (suc k) (omega arith) ∙ numbered_next _ _ _ _ _ _ _ _ _ _ _ (new_got _ _ _ _ _ q fresh) (operand_got _ _ _ _ _ _ r) ∙ used_as _ _ _ _ _ _ _ _ (one-read a.s.now a.start.at l.c.at _ _ _ _ _ q r l.invariant.whole);
+      whole = whole_next a.s.now a.start.at l.c.at _ _ _ _ _ q r l.invariant.whole;
+      below = below-read a.s.now a.start.at l.c.at _ _ _ _ _ q r l.invariant.whole _ _ l.invariant.below (omega arith, omega arith);
+    }
 
 pub returns : goal.returns
-returns c = sym (c.loop-left.invariant.0 ∙ numbered_done _ _ _ _ _ _ _ c.loop-left-test.false)
+returns c = sym (c.loop.invariant.told 0 (omega arith) ∙ numbered_done _ _ _ _ _ _)

@@ -1,18 +1,15 @@
+use Rattle.std.proofs.Common.{refl, sym, ◌∙◌}
+use Rattle.reading.specs.Says.{cursor_says}
+use Rattle.reading.proofs.JudgeLaws.{exits}
 use Rattle.reading.proofs.BlockLaws.{phi_got, phi-place_refused, phi-count_refused}
-use Rattle.hir.specs.Says.{word_says, place_says}
-use mathlib.Core.Path.{◌∙◌, sym}
-use Rattle.hir.proofs.Answers.{says}
 use Rattle.reading.proofs.phis.phi.Goals as goal
 
-pub returns-in-Got-count : goal.returns-in-Got-count
-returns-in-Got-count c =
-    c.operands.ensures
-    ∙ sym (phi_got _ _ _ _ _ _ _ (says place_says c.in-Got.is c.place.ensures) (says word_says c.in-Got-count.is c.count.ensures))
+pub returns-in_err-c : goal.returns-in_err-c
+returns-in_err-c c = exits cursor_says (λ k. refl) _ _ c.from_residual.ensures.1 (phi-place_refused _ _ _ _ (sym c.in_err-c.ensures))
 
-pub returns-in-Refused-count : goal.returns-in-Refused-count
-returns-in-Refused-count c =
-    sym (phi-count_refused _ _ _ _ _ _ (says place_says c.in-Got.is c.place.ensures) (says word_says c.in-Refused-count.is c.count.ensures))
+pub returns-in_err-count : goal.returns-in_err-count
+returns-in_err-count c =
+    exits cursor_says (λ k. refl) _ _ c.from_residual-in_err-count.ensures.1 (phi-count_refused _ _ _ _ _ _ (sym c.in_ok-c.ensures) (sym c.in_err-count.ensures))
 
-pub returns-in-Refused : goal.returns-in-Refused
-returns-in-Refused c =
-    sym (phi-place_refused _ _ _ _ (says place_says c.in-Refused.is c.place.ensures))
+pub returns : goal.returns
+returns c = c.operands.ensures ∙ sym (phi_got _ _ _ _ _ _ _ (sym c.in_ok-c.ensures) (sym c.in_ok-count.ensures))

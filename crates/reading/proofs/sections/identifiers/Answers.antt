@@ -1,4 +1,10 @@
+use Rattle.std.proofs.Common.{rules, ◌∙◌}
+use Rattle.model.specs.Sections.{identifier}
+use Rattle.reading.specs.Judging.{telling}
+use Rattle.reading.specs.Whole.{skip}
+use Rattle.reading.proofs.SectionLaws.{counted_skipped}
 use Rattle.reading.proofs.sections.identifiers.Goals as goal
 
 pub returns : goal.returns
-returns c = c.section.ensures
+unfolding telling
+returns c = c.section.ensures (telling identifier skip tt) (λ d r k. search rules) ∙ counted_skipped identifier _ _ _

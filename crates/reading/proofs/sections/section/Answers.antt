@@ -1,26 +1,20 @@
-use Rattle.reading.proofs.SectionLaws.{section-read, section_stopped, count_stopped}
-use Rattle.reading.proofs.JudgeLaws.{times_next, times_stop, times_done}
-use Rattle.hir.specs.Says.{word_says}
+use Rattle.std.proofs.Common.{refl, sym, ◌∙◌}
 use Rattle.reading.specs.Says.{cursor_says}
-use mathlib.Core.Path.{◌∙◌, sym, refl}
-use Rattle.hir.proofs.Answers.{says}
+use Rattle.reading.specs.Whole.{skip}
+use Rattle.hir.specs.Says.{word_says}
+use Rattle.reading.proofs.JudgeLaws.{times_said, exits}
+use Rattle.reading.proofs.SectionLaws.{skipped, section-read, section_stopped, count_stopped}
 use Rattle.reading.proofs.sections.section.Goals as goal
 
-pub returns-in-Refused : goal.returns-in-Refused
-returns-in-Refused c = sym (count_stopped _ _ _ _ _ (says word_says c.in-Refused.is c.count.ensures))
+pub returns-in_err-count : goal.returns-in_err-count
+returns-in_err-count g c f h = exits word_says (λ k. refl) _ _ c.from_residual.ensures.1 (count_stopped _ _ _ _ _ (sym c.in_err-count.ensures))
 
-pub loop-left-init : goal.loop-left-init
-loop-left-init c = refl
-
-pub returns-in-Refused-read_part : goal.returns-in-Refused-read_part
-returns-in-Refused-read_part c =
-    sym (section_stopped _ _ _ _ _ _ _ (says word_says c.in-Got.is c.count.ensures) (c.loop-left.invariant
-    ∙ times_stop _ _ _ _ _ _ _ c.loop-left-test.true (says cursor_says c.in-Refused-read_part.is c.read_part.ensures)))
-
-pub loop-left-preserved : goal.loop-left-preserved
-loop-left-preserved c =
-    c.loop-left.invariant ∙ times_next _ _ _ _ _ _ _ _ c.loop-left-test.true (says cursor_says c.in-Got-read_part.is c.read_part.ensures)
+pub returns-in_err-c : goal.returns-in_err-c
+returns-in_err-c g c f h =
+    let t = times_said (λ (u : Unit {0}). f) skip c.args.s.now cursor_says (λ q. tt) (λ q. q.at) (λ q. refl) (λ e. refl) _ (λ q r k. h q r k ∙ skipped f c.args.s.now q.at) _ _ _ c.in_err-c.ensures in
+    exits word_says (λ k. refl) _ _ c.from_residual-in_err-c.ensures.1 (section_stopped _ _ _ _ _ _ _ (sym c.in_ok-count.ensures) (sym t))
 
 pub returns : goal.returns
-returns c =
-    sym (section-read _ _ _ _ _ _ _ (says word_says c.in-Got.is c.count.ensures) (c.loop-left.invariant ∙ times_done _ _ _ _ _ _ c.loop-left-test.false))
+returns g c f h =
+    let t = times_said (λ (u : Unit {0}). f) skip c.args.s.now cursor_says (λ q. tt) (λ q. q.at) (λ q. refl) (λ e. refl) _ (λ q r k. h q r k ∙ skipped f c.args.s.now q.at) _ _ _ c.in_ok-c.ensures in
+    sym (section-read _ _ _ _ _ _ _ (sym c.in_ok-count.ensures) (sym t))

@@ -1,63 +1,18 @@
-use Rattle.hir.proofs.EffectKinds.{number_same}
-use Rattle.reading.specs.Judging.{tell_kind}
+use Rattle.std.proofs.Common.{◌≡◌, sym, ◌∙◌, true, false, eqb}
+use Rattle.hir.specs.Numbers.{kind_number}
+use Rattle.hir.specs.declared.EffectKind.TheVariants.{Apply}
+use Rattle.hir.proofs.EffectKinds.{number_same, kinds_equal}
+use Rattle.reading.specs.Judging.{tell_kind, with_apply}
 use Rattle.reading.proofs.blocks.Totals.effect.Goals as goal
 
-pub returns-then-terminal : goal.returns-then-terminal
-unfolding tell_kind
-returns-then-terminal c = rw c.if-terminal.true
-
-pub returns-then-is : goal.returns-then-is
-unfolding tell_kind
-returns-then-is c =
-    rw (
-      c.if-terminal.false,
-      ← c.role_of-role.ensures,
-      c.in-Nothing.is,
-      number_same,
-      ← c.is.ensures,
-      c.if-is.true,
-    ) c.apply.ensures
+pub returns-in-Nothing : goal.returns-in-Nothing
+unfolding tell_kind with_apply
+returns-in-Nothing c =
+    let e : eqb (kind_number c.args.kind) 12 ≡ true = sym (kinds_equal c.args.kind Apply) ∙ sym c.eq.ensures ∙ c.if-eq.true in
+    rw (c.if-terminal.false, ← c.in-Nothing.ensures, number_same, e)
 
 pub returns-in-Relation : goal.returns-in-Relation
 unfolding tell_kind
 returns-in-Relation c =
-    rw (c.if-terminal.false, ← c.role_of-role.ensures, c.in-Relation.is)
-
-pub returns-in-Mutation : goal.returns-in-Mutation
-unfolding tell_kind
-returns-in-Mutation c =
-    rw (
-      c.if-terminal.false,
-      ← c.role_of-role.ensures,
-      c.in-Mutation.is,
-    ) c.mutation.ensures
-
-pub returns-in-Render : goal.returns-in-Render
-unfolding tell_kind
-returns-in-Render c =
-    rw (
-      c.if-terminal.false,
-      ← c.role_of-role.ensures,
-      c.in-Render.is,
-    ) c.render.ensures
-
-pub returns-in-Diagnosis : goal.returns-in-Diagnosis
-unfolding tell_kind
-returns-in-Diagnosis c =
-    rw (
-      c.if-terminal.false,
-      ← c.role_of-role.ensures,
-      c.in-Diagnosis.is,
-    ) c.diagnosis.ensures
-
-pub returns-else-is : goal.returns-else-is
-unfolding tell_kind
-returns-else-is c =
-    rw (
-      c.if-terminal.false,
-      ← c.role_of-role.ensures,
-      c.in-Nothing.is,
-      number_same,
-      ← c.is.ensures,
-      c.if-is.false,
-    )
+    let e : eqb (kind_number c.args.kind) 12 ≡ false = sym (kinds_equal c.args.kind Apply) ∙ sym c.eq.ensures ∙ c.if-eq.false in
+    rw (c.if-terminal.false, ← c.in-Nothing.ensures, number_same, e)

@@ -1,0 +1,10 @@
+use Rattle.std.proofs.Common.{rules, ◌∙◌}
+use Rattle.model.specs.Sections.{diagnostic}
+use Rattle.reading.specs.Judging.{telling}
+use Rattle.reading.specs.Whole.{skip}
+use Rattle.reading.proofs.SectionLaws.{counted_skipped}
+use Rattle.reading.proofs.sections.diagnostics.Goals as goal
+
+pub returns : goal.returns
+unfolding telling
+returns c = c.section.ensures (telling diagnostic skip tt) (λ d r k. search rules) ∙ counted_skipped diagnostic _ _ _
