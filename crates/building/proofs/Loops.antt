@@ -1,72 +1,92 @@
 -- The loops over a log.
-use Prim.Native.Nat.{ℕ, suc, ◌+◌, ◌≤◌, ◌<◌}
+use Prim.Native.Nat.{ℕ, suc, ◌+◌, ◌-◌, ◌≤◌, ◌<◌}
 use native.Mathlib.Omega.{arith}
-use native.Mathlib.Nat.{add-zero}
-use mathlib.Core.Bool.{Bool, true, false, true≢false}
+use native.Mathlib.Decide.{dec_lt, ℕ_discrete}
+use mathlib.Core.Bool.{Bool, true, false, not, cond, ◌||◌, true≢false}
+use Rattle.std.specs.Prelude.{Option, None, Some, nat_lt}
+use Rattle.std.specs.Option.{unwrap_or}
+use Rattle.std.specs.List.{between, list_any, position, position_or_len}
+use Rattle.std.proofs.lemmas.List.Sums.{prefix_len-le-length}
+use Rattle.std.proofs.lemmas.Slice.{between_is}
+use lib.Dec.{eqb}
 use mathlib.Core.List.{List, [], ◌∷◌, ◌++◌, append-nil}
 use mathlib.Core.Path.{◌≡◌, refl, sym, ap, ◌∙◌}
-use lib.ListN.{length, get_or, set, drop}
-use lib.Seq.{slice, slice-cons, slice_empty, drop-set-lt, append_snoc}
-use borrow.Author.Tests.{eq-eqb, ne_eqb}
+use lib.ListN.{length, get_or, set, take, drop}
+use lib.Seq.{slice, length-slice, take-take, slice-cons, slice_empty, drop-set-lt, append_snoc}
+use borrow.Author.Tests.{eq-eqb, ne_eqb, lt-ltb, le-ltb}
 use Rattle.model.specs.Lists.{pick}
 use Rattle.workspace.specs.Rows.{Kept}
 use Rattle.workspace.proofs.Parts.{drop_more, drop-word, slice_split, slice_push, kept_none, kept_set}
 use Rattle.building.specs.Logs.{owner_w, owns_w, without, any_p}
 use Rattle.building.specs.Held.{Others, Left}
 
--- ---- a test of every word: what is found and what is left to test decide as the whole does
-pub record Testing (test : ℕ → Bool) (at : ℕ) (ws : List ℕ) (n : ℕ) (found : Bool) (i : ℕ) : Type 0 where
-  pub mid : i ≤ n
-  pub rest : pick found true (any_p test (slice (at + i) (at + n) ws)) ≡ any_p test (slice at (at + n) ws)
+-- ---- a test of the words of a part, by the library's names
+any_list : (test : ℕ → Bool) (l : List ℕ) → list_any test l ≡ any_p test l
+unfolding any_p
+any_list test [] = refl
+any_list test (v ∷ l) = go (test v) (any_list test l)
+  where
+    go : (b : Bool) → list_any test l ≡ any_p test l → (b || list_any test l) ≡ pick b true (any_p test l)
+    go true e = refl
+    go false e = e
 
-pick_true : (b : Bool) → pick b true true ≡ true
-pick_true true = refl
-pick_true false = refl
+pub any_part : (test : ℕ → Bool) (at n : ℕ) (ws : List ℕ) → list_any test (between at (at + n) ws) ≡ any_p test (slice at (at + n) ws)
+any_part test at n ws = ap (list_any test) (between_is ws at (at + n)) ∙ any_list test (slice at (at + n) ws)
 
-pick_self : (b : Bool) → pick b true false ≡ b
-pick_self true = refl
-pick_self false = refl
+-- a word among them
+equal_turned : (v w : ℕ) → eqb w v ≡ eqb v w
+equal_turned v w = go (ℕ_discrete w v)
+  where
+    go : Dec (w ≡ v) → eqb w v ≡ eqb v w
+    go (yes e) = eq-eqb w v e ∙ sym (eq-eqb v w (sym e))
+    go (no e) = ne_eqb w v e ∙ sym (ne_eqb v w (λ p. e (sym p)))
 
-module _ (test : ℕ → Bool) (at : ℕ) (ws : List ℕ) (n : ℕ) (found : Bool) (i : ℕ) (size : at + n ≤ length ws) where
-  pub test_start : Testing test at ws n false 0
-  test_start = record { mid = omega arith; rest = ap (λ (j : ℕ). any_p test (slice j (at + n) ws)) (add-zero at) }
+any_turned : (v : ℕ) (l : List ℕ) → any_p (λ (w : ℕ). eqb w v) l ≡ any_p (eqb v) l
+unfolding any_p
+any_turned v [] = refl
+any_turned v (w ∷ l) = ap (λ (b : Bool). pick b true (any_p (λ (u : ℕ). eqb u v) l)) (equal_turned v w) ∙ ap (pick (eqb v w) true) (any_turned v l)
 
-  module _ (c : Testing test at ws n found i) (h : i < n) where
-    next : slice (at + i) (at + n) ws ≡ get_or ws (at + i) 0 ∷ slice (at + (i + 1)) (at + n) ws
-    next =
-        let q : at + (i + 1) ≡ suc (at + i) = omega arith in
-        slice-cons (at + i) (at + n) ws 0 (omega arith) size ∙ ap (λ (j : ℕ). get_or ws (at + i) 0 ∷ slice j (at + n) ws) (sym q)
-
-    hit : test (get_or ws (at + i) 0) ≡ true → any_p test (slice (at + i) (at + n) ws) ≡ true
-    unfolding any_p
-    hit e = rw (next, e)
-
-    passed : test (get_or ws (at + i) 0) ≡ false → any_p test (slice (at + i) (at + n) ws) ≡ any_p test (slice (at + (i + 1)) (at + n) ws)
-    unfolding any_p
-    passed e = rw (next, e)
-
-    pub test_found : test (get_or ws (at + i) 0) ≡ true → Testing test at ws n true (i + 1)
-    test_found e = record { mid = omega arith; rest = sym (pick_true found) ∙ ap (pick found true) (sym (hit e)) ∙ c.rest }
-
-    pub test_turn : test (get_or ws (at + i) 0) ≡ false → Testing test at ws n found (i + 1)
-    test_turn e = record { mid = omega arith; rest = ap (pick found true) (sym (passed e)) ∙ c.rest }
-
-  none_there : i ≡ n → any_p test (slice (at + i) (at + n) ws) ≡ false
-  unfolding any_p
-  none_there q = rw (q, slice_empty (at + n) ws)
-
-  pub test_end : Testing test at ws n found i → n ≤ i → found ≡ any_p test (slice at (at + n) ws)
-  test_end c h = sym (pick_self found) ∙ ap (pick found true) (sym (none_there (omega (arith, c.mid)))) ∙ c.rest
+pub contains_part : (v at n : ℕ) (ws : List ℕ) → list_any (λ (w : ℕ). eqb w v) (between at (at + n) ws) ≡ any_p (eqb v) (slice at (at + n) ws)
+contains_part v at n ws = any_part (λ (w : ℕ). eqb w v) at n ws ∙ any_turned v (slice at (at + n) ws)
 
 -- ---- words at the front of which none passes the test
-pub none_both : (test : ℕ → Bool) (l m : List ℕ) → any_p test l ≡ false → any_p test m ≡ false → any_p test (l ++ m) ≡ false
+front_none : (test : ℕ → Bool) (l : List ℕ) → any_p test (take (position_or_len test l) l) ≡ false
 unfolding any_p
-none_both test [] m p q = q
-none_both test (v ∷ l) m p q = go (none_both test l m) (test v) p
+front_none test [] = refl
+front_none test (v ∷ l) = go (test v) refl (front_none test l)
   where
-    go : (any_p test l ≡ false → any_p test m ≡ false → any_p test (l ++ m) ≡ false) → (b : Bool) → pick b true (any_p test l) ≡ false → pick b true (any_p test (l ++ m)) ≡ false
-    go ih true e = e
-    go ih false e = ih e q
+    go : (b : Bool) → test v ≡ b → any_p test (take (position_or_len test l) l) ≡ false → any_p test (take (cond (not b) (1 + position_or_len test l) 0) (v ∷ l)) ≡ false
+    go true e ih = refl
+    go false e ih =
+        let q : 1 + position_or_len test l ≡ suc (position_or_len test l) = omega arith in
+        ap (λ (k : ℕ). any_p test (take k (v ∷ l))) q ∙ ap (λ (b : Bool). pick b true (any_p test (take (position_or_len test l) l))) e ∙ ih
+
+module _ (test : ℕ → Bool) (at n : ℕ) (ws : List ℕ) (h : at + n ≤ length ws) {o : Option ℕ} {r : ℕ} (p : o ≡ position test (between at (at + n) ws)) (q : r ≡ unwrap_or o n) where
+  abbrev words : List ℕ
+  words = between at (at + n) ws
+
+  long : length words ≡ n
+  long = ap length (between_is ws at (at + n)) ∙ length-slice at (at + n) ws h ∙ omega arith
+
+  passed : r ≡ position_or_len test words
+  passed = go (dec_lt (position_or_len test words) (length words))
+    where
+      is : (b : Bool) → nat_lt (position_or_len test words) (length words) ≡ b → r ≡ unwrap_or (cond b (Some (position_or_len test words)) None) n
+      is b e = q ∙ ap (λ (i : Option ℕ). unwrap_or i n) (p ∙ ap (λ (c : Bool). cond c (Some (position_or_len test words)) None) e)
+
+      go : Dec (position_or_len test words < length words) → r ≡ position_or_len test words
+      go (yes y) = is true (lt-ltb _ _ y)
+      go (no y) = is false (le-ltb _ _ (omega arith)) ∙ omega (arith, prefix_len-le-length (λ (w : ℕ). not (test w)) words, long)
+
+  pub others_front : Others test at n ws r
+  others_front =
+      let few : r ≤ n = omega (arith, passed, prefix_len-le-length (λ (w : ℕ). not (test w)) words, long) in
+      let k : at + r - at ≡ r = omega arith in
+      record {
+        none = ap (any_p test) (sym (between_is ws at (at + r)) ∙ ap (λ (i : ℕ). take i (drop at ws)) k ∙ sym (take-take r (at + n - at) (drop at ws) (omega arith)) ∙ ap (λ (i : ℕ). take i words) passed)
+            ∙ front_none test words;
+        few = few;
+      }
 
 without_others : (t x : ℕ) (l m : List ℕ) → any_p (owns_w t x) l ≡ false → without t x (l ++ m) ≡ l ++ without t x m
 unfolding any_p without
@@ -77,20 +97,6 @@ without_others t x (w ∷ l) m p = go (without_others t x l m) (owns_w t x w) p
         → pick b (without t x (l ++ m)) (w ∷ without t x (l ++ m)) ≡ w ∷ (l ++ without t x m)
     go ih true e = absurd (true≢false e)
     go ih false e = ap (λ (r : List ℕ). w ∷ r) (ih e)
-
-module _ (test : ℕ → Bool) (at n : ℕ) (ws : List ℕ) where
-  pub others_start : Others test at n ws 0
-  unfolding any_p
-  others_start = record { none = rw (add-zero at, slice_empty at ws); few = omega arith }
-
-  pub others_turn : (i m : ℕ) → at + n ≤ length ws → Others test at n ws i → i + m ≤ n → false ≡ any_p test (slice (at + i) (at + i + m) ws) → Others test at n ws (i + m)
-  others_turn i m size o h e =
-      let q : at + (i + m) ≡ at + i + m = omega arith in
-      record {
-        none = ap (λ (j : ℕ). any_p test (slice at j ws)) q ∙ ap (any_p test) (slice_split at (at + i) (at + i + m) ws (omega arith) (omega arith) (omega (arith, size, h)))
-            ∙ none_both test (slice at (at + i) ws) (slice (at + i) (at + i + m) ws) o.none (sym e);
-        few = h;
-      }
 
 -- ---- taking out the words of x
 pub record Leaving (ws₀ : List ℕ) (t at n x : ℕ) (ws : List ℕ) (i k : ℕ) : Type 0 where
@@ -166,7 +172,3 @@ leave_end ws₀ t at n x ws i k c h = record {
   kept = c.kept;
   few = omega (arith, c.low, c.mid);
 }
-
--- it holds none
-pub leave_none : (t at n x : ℕ) (ws : List ℕ) → without t x (slice at (at + n) ws) ≡ slice at (at + n) ws → Left t at n x ws ws n
-leave_none t at n x ws e = record { log = sym e; kept = kept_none at (at + n) ws; few = omega arith }

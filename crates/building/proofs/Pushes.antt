@@ -11,6 +11,12 @@ use lib.Dec.{eqb}
 use Rattle.model.specs.Limits.{most_identifiers, most_mutations, most_renders}
 use Rattle.model.specs.Lists.{pick, among}
 use Rattle.model.specs.Mutation.{reason_of}
+use Rattle.std.specs.Prelude.{Option, None, Some}
+use Rattle.std.specs.Int.{from_bool}
+use Rattle.hir.specs.declared.MutationKind.{MutationKind}
+use Rattle.hir.specs.declared.MutationKind.TheVariants.{Conditional, Definite}
+use Rattle.hir.specs.declared.MutationReason.{MutationReason}
+use Rattle.hir.specs.Mutations.{kind_says, kind_bit, reason_says, reason_bit}
 use Rattle.workspace.specs.Layout.{LEAST, SEEN, MUTATIONS, RENDERS}
 use Rattle.workspace.specs.Rows.{Kept}
 use Rattle.workspace.specs.Pending.{kind_of, mutation_of, render_of, mutation_at, render_at}
@@ -70,6 +76,30 @@ come_among ws block (suc n) h =
     ∙ ap (λ (b : Bool). eqb block (get_or ws (SEEN + n) 0) || b) (come_among ws block n (omega arith))
 
 -- ---- a mutation
+flag_small : (t : Bool) → from_bool t < 2
+flag_small true = omega arith
+flag_small false = omega arith
+
+flag_back : (t : Bool) → eqb (from_bool t) 1 ≡ t
+flag_back true = refl
+flag_back false = refl
+
+kind_small : (k : MutationKind) → kind_bit k < 2
+kind_small Conditional = omega arith
+kind_small Definite = omega arith
+
+kind_back : (k : MutationKind) → kind_of (kind_bit k) ≡ kind_says k
+kind_back Conditional = refl
+kind_back Definite = refl
+
+reason_small : (r : Option MutationReason) → reason_bit r < 2
+reason_small None = omega arith
+reason_small (Some r) = omega arith
+
+reason_back : (r : Option MutationReason) → reason_of (reason_bit r) ≡ reason_says r
+reason_back None = refl
+reason_back (Some r) = refl
+
 digits : (x t l r i w : ℕ) → x < most_identifiers → t < 2 → l < 2 → r < 2 → w ≡ x + 512 * t + 1024 * l + 2048 * r + 4096 * i
     → (w % 512 ≡ x) × ((w / 512 % 2 ≡ t) × ((w / 1024 % 2 ≡ l) × ((w / 2048 % 2 ≡ r) × (w / 4096 ≡ i))))
 digits x t l r i w a b c d e = (omega arith, (omega arith, (omega arith, (omega arith, omega arith))))
@@ -110,10 +140,12 @@ module _ (ws : List ℕ) (n : ℕ) (size : LEAST ≤ length ws) (few : n < most_
   unfolding mutation_at
   three_at = rw (first_word, second_word, third_word)
 
-  pub mutation_pushed : (x t l r i : ℕ) → x < most_identifiers → t < 2 → l < 2 → r < 2 → w ≡ x + 512 * t + 1024 * l + 2048 * r + 4096 * i
-      → PushesMutation (record { index = i; order = order; kind = kind_of l; transitive = eqb t 1; identifier = x; span = span; reason = reason_of r }) ws n three
-  mutation_pushed x t l r i a b c d e = record {
-    mutations = mutations_more ws three n _ three_kept.low (three_at ∙ decoded x t l r i w order span a b c d e);
+  pub mutation_pushed : (x i : ℕ) (t : Bool) (k : MutationKind) (r : Option MutationReason) → x < most_identifiers
+      → w ≡ x + 512 * from_bool t + 1024 * kind_bit k + 2048 * reason_bit r + 4096 * i
+      → PushesMutation (record { index = i; order = order; kind = kind_says k; transitive = t; identifier = x; span = span; reason = reason_says r }) ws n three
+  mutation_pushed x i t k r a e = record {
+    mutations = mutations_more ws three n _ three_kept.low (three_at ∙ decoded x _ _ _ i w order span a (flag_small t) (kind_small k) (reason_small r) e
+        ∙ (rw (flag_back t, kind_back k, reason_back r)));
     kept = three_kept;
   }
 

@@ -8,18 +8,14 @@ use Rattle.model.specs.Limits.{most_relations, most_index}
 use Rattle.model.specs.Lists.{Every}
 use Rattle.model.specs.Graph.{Graph}
 use Rattle.model.specs.Built.{Built, held_in, changed, related}
-use Rattle.hir.specs.declared.FunctionId.{FunctionId}
 use Rattle.workspace.specs.Layout.{SEEN, VALUE, PHIS, MUTATIONS, RENDERS, FUNCTIONS}
-use Rattle.workspace.specs.Graph.{value_of}
 use Rattle.workspace.proofs.Parts.{drop_more, take_less, slice_drop}
 use Rattle.workspace.proofs.Pending.{mutations_kept, renders_kept}
 use Rattle.building.specs.declared.Held.{Held}
 use Rattle.building.specs.declared.Building.{Building}
-use Rattle.building.specs.declared.NodeValue.{NodeValue}
-use Rattle.building.specs.declared.NodeValue.TheVariants.{Function}
 use Rattle.building.specs.Held.{graph_of, Builds}
 use Rattle.building.specs.Phis.{phis_of, waiting_of, Known}
-use Rattle.building.specs.Built.{value_is, FunctionBelow, come_of, index_of, built_of, Sound, Holding, StepsOn, Steps}
+use Rattle.building.specs.Built.{come_of, index_of, built_of, Sound, Holding, StepsOn, Steps}
 use Rattle.building.proofs.Holds.{by_limit}
 use Rattle.building.proofs.Operands.{built_eq}
 use Rattle.building.proofs.Pushes.{come_kept}
@@ -87,15 +83,6 @@ module _ (F : Built → Built) (f : Graph → Graph) (d n : ℕ) (ws : List ℕ)
     high = drop_more PHIS FUNCTIONS ws' ws (omega arith) t.high;
     same = t.same;
   }
-
--- ---- a value by its word
-pub function_small : (v : NodeValue) (f : FunctionId) → v ≡ Function f → FunctionBelow v → f.0 < 64
-function_small v f e h = subst FunctionBelow e h
-
-pub function-word : (v : NodeValue) (f : FunctionId) → v ≡ Function f → value_of (f.0 + 3) ≡ value_is v
-function-word v f e =
-    let q : f.0 + 3 ≡ suc (suc (suc f.0)) = omega arith in
-    ap value_of q ∙ ap value_is (sym e)
 
 -- ---- a creation
 pub created : (F G : Graph → Graph) → F ≡ G → (ws : List ℕ) (b : Building) (ws' : List ℕ) (h : Held) → Sound ws b → Builds F ws b.held ws' h

@@ -11,9 +11,12 @@ use Rattle.model.specs.Limits.{most_identifiers}
 use Rattle.model.specs.Lists.{pick, is_some}
 use Rattle.model.specs.Built.{held_in}
 use Rattle.model.proofs.HeldMore.{more_held, entry_more, create_less}
-use Rattle.model.specs.Graph.{Node, Graph, Value, object, has_node, new_node, change, Relation, into_aliases, create, with_edge, with_entry, store, relate, create_from}
+use Rattle.model.specs.Graph.{Node, Graph, Value, object, has_node, new_node, change, Relation as ModelRelation, into_aliases, create, with_edge, with_entry, store, relate, create_from}
 use Rattle.model.specs.Graph.{assign as assign_effect}
+use Rattle.workspace.specs.declared.Relation.{Relation}
+use Rattle.workspace.specs.declared.Relation.TheVariants.{CreatedFrom, Alias, MaybeAlias, Capture}
 use Rattle.workspace.specs.Graph.{relation_of, node_of}
+use Rattle.workspace.specs.Numbers.{relation_number, relation_says}
 use Rattle.workspace.specs.Sort.{sel}
 use Rattle.workspace.proofs.Tables.{tab-length}
 use Rattle.building.specs.declared.Held.{Held}
@@ -42,11 +45,11 @@ create_has x v g h = ap (λ (o : Option Node). is_some o) (get_or-set_same g x (
 create_held : (x : ℕ) (v : Value) (ws : List ℕ) (h : Held) → Room ws h → held_in (create x v (graph_of ws h)) ≤ h.most
 create_held x v ws h room = omega (arith, create_less x v (graph_of ws h), graph_below ws h room)
 
-store_has : (r : Relation) (i from into : ℕ) (g : Graph) (x : ℕ) → has_node (store r i from into g) x ≡ has_node g x
+store_has : (r : ModelRelation) (i from into : ℕ) (g : Graph) (x : ℕ) → has_node (store r i from into g) x ≡ has_node g x
 unfolding store
 store_has r i from into g x = change_has into (with_entry r i from) (change from (with_edge r i into) g) x ∙ change_has from (with_edge r i into) g x
 
-pub relate_has : (r : Relation) (i from into : ℕ) (g : Graph) (x : ℕ) → has_node (relate r i from into g) x ≡ has_node g x
+pub relate_has : (r : ModelRelation) (i from into : ℕ) (g : Graph) (x : ℕ) → has_node (relate r i from into g) x ≡ has_node g x
 unfolding relate
 relate_has r i from into g x = go (has_node g from && has_node g into)
   where
@@ -55,7 +58,7 @@ relate_has r i from into g x = go (has_node g from && has_node g into)
     go false = refl
 
 -- ---- the definition by cases
-module _ (r : Relation) (index from into : ℕ) (g : Graph) where
+module _ (r : ModelRelation) (index from into : ℕ) (g : Graph) where
   relate_both : has_node g from ≡ true → has_node g into ≡ true → relate r index from into g ≡ store r index from into g
   unfolding relate
   relate_both p q = rw (p, q)
@@ -69,9 +72,21 @@ module _ (r : Relation) (index from into : ℕ) (g : Graph) where
   relate_no_into p q = rw (p, q)
 
 -- ---- a packed word
-module _ (from into t index w : ℕ) (hf : from < most_identifiers) (hi : into < most_identifiers) (ht : t < 4) (is : w ≡ pack_w from into t index) where
-  says_it : Says w t index from into
-  says_it = says from into t index hf hi ht w is
+relation_small : (r : Relation) → relation_number r < 4
+relation_small CreatedFrom = omega arith
+relation_small Alias = omega arith
+relation_small MaybeAlias = omega arith
+relation_small Capture = omega arith
+
+relation_back : (r : Relation) → relation_of (relation_number r) ≡ relation_says r
+relation_back CreatedFrom = refl
+relation_back Alias = refl
+relation_back MaybeAlias = refl
+relation_back Capture = refl
+
+module _ (from into : ℕ) (r : Relation) (index w : ℕ) (hf : from < most_identifiers) (hi : into < most_identifiers) (is : w ≡ pack_w from into (relation_number r) index) where
+  says_it : Says w (relation_number r) index from into
+  says_it = says from into (relation_number r) index hf hi (relation_small r) w is
 
   from_held : (g : Graph) → has_node g from ≡ true → has_node g (w % 512) ≡ true
   from_held g e = ap (has_node g) says_it.from_is ∙ e
@@ -79,13 +94,13 @@ module _ (from into t index w : ℕ) (hf : from < most_identifiers) (hi : into <
   into_held : (g : Graph) → has_node g into ≡ true → has_node g (w / 512 % 512) ≡ true
   into_held g e = ap (has_node g) says_it.into_is ∙ e
 
-  both_words : (g : Graph) → entry_g w (edge_g w g) ≡ store (relation_of t) index from into g
+  both_words : (g : Graph) → entry_g w (edge_g w g) ≡ store (relation_says r) index from into g
   unfolding store
-  both_words g = rw (says_it.from_is, says_it.into_is, says_it.list_is, says_it.index_is)
+  both_words g = rw (says_it.from_is, says_it.into_is, says_it.list_is, says_it.index_is, relation_back r)
 
-  entry_alone : (g : Graph) → has_node g from ≡ false → entry_g w g ≡ store (relation_of t) index from into g
+  entry_alone : (g : Graph) → has_node g from ≡ false → entry_g w g ≡ store (relation_says r) index from into g
   unfolding store
-  entry_alone g e = rw (says_it.from_is, says_it.into_is, says_it.list_is, says_it.index_is, change_none from (with_edge (relation_of t) index into) g e)
+  entry_alone g e = rw (says_it.from_is, says_it.into_is, says_it.list_is, says_it.index_is, relation_back r, change_none from (with_edge (relation_says r) index into) g e)
 
   -- after the edge, "into" is still there
   into_after : {ws : List ℕ} {h : Held} {ws₁ : List ℕ} {r₁ : Held} → has_node (graph_of ws h) into ≡ true → Builds (edge_g w) ws h ws₁ r₁ → has_node (graph_of ws₁ r₁) (w / 512 % 512) ≡ true
@@ -100,19 +115,19 @@ module _ (from into t index w : ℕ) (hf : from < most_identifiers) (hi : into <
 
   module _ (ws : List ℕ) (h : Held) where
     -- what the edge asks for, and then the entry
-    pub edge_ready : Room ws h → has_node (graph_of ws h) from ≡ true → Room ws h × (has_node (graph_of ws h) (w % 512) ≡ true)
-    edge_ready room p = (room, from_held (graph_of ws h) p)
+    pub edge_ready : has_node (graph_of ws h) from ≡ true → has_node (graph_of ws h) (w % 512) ≡ true
+    edge_ready p = from_held (graph_of ws h) p
 
-    pub entry_ready : has_node (graph_of ws h) into ≡ true → {ws₁ : List ℕ} {r₁ : Held} → Builds (edge_g w) ws h ws₁ r₁ → Room ws₁ r₁ × (has_node (graph_of ws₁ r₁) (w / 512 % 512) ≡ true)
-    entry_ready p s = (s.room, into_after p s)
+    pub entry_ready : has_node (graph_of ws h) into ≡ true → {ws₁ : List ℕ} {r₁ : Held} → Builds (edge_g w) ws h ws₁ r₁ → has_node (graph_of ws₁ r₁) (w / 512 % 512) ≡ true
+    entry_ready p s = into_after p s
 
     pub store_builds : has_node (graph_of ws h) from ≡ true → has_node (graph_of ws h) into ≡ true → {ws₁ : List ℕ} {r₁ : Held} {ws₂ : List ℕ} {r₂ : Held}
-        → Builds (edge_g w) ws h ws₁ r₁ → Builds (entry_g w) ws₁ r₁ ws₂ r₂ → Builds (relate (relation_of t) index from into) ws h ws₂ r₂
+        → Builds (edge_g w) ws h ws₁ r₁ → Builds (entry_g w) ws₁ r₁ ws₂ r₂ → Builds (relate (relation_says r) index from into) ws h ws₂ r₂
     store_builds p q s u =
         builds_as (builds_then (omega (arith, entry_holds (graph_of ws h))) (λ x. entry_nodes _ _ x (s.nodes x)) s u)
-        (both_words (graph_of ws h) ∙ sym (relate_both (relation_of t) index from into (graph_of ws h) p q))
+        (both_words (graph_of ws h) ∙ sym (relate_both (relation_says r) index from into (graph_of ws h) p q))
 
-module _ (r : Relation) (index from into : ℕ) (ws : List ℕ) (h : Held) (room : Room ws h) where
+module _ (r : ModelRelation) (index from into : ℕ) (ws : List ℕ) (h : Held) (room : Room ws h) where
   pub store_no_from : has_node (graph_of ws h) from ≡ false → Builds (relate r index from into) ws h ws h
   store_no_from p = builds_none room (sym (relate_no_from r index from into (graph_of ws h) p))
 
@@ -139,22 +154,19 @@ module _ (index from into : ℕ) (ws : List ℕ) (h : Held) where
   effect_assigns e s = builds_as s (sym (effect_there e))
 
 -- ---- CreateFrom
-module _ (from into index w : ℕ) (hf : from < most_identifiers) (hi : into < most_identifiers) (is : w ≡ pack_w from into 0 index) (ws : List ℕ) (h : Held) (ws₁ : List ℕ) (r₁ : Held) (s : Builds (create into object) ws h ws₁ r₁) where
+module _ (from into index w : ℕ) (hf : from < most_identifiers) (hi : into < most_identifiers) (is : w ≡ pack_w from into (relation_number CreatedFrom) index) (ws : List ℕ) (h : Held) (ws₁ : List ℕ) (r₁ : Held) (s : Builds (create into object) ws h ws₁ r₁) where
   into_new : has_node (graph_of ws₁ r₁) into ≡ true
   into_new = s.nodes into ∙ create_has into object (graph_of ws h) (omega (arith, graph_size ws h))
 
-  into_created : has_node (graph_of ws₁ r₁) (w / 512 % 512) ≡ true
-  into_created = into_held from into 0 index w hf hi (omega arith) is (graph_of ws₁ r₁) into_new
-
   -- what the entry alone asks for; what the edge asks for, and then the entry
-  pub alone_ready : Room ws₁ r₁ × (has_node (graph_of ws₁ r₁) (w / 512 % 512) ≡ true)
-  alone_ready = (s.room, into_created)
+  pub alone_ready : has_node (graph_of ws₁ r₁) (w / 512 % 512) ≡ true
+  alone_ready = into_held from into CreatedFrom index w hf hi is (graph_of ws₁ r₁) into_new
 
-  pub from_ready : has_node (graph_of ws₁ r₁) from ≡ true → Room ws₁ r₁ × (has_node (graph_of ws₁ r₁) (w % 512) ≡ true)
-  from_ready p = edge_ready from into 0 index w hf hi (omega arith) is ws₁ r₁ s.room p
+  pub from_ready : has_node (graph_of ws₁ r₁) from ≡ true → has_node (graph_of ws₁ r₁) (w % 512) ≡ true
+  from_ready p = from_held from into CreatedFrom index w hf hi is (graph_of ws₁ r₁) p
 
-  pub into_ready : {ws₂ : List ℕ} {r₂ : Held} → Builds (edge_g w) ws₁ r₁ ws₂ r₂ → Room ws₂ r₂ × (has_node (graph_of ws₂ r₂) (w / 512 % 512) ≡ true)
-  into_ready t = (t.room, into_after from into 0 index w hf hi (omega arith) is into_new t)
+  pub into_ready : {ws₂ : List ℕ} {r₂ : Held} → Builds (edge_g w) ws₁ r₁ ws₂ r₂ → has_node (graph_of ws₂ r₂) (w / 512 % 512) ≡ true
+  into_ready t = into_after from into CreatedFrom index w hf hi is into_new t
 
   module _ (room : Room ws h) where
     created_held : held_in (create into object (graph_of ws h)) ≤ h.most
@@ -164,13 +176,13 @@ module _ (from into index w : ℕ) (hf : from < most_identifiers) (hi : into < m
     unfolding create_from
     from_missing e t =
         let missing : has_node (create into object (graph_of ws h)) from ≡ false = sym (s.nodes from) ∙ e in
-        builds_as (builds_then (omega (arith, created_held)) (λ x. entry_nodes from into 0 index w hf hi (omega arith) is _ _ x (s.nodes x)) s t)
-        (entry_alone from into 0 index w hf hi (omega arith) is (create into object (graph_of ws h)) missing)
+        builds_as (builds_then (omega (arith, created_held)) (λ x. entry_nodes from into CreatedFrom index w hf hi is _ _ x (s.nodes x)) s t)
+        (entry_alone from into CreatedFrom index w hf hi is (create into object (graph_of ws h)) missing)
 
     pub from_there : {ws₂ : List ℕ} {r₂ : Held} {ws₃ : List ℕ} {r₃ : Held} → Builds (edge_g w) ws₁ r₁ ws₂ r₂ → Builds (entry_g w) ws₂ r₂ ws₃ r₃ → Builds (create_from index from into) ws h ws₃ r₃
     unfolding create_from
     from_there {ws₂} {r₂} t u =
         let c : Graph = create into object (graph_of ws h) in
         let two = builds_then (omega (arith, created_held)) (λ x. change_has (w % 512) _ (graph_of ws₁ r₁) x ∙ s.nodes x ∙ sym (change_has (w % 512) _ c x)) s t in
-        builds_as (builds_then (omega (arith, entry_holds from into 0 index w hf hi (omega arith) is c)) (λ x. entry_nodes from into 0 index w hf hi (omega arith) is _ _ x (two.nodes x)) two u)
-        (both_words from into 0 index w hf hi (omega arith) is c)
+        builds_as (builds_then (omega (arith, entry_holds from into CreatedFrom index w hf hi is c)) (λ x. entry_nodes from into CreatedFrom index w hf hi is _ _ x (two.nodes x)) two u)
+        (both_words from into CreatedFrom index w hf hi is c)

@@ -135,14 +135,19 @@ module _ (s : List ℕ) (c : Position) (i : ℕ) {p : Phi} (at : PhiAt s c p) (s
   unfolding phi_from
   whole_is = ap (λ (x : IdentifierId). indexed x i (listed one_operand s (c + place_width)).what) (phi_is s c at) ∙ ap (λ (z : Part (List Operand)). indexed p.place.identifier.0 i z.what) (operands_are s c at)
 
-  pub operands_start : {first n : ℕ} {ws : List ℕ} {h : Held} → first + n ≤ most_blocks → Room ws h → Operands s p.place.identifier.0 first n (operands_from s c i) ws h i p.operands.count p.operands.first ws h
+  pub operands_start : {first n : ℕ} {ws : List ℕ} {h : Held} → first + n ≤ most_blocks → Room ws h → {left : ℕ} → left ≡ p.operands.count
+      → Operands s p.place.identifier.0 first n (operands_from s c i) ws h i left p.operands.first ws h
   unfolding phi_from
-  operands_start {first} {n} {ws} {h} few room = record {
+  operands_start {first} {n} {ws} {h} few room e = subst (λ (k : ℕ). Operands s p.place.identifier.0 first n (operands_from s c i) ws h i k p.operands.first ws h) (sym e) (record {
     known = subst (λ (x : ℕ). x < most_identifiers) (phi_is s c at) stands.range.0;
     few = few;
     reading = phi_reading;
     storing = subst (λ (l : List Waiting). Storing (from first n ws) (operands_from s c i) ws h l ws h) whole_is (storing-start room);
-  }
+  })
+
+  -- the index behind the last one
+  pub operands_end : i + p.operands.count ≤ most_index
+  operands_end = omega (arith, stands.indexes, count_is s c at)
 
 module _ {s : List ℕ} {into : IdentifierId} {first n : ℕ} {whole : List Waiting} {ws₀ : List ℕ} {h₀ : Held} {i left : ℕ} {c : Position} {ws : List ℕ} {h : Held} (o : Operands s into first n whole ws₀ h₀ i left c ws h) where
   pub operands_done : left ≤ 0 → Stores (from first n ws₀) whole ws₀ h₀ ws h
@@ -176,8 +181,8 @@ module _ {s : List ℕ} {into : IdentifierId} {first n : ℕ} {whole : List Wait
       pub operand_below : PlaceBelow most_identifiers m.place
       operand_below = subst (λ (q : Operand). PlaceBelow most_identifiers q.place) (sym is) all.0
 
-      pub operands_turn : {ws₁ : List ℕ} {h₁ : Held} → Stores (from first n ws) (waiting_at into i m ∷ []) ws h ws₁ h₁ → Operands s into first n whole ws₀ h₀ (i + 1) (left - 1) (c + operand_width) ws₁ h₁
-      operands_turn {ws₁} {h₁} st =
+      operand_stored : {ws₁ : List ℕ} {h₁ : Held} → Stores (from first n ws) (waiting_at into i m ∷ []) ws h ws₁ h₁ → Operands s into first n whole ws₀ h₀ (i + 1) (left - 1) (c + operand_width) ws₁ h₁
+      operand_stored {ws₁} {h₁} st =
           let x = subst (λ (f : Waiting → Bool). Stores f (waiting_at into i (operand_at s c) ∷ []) ws h ws₁ h₁) (from-same first n ws ws₀ o.few o.storing.low)
           (subst (λ (q : Operand). Stores (from first n ws) (waiting_at into i q ∷ []) ws h ws₁ h₁) is st) in
           record {
@@ -186,6 +191,10 @@ module _ {s : List ℕ} {into : IdentifierId} {first n : ℕ} {whole : List Wait
             reading = record { inside = after; range = all.1; indexes = omega (arith, o.reading.indexes) };
             storing = subst (λ (j : ℕ). Storing (from first n ws₀) whole ws₀ h₀ (indexed into j others) ws₁ h₁) (sym (add-one i)) (storing_turn (waiting_at into i (operand_at s c) ∷ []) (indexed into (suc i) others) now_storing x);
           }
+
+      pub operands_turn : {ws₁ : List ℕ} {h₁ : Held} → Stores (from first n ws) (waiting_at into i m ∷ []) ws h ws₁ h₁ → {k : ℕ} → k ≡ left - 1 → Operands s into first n whole ws₀ h₀ (i + 1) k (c + operand_width) ws₁ h₁
+      operands_turn {ws₁} {h₁} st e =
+          subst (λ (k : ℕ). Operands s into first n whole ws₀ h₀ (i + 1) k (c + operand_width) ws₁ h₁) (sym e) (operand_stored st)
 
 -- ---- the operands of every phi so far
 abbrev pub ahead : List ℕ → ℕ → ℕ → List ℕ
@@ -197,9 +206,6 @@ pub record Waking (s : List ℕ) (first n : ℕ) (ws₀ : List ℕ) (h₀ : Held
   pub mid : i ≤ n
   pub known : Every (Known s) (ahead ws₀ n i)
   pub storing : Storing (from first 1 ws₀) (gather (operands_of s) (phis_of ws₀ n)) ws₀ h₀ (gather (operands_of s) (ahead ws₀ n i)) ws h
-
-pub waking_start : {s : List ℕ} {first n : ℕ} {ws : List ℕ} {h : Held} → Room ws h → Every (Known s) (phis_of ws n) → (n ≤ most_phis) × (first < most_blocks) → Waking s first n ws h 0 ws h
-waking_start room known few = record { size = room.size; few = few; mid = omega arith; known = known; storing = storing-start room }
 
 operands_of_lem : (s : List ℕ) (w : ℕ) → operands_of s w ≡ operands_from s (w % most_sheet) (w / most_sheet)
 unfolding operands_of

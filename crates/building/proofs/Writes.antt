@@ -1,11 +1,13 @@
 -- The logs under each write: an edge, an entry, a creation.
 use Prim.Native.Nat.{ℕ, ◌+◌, ◌/◌, ◌%◌, ◌≤◌, ◌<◌, max}
 use native.Mathlib.Omega.{arith}
-use mathlib.Core.Bool.{true, false}
+use mathlib.Core.Bool.{Bool, true, false, not}
 use mathlib.Core.List.{List, [], ◌∷◌, ◌++◌}
 use mathlib.Core.Path.{◌≡◌, refl, sym, ap, subst, ◌∙◌}
 use lib.ListN.{length, get_or, set, take, drop, length-set, length-append}
 use lib.Seq.{get_or-set_same, get_or-set_other, slice, length-slice, take-set-le, drop-set-lt}
+use borrow.Author.Tests.{eqb-true, not-true, not-false}
+use lib.Dec.{eqb}
 use Rattle.model.specs.Limits.{most_identifiers, most_relations}
 use Rattle.model.specs.Graph.{Graph, has_node, create, with_edge, with_entry}
 use Rattle.model.specs.Size.{edges, entries}
@@ -15,7 +17,7 @@ use Rattle.workspace.specs.Graph.{MISSING, value_of, relation_of}
 use Rattle.workspace.proofs.Parts.{take-word, drop_more, take_less, slice_take, slice_drop, slice_set_in, slice_push, slice_before, slice_after}
 use Rattle.building.specs.declared.Held.{Held}
 use Rattle.building.specs.Logs.{Logs, graph_of_logs, owner_w, without, Clean, any_w, once_w, create_l, edge_l, entry_l, edge_g, entry_g}
-use Rattle.building.specs.Held.{values_of, logs_of, Marked, held_over, graph_of, Room, Builds, Left}
+use Rattle.building.specs.Held.{values_of, has_value, logs_of, Marked, held_over, graph_of, Room, Builds, Left}
 use Rattle.building.proofs.Graphs.{create-step, edge-step, entry_step}
 use Rattle.building.proofs.Counts.{logs_edges, logs_entries, held_edges, held_entries}
 use Rattle.building.proofs.Clean.{without_last, without_swap, clean_edge, clean_entry, clean_create, create_missing}
@@ -190,6 +192,9 @@ module _ (ws : List ℕ) (h : Held) (w : ℕ) (room : Room ws h) (held : has_nod
   entry_stored e k f = subst (λ (m : ℕ). Builds (entry_g w) ws h (set ws (ENTRIES + h.entries) w) (record { edges = h.edges; entries = h.entries + 1; most = m })) (sym f) (entry_builds e k)
 
 -- ---- a creation
+pub no_value : (ws : List ℕ) (x : ℕ) {t : Bool} → t ≡ has_value ws x → not t ≡ true → get_or ws (VALUE + x) 0 ≡ MISSING
+no_value ws x {t} e p = eqb-true (get_or ws (VALUE + x) 0) MISSING (not-false (eqb (get_or ws (VALUE + x) 0) MISSING) (sym e ∙ not-true t p))
+
 module _ (ws : List ℕ) (h : Held) (x v : ℕ) (room : Room ws h) (below : x < most_identifiers) (nonzero : MISSING < v) where
   wide : x < length (values_of ws)
   wide = omega (arith, length-slice VALUE FBOUND ws (omega (arith, room.size)))

@@ -2,9 +2,8 @@
 // All of it lies in the lent workspace; a `Building` has the counts.
 #![tactic(auto)]
 
-ghost use Rattle.std.specs.Prelude.{◌≡◌, ℕ, ◌+◌, ◌≤◌, ◌<◌, length, eqb};
+ghost use Rattle.std.specs.Prelude.{◌≡◌, ℕ, ◌+◌, ◌≤◌, ◌<◌, length};
 ghost use Rattle.model.specs.Limits.{most_identifiers, most_blocks, most_mutations, most_renders, most_index};
-ghost use Rattle.model.specs.Mutation.{reason_of};
 ghost use Rattle.model.specs.Graph.{create, relate, create_from, into_aliases, into_maybe_aliases, into_captures};
 ghost use Rattle.model.specs.Graph.{assign as assign_effect};
 ghost use Rattle.model.specs.Built.{changed, related, mutates};
@@ -12,15 +11,16 @@ ghost use Rattle.model.specs.Built.{renders as renders_place};
 ghost use Rattle.model.specs.Building.{phi_node};
 ghost use Rattle.hir.specs.Words.{phi_from};
 ghost use Rattle.workspace.specs.Layout.{LEAST};
-ghost use Rattle.workspace.specs.Graph.{MISSING, value_of, relation_of};
-ghost use Rattle.workspace.specs.Pending.{kind_of};
+ghost use Rattle.hir.specs.Mutations.{kind_says, reason_says};
+ghost use Rattle.workspace.specs.Graph.{MISSING, value_of};
+ghost use Rattle.workspace.specs.Numbers.{relation_says};
 ghost use Rattle.building.specs.Built.{value_is, FunctionBelow, place_at, index_of, Sound, Holding, PhiFits, phi_operands, ends, StepsOn, Steps, LaysOut, Starts};
 
 use hir::at::phi_at;
-use hir::{BlockId, EvaluationOrder, FunctionId, IdentifierId};
-use pending::{PendingMutation, has_come, push_block};
+use hir::{BlockId, EvaluationOrder, FunctionId, IdentifierId, MutationKind, MutationReason};
+use pending::{has_come, push_block};
 use phis::{push_phi, store_operands, wake};
-use workspace::{ALIASES, CAPTURES, FUNCTION, IDENTIFIERS, MAYBE, OBJECT, PHI, VALUE};
+use workspace::{FUNCTION, IDENTIFIERS, OBJECT, PHI, Relation, VALUE};
 
 mod graph;
 mod logs;
@@ -28,7 +28,7 @@ mod pending;
 mod phis;
 
 // How many forward edges and entries are held; the most of either that was held at any time, or more than there is room for.
-#[derive(Clone, Copy)]
+#[derive(Clone, Copy, Debug, PartialEq, Eq)]
 pub struct Held {
     pub edges: usize,
     pub entries: usize,
@@ -36,7 +36,7 @@ pub struct Held {
 }
 
 // The counts of the building so far: also the phis that have operands, the blocks that have come, and the relation effects, mutations and renders.
-#[derive(Clone, Copy)]
+#[derive(Clone, Copy, Debug, PartialEq, Eq)]
 pub struct Building {
     pub held: Held,
     pub phis: usize,
@@ -47,11 +47,22 @@ pub struct Building {
 }
 
 // What a node stands for.
-#[derive(Clone, Copy)]
+#[derive(Clone, Copy, Debug, PartialEq, Eq)]
 pub enum NodeValue {
     Object,
     Phi,
     Function(FunctionId),
+}
+
+// A mutation to come after building, but for its index.
+#[derive(Clone, Copy, Debug, PartialEq, Eq)]
+pub struct PendingMutation {
+    pub order: EvaluationOrder,
+    pub transitive: bool,
+    pub kind: MutationKind,
+    pub identifier: IdentifierId,
+    pub span: u32,
+    pub reason: Option<MutationReason>,
 }
 
 // The word of a value.
@@ -76,34 +87,34 @@ impl Building {
     }
 
     // A node for `place`, in place of the one that it had: that one's own relations are dropped.
-    pub fn create(mut self, ws: &mut [u32], place: IdentifierId, value: NodeValue) -> Building
+    pub fn create(self, ws: &mut [u32], place: IdentifierId, value: NodeValue) -> Building
         requires sound { Sound ws.old self }
         requires place_lt_most_identifiers { (place.0 < most_identifiers) × FunctionBelow value }
         ensures { Steps (changed (create place.0 (value_is value))) 0 0 0 0 ws.old self ws.new result }
     {
-        let held = self.held;
-        let word = value_word(value);
-        self.held = graph::create(ws, held, place.0, word);
-        self
+        Building {
+            held: graph::create(ws, self.held, place, value_word(value)),
+            ..self
+        }
     }
 
-    // A relation in the list of this number, skipped if either node is missing.
+    // A relation, skipped if either node is missing.
     fn relate(
-        mut self,
+        self,
         ws: &mut [u32],
-        list: u32,
+        relation: Relation,
         from: IdentifierId,
         into: IdentifierId,
     ) -> Building
         requires sound { Sound ws.old self }
-        requires self_bound { (index_of self < most_index) × ((from.0 < most_identifiers) × ((into.0 < most_identifiers) × (list < 4))) }
-        ensures { Steps (related (λ (i : ℕ). relate (relation_of list) i from.0 into.0)) 1 0 0 0 ws.old self ws.new result }
+        requires self_bound { (index_of self < most_index) × ((from.0 < most_identifiers) × (into.0 < most_identifiers)) }
+        ensures { Steps (related (λ (i : ℕ). relate (relation_says relation) i from.0 into.0)) 1 0 0 0 ws.old self ws.new result }
     {
-        let held = self.held;
-        let index = self.index();
-        self.held = graph::store(ws, held, list, index, from.0, into.0);
-        self.relations += 1;
-        self
+        Building {
+            held: graph::store(ws, self.held, relation, self.index(), from, into),
+            relations: self.relations + 1,
+            ..self
+        }
     }
 
     // "from" is captured in "into".
@@ -112,7 +123,7 @@ impl Building {
         requires self_bound { (index_of self < most_index) × ((from.0 < most_identifiers) × (into.0 < most_identifiers)) }
         ensures { Steps (related (λ (i : ℕ). relate into_captures i from.0 into.0)) 1 0 0 0 ws.old self ws.new result }
     {
-        self.relate(ws, CAPTURES, from, into)
+        self.relate(ws, Relation::Capture, from, into)
     }
 
     // "into" is an alias of "from".
@@ -121,7 +132,7 @@ impl Building {
         requires self_bound { (index_of self < most_index) × ((from.0 < most_identifiers) × (into.0 < most_identifiers)) }
         ensures { Steps (related (λ (i : ℕ). relate into_aliases i from.0 into.0)) 1 0 0 0 ws.old self ws.new result }
     {
-        self.relate(ws, ALIASES, from, into)
+        self.relate(ws, Relation::Alias, from, into)
     }
 
     // "into" may be an alias of "from".
@@ -130,55 +141,49 @@ impl Building {
         requires self_bound { (index_of self < most_index) × ((from.0 < most_identifiers) × (into.0 < most_identifiers)) }
         ensures { Steps (related (λ (i : ℕ). relate into_maybe_aliases i from.0 into.0)) 1 0 0 0 ws.old self ws.new result }
     {
-        self.relate(ws, MAYBE, from, into)
+        self.relate(ws, Relation::MaybeAlias, from, into)
     }
 
     // An Assign effect: as `assign`, but a missing "into" is created first.
-    pub fn assign_effect(
-        mut self,
-        ws: &mut [u32],
-        from: IdentifierId,
-        into: IdentifierId,
-    ) -> Building
+    pub fn assign_effect(self, ws: &mut [u32], from: IdentifierId, into: IdentifierId) -> Building
         requires sound { Sound ws.old self }
         requires self_bound { (index_of self < most_index) × ((from.0 < most_identifiers) × (into.0 < most_identifiers)) }
         ensures { Steps (related (λ (i : ℕ). assign_effect i from.0 into.0)) 1 0 0 0 ws.old self ws.new result }
     {
-        let held = self.held;
-        let index = self.index();
-        self.held = graph::assign(ws, held, index, from.0, into.0);
-        self.relations += 1;
-        self
+        Building {
+            held: graph::assign(ws, self.held, self.index(), from, into),
+            relations: self.relations + 1,
+            ..self
+        }
     }
 
     // "into" is created from "from", always; its entry is stored even if "from" has no node.
-    pub fn create_from(mut self, ws: &mut [u32], from: IdentifierId, into: IdentifierId) -> Building
+    pub fn create_from(self, ws: &mut [u32], from: IdentifierId, into: IdentifierId) -> Building
         requires sound { Sound ws.old self }
         requires self_bound { (index_of self < most_index) × ((from.0 < most_identifiers) × (into.0 < most_identifiers)) }
         ensures { Steps (related (λ (i : ℕ). create_from i from.0 into.0)) 1 0 0 0 ws.old self ws.new result }
     {
-        let held = self.held;
-        let index = self.index();
-        self.held = graph::create_from(ws, held, index, from.0, into.0);
-        self.relations += 1;
-        self
+        Building {
+            held: graph::create_from(ws, self.held, self.index(), from, into),
+            relations: self.relations + 1,
+            ..self
+        }
     }
 
     // A phi's operands: those from blocks that have come are stored, the others wait.
-    fn operands(mut self, s: &[u32], ws: &mut [u32], at: usize, count: u32) -> Building
+    fn operands(self, s: &[u32], ws: &mut [u32], at: usize, count: u32) -> Building
         requires sound { Sound ws.old self × Holding s.now ws.old self }
         requires phi_fits { PhiFits s.now at self × ((count ≡ length (phi_from s.now at).what.operands) × (0 < count)) }
         ensures { StepsOn s.now (phi_operands (phi_from s.now at).what) count 0 0 0 ws.old self ws.new result }
     {
-        let held = self.held;
-        let phis = self.phis;
-        let come = self.come;
         let index = self.index();
-        push_phi(ws, phis, at, index);
-        self.held = store_operands(s, at, index, ws, held, 0, come);
-        self.phis += 1;
-        self.relations += count as usize;
-        self
+        push_phi(ws, self.phis, at, index);
+        Building {
+            held: store_operands(s, at, index, ws, self.held, 0, self.come),
+            phis: self.phis + 1,
+            relations: self.relations + count as usize,
+            ..self
+        }
     }
 
     // The phi at `at`: its node, then its operands.
@@ -197,68 +202,47 @@ impl Building {
     }
 
     // The end of a block, before its terminal: what waits for it is stored, and it has come. A sheet has no block twice; a second one would find that nothing waits.
-    pub fn wake(mut self, s: &[u32], ws: &mut [u32], block: BlockId) -> Building
+    pub fn wake(self, s: &[u32], ws: &mut [u32], block: BlockId) -> Building
         requires sound { Sound ws.old self × Holding s.now ws.old self }
         requires come_lt_most_blocks { self.come < most_blocks }
         ensures { StepsOn s.now (ends block.0) 0 0 0 1 ws.old self ws.new result }
     {
-        let held = self.held;
-        let phis = self.phis;
-        let come = self.come;
-        push_block(ws, come, block.0);
-        self.come += 1;
-        if has_come(ws, 0, come, block.0) {
-            return self;
+        push_block(ws, self.come, block);
+        let come = self.come + 1;
+        if has_come(ws, 0, self.come, block) {
+            return Building { come, ..self };
         }
-        self.held = wake(s, ws, held, phis, come);
-        self
+        Building {
+            held: wake(s, ws, self.held, self.phis, self.come),
+            come,
+            ..self
+        }
     }
 
-    // A mutation of `place`, to come after building. Its level is 0 for Conditional and 1 for Definite, its reason 0 for none.
-    pub fn push_mutation(
-        mut self,
-        ws: &mut [u32],
-        place: IdentifierId,
-        span: u32,
-        order: EvaluationOrder,
-        transitive: u32,
-        level: u32,
-        reason: u32,
-    ) -> Building
+    // A mutation, to come after building.
+    pub fn push_mutation(self, ws: &mut [u32], m: PendingMutation) -> Building
         requires sound { Sound ws.old self }
-        requires self_bound { (index_of self < most_index) × ((self.mutations < most_mutations) × ((place.0 < most_identifiers) × ((transitive < 2) × ((level < 2) × (reason < 2))))) }
-        ensures { Steps (mutates (eqb transitive 1) (kind_of level) (reason_of reason) order.0 (place_at place.0 span)) 0 1 0 0 ws.old self ws.new result }
+        requires self_bound { (index_of self < most_index) × ((self.mutations < most_mutations) × (m.identifier.0 < most_identifiers)) }
+        ensures { Steps (mutates m.transitive (kind_says m.kind) (reason_says m.reason) m.order.0 (place_at m.identifier.0 m.span)) 0 1 0 0 ws.old self ws.new result }
     {
-        let count = self.mutations;
-        let index = self.index();
-        pending::push_mutation(
-            ws,
-            count,
-            PendingMutation {
-                index,
-                order: order.0,
-                transitive,
-                level,
-                identifier: place.0,
-                span,
-                reason,
-            },
-        );
-        self.mutations += 1;
-        self
+        pending::push_mutation(ws, self.mutations, self.index(), m);
+        Building {
+            mutations: self.mutations + 1,
+            ..self
+        }
     }
 
     // A render of `place`, to come after building.
-    pub fn push_render(mut self, ws: &mut [u32], place: IdentifierId) -> Building
+    pub fn push_render(self, ws: &mut [u32], place: IdentifierId) -> Building
         requires sound { Sound ws.old self }
         requires self_bound { (index_of self < most_index) × ((self.renders < most_renders) × (place.0 < most_identifiers)) }
         ensures { Steps (renders_place (place_at place.0 0)) 0 0 1 0 ws.old self ws.new result }
     {
-        let count = self.renders;
-        let index = self.index();
-        pending::push_render(ws, count, index, place.0);
-        self.renders += 1;
-        self
+        pending::push_render(ws, self.renders, self.index(), place);
+        Building {
+            renders: self.renders + 1,
+            ..self
+        }
     }
 
     // The end of building: lays the graph out in rows, for the walks.
@@ -266,8 +250,7 @@ impl Building {
         requires { Sound ws.old self }
         ensures { LaysOut ws.old self ws.new }
     {
-        let held = self.held;
-        graph::lay_out(ws, held);
+        graph::lay_out(ws, self.held);
     }
 }
 

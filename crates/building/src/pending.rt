@@ -1,78 +1,63 @@
 // What building leaves for the walks, and the blocks that have come.
 ghost use Rattle.std.specs.Prelude.{◌≡◌, ◌+◌, ◌*◌, ◌≤◌, ◌<◌, length, eqb};
 ghost use Rattle.model.specs.Limits.{most_identifiers, most_blocks, most_mutations, most_renders, most_index};
-ghost use Rattle.model.specs.Mutation.{reason_of};
+ghost use Rattle.std.specs.Int.{from_bool};
+ghost use Rattle.hir.specs.Mutations.{kind_says, kind_bit, reason_says, reason_bit};
 ghost use Rattle.workspace.specs.Layout.{LEAST, SEEN};
-ghost use Rattle.workspace.specs.Pending.{kind_of};
 ghost use Rattle.std.proofs.Math.Seq.{slice};
 ghost use Rattle.building.specs.Logs.{any_p};
 ghost use Rattle.building.specs.Built.{PushesMutation, PushesRender, PushesBlock};
 
+use crate::PendingMutation;
+use hir::{BlockId, IdentifierId};
 use workspace::{MUTATIONS, RENDERS, SEEN};
 
-// A mutation to come. Its level is 0 for Conditional and 1 for Definite, its reason 0 for none.
-#[derive(Clone, Copy)]
-pub struct PendingMutation {
-    pub index: u32,
-    pub order: u32,
-    pub transitive: u32,
-    pub level: u32,
-    pub identifier: u32,
-    pub span: u32,
-    pub reason: u32,
-}
-
-// The first word of a mutation.
-fn mutation_word(m: PendingMutation) -> u32
-    requires { (m.identifier < most_identifiers) × ((m.transitive < 2) × ((m.level < 2) × ((m.reason < 2) × (m.index < most_index)))) }
-    ensures { result ≡ m.identifier + 512 * m.transitive + 1024 * m.level + 2048 * m.reason + 4096 * m.index }
+// The first word of a mutation with this index.
+fn mutation_word(m: PendingMutation, index: u32) -> u32
+    requires { (m.identifier.0 < most_identifiers) × (index < most_index) }
+    ensures { result ≡ m.identifier.0 + 512 * from_bool m.transitive + 1024 * kind_bit m.kind + 2048 * reason_bit m.reason + 4096 * index }
 {
-    m.identifier + 512 * m.transitive + 1024 * m.level + 2048 * m.reason + 4096 * m.index
+    m.identifier.0
+        + 512 * u32::from(m.transitive)
+        + 1024 * m.kind as u32
+        + 2048 * u32::from(m.reason.is_some())
+        + 4096 * index
 }
 
 // Stores a mutation in three words, after the first `count` ones.
-pub fn push_mutation(ws: &mut [u32], count: usize, m: PendingMutation)
+pub fn push_mutation(ws: &mut [u32], count: usize, index: u32, m: PendingMutation)
     requires in_bounds { (LEAST ≤ length ws.old) × (count < most_mutations) }
-    requires identifier_lt_most_identifiers { (m.identifier < most_identifiers) × ((m.transitive < 2) × ((m.level < 2) × ((m.reason < 2) × (m.index < most_index)))) }
-    ensures { PushesMutation (record { index = m.index; order = m.order; kind = kind_of m.level; transitive = eqb m.transitive 1; identifier = m.identifier; span = m.span; reason = reason_of m.reason }) ws.old count ws.new }
+    requires identifier_lt_most_identifiers { (m.identifier.0 < most_identifiers) × (index < most_index) }
+    ensures { PushesMutation (record { index = index; order = m.order.0; kind = kind_says m.kind; transitive = m.transitive; identifier = m.identifier.0; span = m.span; reason = reason_says m.reason }) ws.old count ws.new }
 {
     let at = MUTATIONS + 3 * count;
-    let w = mutation_word(m);
-    ws[at] = w;
-    ws[at + 1] = m.order;
+    ws[at] = mutation_word(m, index);
+    ws[at + 1] = m.order.0;
     ws[at + 2] = m.span;
 }
 
 // Stores a render in one word, after the first `count` ones.
-pub fn push_render(ws: &mut [u32], count: usize, index: u32, identifier: u32)
+pub fn push_render(ws: &mut [u32], count: usize, index: u32, identifier: IdentifierId)
     requires in_bounds { (LEAST ≤ length ws.old) × (count < most_renders) }
-    requires identifier_lt_most_identifiers { (identifier < most_identifiers) × (index < most_index) }
-    ensures { PushesRender (record { index = index; identifier = identifier }) ws.old count ws.new }
+    requires identifier_lt_most_identifiers { (identifier.0 < most_identifiers) × (index < most_index) }
+    ensures { PushesRender (record { index = index; identifier = identifier.0 }) ws.old count ws.new }
 {
-    ws[RENDERS + count] = identifier + 512 * index;
+    ws[RENDERS + count] = identifier.0 + 512 * index;
 }
 
 // Notes a block's number, after the first `count` ones.
-pub fn push_block(ws: &mut [u32], count: usize, block: u32)
+pub fn push_block(ws: &mut [u32], count: usize, block: BlockId)
     requires { (LEAST ≤ length ws.old) × (count < most_blocks) }
-    ensures { PushesBlock block ws.old count ws.new }
+    ensures { PushesBlock block.0 ws.old count ws.new }
 {
-    ws[SEEN + count] = block;
+    ws[SEEN + count] = block.0;
 }
 
-// Is the block one of `count` that came, from number `first` on? Looks at every number, so that the loop is compiled to vectors.
-pub fn has_come(ws: &[u32], first: usize, count: usize, block: u32) -> bool
+// Is the block one of `count` that came, from number `first` on?
+pub fn has_come(ws: &[u32], first: usize, count: usize, block: BlockId) -> bool
     requires { (LEAST ≤ length ws.now) × (first + count ≤ most_blocks) }
-    ensures { result ≡ any_p (eqb block) (slice (SEEN + first) (SEEN + first + count) ws.now) }
+    ensures { result ≡ any_p (eqb block.0) (slice (SEEN + first) (SEEN + first + count) ws.now) }
 {
-    let mut found = false;
-    let mut i = 0;
-    while i < count {
-        let number = ws[SEEN + first + i];
-        i += 1;
-        if number == block {
-            found = true;
-        }
-    }
-    found
+    let start = SEEN + first;
+    ws[start..start + count].contains(&block.0)
 }

@@ -10,9 +10,10 @@ ghost use Rattle.building.specs.Held.{Room};
 use crate::Held;
 use crate::graph::store;
 use crate::pending::has_come;
+use hir::IdentifierId;
 use hir::at::{OPERAND_WIDTH, Operand, operand_at, phi_at};
 use hir::limits::MOST_SHEET;
-use workspace::{ALIASES, PHIS};
+use workspace::{PHIS, Relation};
 
 // Stores the word of the phi at `at`, whose first operand has this index, after the first `count` ones.
 pub fn push_phi(ws: &mut [u32], count: usize, at: usize, index: u32)
@@ -28,18 +29,18 @@ fn store_operand(
     h: Held,
     o: Operand,
     index: u32,
-    into: u32,
+    into: IdentifierId,
     first: usize,
     count: usize,
 ) -> Held
     requires room { Room ws.old h }
-    requires identifier_lt_most_identifiers { (o.place.identifier.0 < most_identifiers) × ((into < most_identifiers) × ((index < most_index) × (first + count ≤ most_blocks))) }
-    ensures { Stores (from first count ws.old) (waiting_at into index (operand_is o) ∷ []) ws.old h ws.new result }
+    requires identifier_lt_most_identifiers { (o.place.identifier.0 < most_identifiers) × ((into.0 < most_identifiers) × ((index < most_index) × (first + count ≤ most_blocks))) }
+    ensures { Stores (from first count ws.old) (waiting_at into.0 index (operand_is o) ∷ []) ws.old h ws.new result }
 {
-    if !has_come(ws, first, count, o.predecessor.0) {
+    if !has_come(ws, first, count, o.predecessor) {
         return h;
     }
-    store(ws, h, ALIASES, index, o.place.identifier.0, into)
+    store(ws, h, Relation::Alias, index, o.place.identifier, into)
 }
 
 // The same with each operand of the phi at `at`; the first one has this index.
@@ -57,17 +58,12 @@ pub fn store_operands(
     ensures { Stores (from first count ws.old) (operands_from s.now at start) ws.old h ws.new result }
 {
     let phi = phi_at(s, at);
-    let into = phi.place.identifier.0;
-    let mut left = phi.operands.count;
+    let into = phi.place.identifier;
     let mut next = phi.operands.first;
-    let mut index = start;
     let mut held = h;
-    while 0 < left {
-        let o = operand_at(s, next);
-        held = store_operand(ws, held, o, index, into, first, count);
+    for index in start..start + phi.operands.count {
+        held = store_operand(ws, held, operand_at(s, next), index, into, first, count);
         next += OPERAND_WIDTH;
-        index += 1;
-        left -= 1;
     }
     held
 }
@@ -78,20 +74,11 @@ pub fn wake(s: &[u32], ws: &mut [u32], h: Held, phis: usize, first: usize) -> He
     requires every { Every (Known s.now) (phis_of ws.old phis) × ((phis ≤ most_phis) × (first < most_blocks)) }
     ensures { Stores (from first 1 ws.old) (gather (operands_of s.now) (phis_of ws.old phis)) ws.old h ws.new result }
 {
-    let mut i = 0;
     let mut held = h;
-    while i < phis {
+    for i in 0..phis {
         let w = ws[PHIS + i];
-        held = store_operands(
-            s,
-            (w % MOST_SHEET as u32) as usize,
-            w / MOST_SHEET as u32,
-            ws,
-            held,
-            first,
-            1,
-        );
-        i += 1;
+        let at = (w % MOST_SHEET as u32) as usize;
+        held = store_operands(s, at, w / MOST_SHEET as u32, ws, held, first, 1);
     }
     held
 }

@@ -5,4 +5,4 @@ use Rattle.building.proofs.Building.create.Goals as goal
 
 pub returns : goal.returns
 returns c =
-    created _ _ (ap (create _) c.value_word-word.ensures.1) _ _ _ _ c.requires.sound c.create-self.ensures
+    created _ _ (ap (create _) c.value_word.ensures.1) _ _ _ _ c.requires.sound c.create.ensures

@@ -1,5 +1,4 @@
 use native.Mathlib.Omega.{arith}
-use mathlib.Core.Path.{◌∙◌}
 use Rattle.hir.proofs.Widths.{phi_rises}
 use Rattle.building.proofs.Storing.{count_is}
 use Rattle.building.proofs.PhiSteps.{phi-below, fits_after, phi_alone, phi-step}
@@ -8,13 +7,8 @@ use Rattle.building.proofs.Building.phi.Goals as goal
 pub phi_at-phi-requires : goal.phi_at-phi-requires
 phi_at-phi-requires c = omega (arith, phi_rises c.args.s.now c.args.at, c.requires.phi_fits.inside)
 
-pub create-created-requires : goal.create-created-requires
-create-created-requires c =
-    record { sound = c.requires.sound.0; place_lt_most_identifiers = (phi-below c.requires.phi_fits c.phi_at-phi.ensures, tt) }
-
-pub shape_of-ws-then-count-eq0 : goal.shape_of-ws-then-count-eq0
-shape_of-ws-then-count-eq0 c =
-    (c.create-created.ensures c.args.s.now).same
+pub create-created-requires-clause-place_lt_most_identifiers : goal.create-created-requires-clause-place_lt_most_identifiers
+create-created-requires-clause-place_lt_most_identifiers c = (phi-below c.requires.phi_fits c.phi_at-phi.ensures, tt)
 
 pub returns-then-count-eq0 : goal.returns-then-count-eq0
 returns-then-count-eq0 c =
@@ -23,10 +17,6 @@ returns-then-count-eq0 c =
 pub operands-requires : goal.operands-requires
 operands-requires c =
     record { sound = ((c.create-created.ensures c.args.s.now).sound, (c.create-created.ensures c.args.s.now).holding c.requires.sound.1); phi_fits = (fits_after c.requires.phi_fits c.phi_at-phi.ensures (c.create-created.ensures c.args.s.now), (count_is _ _ c.phi_at-phi.ensures, omega (arith, c.if-count-eq0.false))) }
-
-pub shape_of-ws : goal.shape_of-ws
-shape_of-ws c =
-    c.operands.ensures.same ∙ (c.create-created.ensures c.args.s.now).same
 
 pub returns : goal.returns
 returns c =

@@ -1,13 +1,8 @@
-use native.Mathlib.Omega.{arith}
 use Rattle.building.proofs.Holds.{node_there, node_missing}
 use Rattle.building.proofs.Steps.{effect_creates, effect_assigns}
 use mathlib.Core.Bool.{not}
 use mathlib.Core.Path.{ap}
 use Rattle.building.proofs.graph.assign.Goals as goal
-
-pub store-requires : goal.store-requires
-store-requires c =
-    record { room = c.create-g.ensures.room; from_lt_most_identifiers = (c.requires.from_lt_most_identifiers.0, (c.requires.from_lt_most_identifiers.1.0, (omega arith, c.requires.from_lt_most_identifiers.1.1))) }
 
 pub returns-then-not-exists : goal.returns-then-not-exists
 returns-then-not-exists c =

@@ -1,17 +1,11 @@
-use Rattle.workspace.specs.Layout.{VALUE}
-use Rattle.building.proofs.Writes.{create_new, create_again}
-use lib.ListN.{length-set}
-use native.Mathlib.Omega.{arith}
-use Prim.Native.Nat.{◌+◌}
+use mathlib.Core.Bool.{not}
+use mathlib.Core.Path.{ap}
+use Rattle.building.proofs.Writes.{no_value, create_new, create_again}
 use Rattle.building.proofs.graph.create.Goals as goal
 
-pub returns-then-ws-x-eq-MISSING : goal.returns-then-ws-x-eq-MISSING
-returns-then-ws-x-eq-MISSING c =
-    create_new _ _ _ _ c.requires.room c.requires.x_lt_most_identifiers.0 c.requires.x_lt_most_identifiers.1 c.if-ws-x-eq-MISSING.true
-
-pub shape_of-ws : goal.shape_of-ws
-shape_of-ws c =
-    omega (arith, length-set c.leave-entries.new.ws (VALUE + c.args.x) c.args.value, c.leave-entries.auto.ws, c.leave_edges-edges.auto.ws)
+pub returns-then-not-exists : goal.returns-then-not-exists
+returns-then-not-exists c =
+    create_new _ _ _ _ c.requires.room c.requires.x_lt_most_identifiers.0 c.requires.x_lt_most_identifiers.1 (no_value c.args.ws.now c.args.x.0 c.exists.ensures (ap not c.if-not-exists.true))
 
 pub returns : goal.returns
 returns c =

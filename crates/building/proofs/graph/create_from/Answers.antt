@@ -4,24 +4,21 @@ use mathlib.Core.Bool.{not}
 use mathlib.Core.Path.{ap}
 use Rattle.building.proofs.graph.create_from.Goals as goal
 
-pub add_entry-requires : goal.add_entry-requires
-add_entry-requires c =
-    let both = alone_ready _ _ _ _ c.requires.from_lt_most_identifiers.0 c.requires.from_lt_most_identifiers.1.0 c.pack-w.ensures _ _ _ _ c.create-g.ensures in
-    record { room = both.0; w_value = both.1 }
+pub add_entry-requires-clause-w_value : goal.add_entry-requires-clause-w_value
+add_entry-requires-clause-w_value c =
+    alone_ready _ _ _ _ c.requires.from_lt_most_identifiers.0 c.requires.from_lt_most_identifiers.1.0 c.pack-w.ensures _ _ _ _ c.create-g.ensures
 
 pub returns-then-not-exists : goal.returns-then-not-exists
 returns-then-not-exists c =
     from_missing _ _ _ _ c.requires.from_lt_most_identifiers.0 c.requires.from_lt_most_identifiers.1.0 c.pack-w.ensures _ _ _ _ c.create-g.ensures c.requires.room (node_missing _ _ _ c.requires.from_lt_most_identifiers.0 _ c.exists.ensures (ap not c.if-not-exists.true)) c.add_entry.ensures
 
-pub add_edge-k-requires : goal.add_edge-k-requires
-add_edge-k-requires c =
-    let both = from_ready _ _ _ _ c.requires.from_lt_most_identifiers.0 c.requires.from_lt_most_identifiers.1.0 c.pack-w.ensures _ _ _ _ c.create-g.ensures (node_there _ _ _ c.requires.from_lt_most_identifiers.0 _ c.exists.ensures (ap not c.if-not-exists.false)) in
-    record { room = both.0; w_value = both.1 }
+pub add_edge-k-requires-clause-w_value : goal.add_edge-k-requires-clause-w_value
+add_edge-k-requires-clause-w_value c =
+    from_ready _ _ _ _ c.requires.from_lt_most_identifiers.0 c.requires.from_lt_most_identifiers.1.0 c.pack-w.ensures _ _ _ _ c.create-g.ensures (node_there _ _ _ c.requires.from_lt_most_identifiers.0 _ c.exists.ensures (ap not c.if-not-exists.false))
 
-pub add_entry-requires-2 : goal.add_entry-requires-2
-add_entry-requires-2 c =
-    let both = into_ready _ _ _ _ c.requires.from_lt_most_identifiers.0 c.requires.from_lt_most_identifiers.1.0 c.pack-w.ensures _ _ _ _ c.create-g.ensures c.add_edge-k.ensures in
-    record { room = both.0; w_value = both.1 }
+pub add_entry-requires-2-clause-w_value : goal.add_entry-requires-2-clause-w_value
+add_entry-requires-2-clause-w_value c =
+    into_ready _ _ _ _ c.requires.from_lt_most_identifiers.0 c.requires.from_lt_most_identifiers.1.0 c.pack-w.ensures _ _ _ _ c.create-g.ensures c.add_edge-k.ensures
 
 pub returns : goal.returns
 returns c =

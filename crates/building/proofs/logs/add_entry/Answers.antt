@@ -2,17 +2,14 @@ use mathlib.Core.Path.{sym, ◌∙◌}
 use Rattle.building.proofs.Writes.{entry_kept, entry_full, entry_stored}
 use Rattle.building.proofs.logs.add_entry.Goals as goal
 
-pub has_entry-requires : goal.has_entry-requires
-has_entry-requires c = (c.requires.room.size, c.requires.room.entries)
-
 pub returns-then-has_entry : goal.returns-then-has_entry
 returns-then-has_entry c =
     entry_kept _ _ _ c.requires.room c.requires.w_value (sym c.has_entry.ensures ∙ c.if-has_entry.true)
 
-pub returns-then-entries-ge-MOST_RELATIONS : goal.returns-then-entries-ge-MOST_RELATIONS
-returns-then-entries-ge-MOST_RELATIONS c =
-    entry_full _ _ _ c.requires.room c.requires.w_value (sym c.has_entry.ensures ∙ c.if-has_entry.false) c.if-entries-ge-MOST_RELATIONS.true c.over.ensures
+pub returns-then-h-ge-MOST_RELATIONS : goal.returns-then-h-ge-MOST_RELATIONS
+returns-then-h-ge-MOST_RELATIONS c =
+    entry_full _ _ _ c.requires.room c.requires.w_value (sym c.has_entry.ensures ∙ c.if-has_entry.false) c.if-h-ge-MOST_RELATIONS.true c.over.ensures
 
 pub returns : goal.returns
 returns c =
-    entry_stored _ _ _ c.requires.room c.requires.w_value (sym c.has_entry.ensures ∙ c.if-has_entry.false) c.if-entries-ge-MOST_RELATIONS.false c.larger-most.ensures
+    entry_stored _ _ _ c.requires.room c.requires.w_value (sym c.has_entry.ensures ∙ c.if-has_entry.false) c.if-h-ge-MOST_RELATIONS.false c.max.ensures

@@ -1,17 +1,11 @@
-use mathlib.Core.Bool.{false}
-use Rattle.building.proofs.Loops.{test_start, test_found, test_turn, test_end}
-use borrow.Author.Tests.{eq-eqb, ne_eqb}
-use native.Mathlib.Omega.{arith}
+use Rattle.std.proofs.Common.{rules, tests, ◌∙◌}
+use Rattle.std.proofs.lemmas.Iterator.{YieldsList-from_slice}
+use Rattle.std.proofs.lemmas.Iterator.Search.{any_from_yields_List}
+use Rattle.building.specs.Logs.{same_w}
+use Rattle.building.proofs.Loops.{any_part}
 use Rattle.building.proofs.logs.has_entry.Goals as goal
 
-pub loop-i-init : goal.loop-i-init
-loop-i-init c = test_start _ _ _ _ false 0 (omega arith)
-
-pub loop-i-preserved-then-v-w : goal.loop-i-preserved-then-v-w
-loop-i-preserved-then-v-w c = test_found _ _ _ _ _ _ (omega arith) c.loop-i.invariant c.loop-i-test.true (eq-eqb _ _ c.if-v-w.true)
-
-pub loop-i-preserved : goal.loop-i-preserved
-loop-i-preserved c = test_turn _ _ _ _ _ _ (omega arith) c.loop-i.invariant c.loop-i-test.true (ne_eqb _ _ c.if-v-w.false)
-
 pub returns : goal.returns
-returns c = test_end _ _ _ _ _ _ (omega arith) c.loop-i.invariant c.loop-i-test.false
+returns c =
+    any_from_yields_List (same_w c.args.w) _ _ _ c.any.ensures.ran (YieldsList-from_slice _ c.iter.ensures.rest) (λ x b q k. (search (rules, tests), search (rules, tests)))
+    ∙ any_part (same_w c.args.w) 8707 c.args.n c.args.ws.now

@@ -1,9 +1,5 @@
-use Prim.Native.Nat.{◌-◌}
 use Rattle.building.proofs.Storing.{Waking}
 use Rattle.building.proofs.phis.wake.Given as goal
 
 abbrev pub invariant-loop-i : goal.invariant-loop-i
 invariant-loop-i l = Waking l.s l.first l.phis l.initial.ws l.initial.held l.i l.ws l.held
-
-abbrev pub decreases-loop-i : goal.decreases-loop-i
-decreases-loop-i l = l.phis - l.i
