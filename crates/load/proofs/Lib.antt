@@ -1,4 +1,5 @@
 pub mod Drawing
+pub mod Bounds
 pub mod Putting
 pub mod Sheets
 pub mod Calling

@@ -2,18 +2,19 @@
 #![tactic(auto)]
 
 ghost use Rattle.std.specs.Prelude.{◌≡◌, true, length};
-ghost use Rattle.model.specs.Call.{refusal};
+ghost use Rattle.model.specs.Call.{refusal as refused};
 ghost use Rattle.model.specs.Encoder.{sheet_words};
 ghost use Rattle.model.specs.Load.{loadable, class_load, load};
+ghost use Rattle.hir.specs.Refusals.{refusal_number};
 ghost use Rattle.writing.specs.Outcome.{Filled};
-ghost use Rattle.writing.specs.Wrote.{Wrote};
+ghost use Rattle.writing.specs.Wrote.{Writes};
 
 use crate::parts::{put_blocks, put_flags, put_identifiers, put_params, put_returns};
 use hir::limits::{
     LEAST_LOAD_EFFECTS, LEAST_LOAD_IDENTIFIERS, MOST_IDENTIFIERS, MOST_LOAD_EFFECTS,
 };
-use workspace::clear_from;
-use writing::Outcome;
+use hir::refusal::Refusal;
+use writing::Writer;
 
 mod draws;
 mod parts;
@@ -22,41 +23,44 @@ mod parts;
 fn loadable(n: u32, m: u32) -> bool
     ensures { result ≡ loadable n m }
 {
-    ((LEAST_LOAD_IDENTIFIERS <= n) & (n <= MOST_IDENTIFIERS))
-        & ((LEAST_LOAD_EFFECTS <= m) & (m <= MOST_LOAD_EFFECTS))
+    (LEAST_LOAD_IDENTIFIERS..=MOST_IDENTIFIERS).contains(&n)
+        && (LEAST_LOAD_EFFECTS..=MOST_LOAD_EFFECTS).contains(&m)
 }
 
-// The whole sheet; how many words it has, whether there was room for them or not.
-fn put_sheet(sheet: &mut [u32], seed: u32, n: u32, m: u32) -> usize
-    requires { loadable n m ≡ true }
-    ensures { Wrote (sheet_words (class_load seed n m)) sheet.old 0 sheet.new result }
+// The whole sheet, from the beginning of the output.
+fn put_sheet(sheet: &mut Writer<'_, u32>, seed: u32, n: u32, m: u32)
+    requires loadable { loadable n m ≡ true }
+    requires at_start { sheet.old.at ≡ 0 }
+    ensures { Writes (sheet_words (class_load seed n m)) sheet.old sheet.new }
 {
-    let a = put_flags(sheet, 0);
-    let b = put_identifiers(sheet, a, n);
-    let c = put_params(sheet, b);
-    let d = put_returns(sheet, c, n);
-    put_blocks(sheet, d, seed, n, m)
+    put_flags(sheet);
+    put_identifiers(sheet, n);
+    put_params(sheet);
+    put_returns(sheet, n);
+    put_blocks(sheet, seed, n, m);
 }
 
 // A refusal leaves the output all 0.
-fn refuse(sheet: &mut [u32], k: u32) -> Outcome
-    ensures { Filled (refusal k) sheet.old result sheet.new }
+fn refuse(sheet: &mut [u32], refusal: Refusal) -> Result<usize, Refusal>
+    ensures { Filled (refused (refusal_number refusal)) sheet.old result sheet.new }
 {
-    clear_from(sheet, 0);
-    Outcome::Refused(k)
+    sheet.fill(0);
+    Err(refusal)
 }
 
-// The class load: the sheet's words, then zeros; 5 for arguments outside their bounds, then 9 for an output that is shorter than the sheet.
-pub fn class_load(seed: u32, n: u32, m: u32, sheet: &mut [u32]) -> Outcome
+// The class load: the sheet's words, then zeros; how many words it has. OutOfRange for arguments outside their bounds, then ShortAnswer for an output that is shorter than the sheet.
+pub fn class_load(seed: u32, n: u32, m: u32, sheet: &mut [u32]) -> Result<usize, Refusal>
     ensures { Filled (load seed n m (length sheet.old)) sheet.old result sheet.new }
 {
     if !loadable(n, m) {
-        return refuse(sheet, 5);
+        return refuse(sheet, Refusal::OutOfRange);
     }
-    let length = put_sheet(sheet, seed, n, m);
+    let mut out = Writer::new(sheet);
+    put_sheet(&mut out, seed, n, m);
+    let length = out.at;
     if sheet.len() < length {
-        return refuse(sheet, 9);
+        return refuse(sheet, Refusal::ShortAnswer);
     }
-    clear_from(sheet, length);
-    Outcome::Accepted(length)
+    sheet[length..].fill(0);
+    Ok(length)
 }

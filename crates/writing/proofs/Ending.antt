@@ -3,9 +3,10 @@ use Prim.Native.Nat.{ℕ, ◌-◌, ◌≤◌, ◌<◌}
 use native.Mathlib.Omega.{arith}
 use mathlib.Core.Path.{◌≡◌, refl, sym, subst, ap, ◌∙◌}
 use mathlib.Core.Bool.{true, false}
-use mathlib.Core.List.{List, ◌++◌}
-use lib.ListN.{length, take, replicate}
+use mathlib.Core.List.{List, [], ◌++◌, append-nil}
+use lib.ListN.{length, take, drop, replicate, length-take, length-drop, drop_of_length-le}
 use lib.Dec.{ltb}
+use borrow.Rule.Slice.PartMut.{put_mid}
 use borrow.Author.Tests.{lt-ltb, le-ltb}
 use Rattle.std.specs.Prelude.{Result, Ok, Err}
 use Rattle.model.specs.Call.{Outcome as TheOutcome, refusal, accepted, fits, answer_after}
@@ -28,6 +29,16 @@ filled_long {o} e f = record { returned = f.returned; words = f.words ∙ ap (λ
 pub filled_refused : {k : Refusal} {a a' : List ℕ} → a' ≡ cleared_from 0 a → Filled (refusal (refusal_number k)) a (Err k) a'
 unfolding returned_by answer_after
 filled_refused {a = a} e = record { returned = refl; words = e ∙ cleared_all a }
+
+-- what stands behind n words is filled with 0
+pub rest_filled : (a : List ℕ) (n : ℕ) {ys : List ℕ} → n ≤ length a → ys ≡ replicate (length (take (length a - n) (drop n a))) 0 → put_mid n (length a - n) a ys ≡ cleared_from n a
+unfolding cleared_from
+rest_filled a n h e =
+    let k : length (take (length a - n) (drop n a)) ≡ length a - n = omega (arith, length-take (length a - n) (drop n a), length-drop n a) in
+    let none : drop (length a - n) (drop n a) ≡ [] = drop_of_length-le (drop n a) (omega (arith, length-drop n a)) in
+    ap (λ (l : List ℕ). put_mid n (length a - n) a l) (e ∙ ap (λ (i : ℕ). replicate i 0) k)
+    ∙ ap (λ (l : List ℕ). take n a ++ (replicate (length a - n) 0 ++ l)) none
+    ∙ ap (λ (l : List ℕ). take n a ++ l) (append-nil (replicate (length a - n) 0))
 
 -- ---- words that are longer than the buffer, or that fit
 module _ {vs : List ℕ} {o o' : Writer ℕ} (w : Writes vs o o') (start : o.at ≡ 0) where

@@ -1,32 +1,21 @@
 use native.Mathlib.Omega.{arith}
-use mathlib.Core.Path.{◌∙◌}
-use Rattle.copies.proofs.Loops.{leaves_same}
 use Rattle.load.proofs.Putting.{drawing_start, drawing_room, drawing_turn, drawing_end}
 use Rattle.load.proofs.parts.put_instructions.Goals as goal
 
-pub loop-left-init : goal.loop-left-init
-loop-left-init c = drawing_start _ _ _ _ _
+pub loop-order-init : goal.loop-order-init
+loop-order-init c = drawing_start _ _ _ _
 
-pub draw_effect-drawn-requires : goal.draw_effect-drawn-requires
-draw_effect-drawn-requires c =
-    c.requires.n_nonzero.0
+pub put_instruction-requires : goal.put_instruction-requires
+put_instruction-requires c =
+    drawing_room c.put.ensures c.loop-order.invariant _ c.loop-order-test.true c.effect.ensures c.requires.seed_bound
 
-pub put_instruction-to-requires : goal.put_instruction-to-requires
-put_instruction-to-requires c =
-    drawing_room c.put-to.ensures c.loop-left.invariant _ c.loop-left-test.true c.draw_effect-drawn.ensures c.requires.seed_bound
-
-pub overflow_add-order : goal.overflow_add-order
-overflow_add-order c =
-    omega (arith, c.loop-left.invariant.orders, c.requires.n_nonzero.1)
-
-pub loop-left-preserved : goal.loop-left-preserved
-loop-left-preserved c =
-    drawing_turn c.put-to.ensures c.loop-left.invariant c.loop-left-test.true c.draw_effect-drawn.ensures c.put_instruction-to.ensures
-
-pub shape_of-sheet : goal.shape_of-sheet
-shape_of-sheet c =
-    leaves_same c.loop-left.invariant.leaves ∙ c.put-to.auto.answer
+pub loop-order-preserved : goal.loop-order-preserved
+loop-order-preserved c =
+    drawing_turn c.put.ensures c.loop-order.invariant c.loop-order-test.true c.effect.ensures c.put_instruction.ensures
 
 pub returns : goal.returns
-returns c =
-    drawing_end c.put-to.ensures c.loop-left.invariant c.loop-left-test.false
+returns c = drawing_end c.put.ensures c.loop-order.invariant c.loop-order-test.false
+
+pub returns-2 : goal.returns-2
+returns-2 c =
+    drawing_end c.put.ensures (drawing_turn c.put.ensures c.loop-order.invariant c.loop-order-test.true c.effect.ensures c.put_instruction.ensures) (omega arith)
