@@ -28,7 +28,7 @@ use Rattle.writing.proofs.Writing.{writes_as}
 use Rattle.copies.specs.Functions.{functions_of, Functions}
 use Rattle.copies.proofs.Errors.{functions_are, functions_again, functions_kept, handed_room}
 use Rattle.model.proofs.Gathers.{gather_gather}
-use Rattle.copies.proofs.Loops.{Leaves, leaves_all, table_turn, table_end}
+use Rattle.copies.proofs.Loops.{Leaves, table_turn, table_end}
 use Rattle.diagnostics.specs.Diagnosed.{most_handed, RendersPut}
 
 pub unmoved_none : (ws : List ℕ) → Unmoved ws ws
@@ -89,14 +89,6 @@ pub record Rendering (fs : List InnerFunction) (ws₀ : List ℕ) (n : ℕ) (o�
   pub few : o.at + most_handed * (n - i) ≤ o₀.at + most_handed * n
   pub unmoved : Unmoved ws₀ ws
   pub indexed : Indexed ws
-
-pub rendering_start : (fs : List InnerFunction) (ws : List ℕ) (n : ℕ) (o : Writer ℕ) → Indexed ws → Rendering fs ws n o ws o 0
-rendering_start fs ws n o indexed = record {
-  leaves = leaves_all (gather (render_words (state_of ws HANDED) fs) (tab n (render_at ws))) o;
-  few = omega arith;
-  unmoved = unmoved_none ws;
-  indexed = indexed;
-}
 
 module _ {fs : List InnerFunction} {ws₀ : List ℕ} {n : ℕ} {o₀ : Writer ℕ} {ws : List ℕ} {o : Writer ℕ} {i : ℕ} (v : Rendering fs ws₀ n o₀ ws o i) where
   module _ {ws' : List ℕ} {count hand : ℕ} (r : Rendered (get_or ws (RENDERS + i) 0 / 512) (get_or ws (RENDERS + i) 0 % 512) ws ws' count hand) where

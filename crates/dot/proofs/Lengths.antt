@@ -1,27 +1,22 @@
 -- How long the parts of a line are at most, their numbers being of 32 bits.
-use Prim.Native.Nat.{ℕ, zero, suc, ◌+◌, ◌/◌, ◌%◌, ◌≤◌, ◌<◌}
+use Prim.Native.Nat.{ℕ, ◌+◌, ◌/◌, ◌%◌, ◌≤◌, ◌<◌}
 use native.Mathlib.Omega.{arith}
-use mathlib.Core.Path.{◌≡◌, refl, sym, ap}
+use mathlib.Core.Path.{◌≡◌, sym, ap, subst, ◌∙◌}
 use mathlib.Core.List.{List, [], ◌∷◌, ◌++◌, append_assoc}
 use lib.ListN.{length, length-append}
 use Rattle.model.specs.Graph.{EdgeKind, capture, alias, maybe, Edge, edge_kind}
 use Rattle.model.specs.Digits.{bytes, zero_digit, digits}
 use Rattle.model.specs.Dot.{kind_word, node_line, edge_line}
-use Rattle.model.proofs.Digits.{digits_more, digits_ten}
-use Rattle.workspace.specs.Graph.{CAPTURES, MAYBE, relation_of, edge_row}
-use Rattle.writing.specs.Wrote.{Wrote}
-use Rattle.writing.proofs.Writing.{wrote_none, wrote_as}
+use Rattle.model.proofs.Digits.{digits_few, digits_more, digits_ten}
+use Rattle.workspace.specs.Graph.{relation_of, edge_row}
+use Rattle.writing.specs.declared.Writer.{Writer}
+use Rattle.writing.specs.Wrote.{Writes}
+use Rattle.writing.proofs.Writing.{writes_none, writes_then, writes_as}
 use Rattle.dot.specs.Lines.{most_digits, most_kind, most_ends, most_label, most_line, ends_text, label_text, Put}
 
 -- every number of 32 bits is below this
 abbrev pub numbers : ℕ
 numbers = 4294967296
-
--- the digits before the last
-pub tenth_short : (n : ℕ) → 10 ≤ n → n < numbers → length (digits (n / 10)) < most_digits
-tenth_short n h k =
-    let e : length (digits n) ≡ length (digits (n / 10) ++ ((zero_digit + n % 10) ∷ [])) = ap (λ (l : List ℕ). length l) (digits_more n h) in
-    omega (arith, e, length-append (digits (n / 10)) ((zero_digit + n % 10) ∷ []), digits_ten n k)
 
 pub kind_short : (k : EdgeKind) → length (kind_word k) ≤ most_kind
 kind_short capture = omega arith
@@ -51,29 +46,36 @@ edge_short x w h k =
     let e : length (ends_text x (w % 512) ++ label_text (edge_kind (relation_of (w / 512 % 4))) (w / 2048)) ≡ length (edge_line x (edge_row w)) = ap (λ (l : List ℕ). length l) (line_parts x (edge_row w)) in
     omega (arith, e, length-append (ends_text x (w % 512)) (label_text (edge_kind (relation_of (w / 512 % 4))) (w / 2048)), ends_short x (w % 512) h (omega arith), label_short (edge_kind (relation_of (w / 512 % 4))) (w / 2048) (omega (arith, k)))
 
--- ---- the word of a kind, by the list of its relation
-pub kind_capture : {list : ℕ} → list ≡ CAPTURES → bytes "capture" ≡ kind_word (edge_kind (relation_of list))
-kind_capture e = ap (λ (l : ℕ). kind_word (edge_kind (relation_of l))) (sym e)
-
-pub kind_maybe : {list : ℕ} → list ≡ MAYBE → bytes "maybe" ≡ kind_word (edge_kind (relation_of list))
-kind_maybe e = ap (λ (l : ℕ). kind_word (edge_kind (relation_of l))) (sym e)
-
-pub kind_alias : (list : ℕ) → list < 4 → (list ≡ CAPTURES → ⊥) → (list ≡ MAYBE → ⊥) → bytes "alias" ≡ kind_word (edge_kind (relation_of list))
-kind_alias zero h p q = refl
-kind_alias (suc zero) h p q = refl
-kind_alias (suc (suc zero)) h p q = absurd (q refl)
-kind_alias (suc (suc (suc zero))) h p q = absurd (p refl)
-kind_alias (suc (suc (suc (suc l)))) h p q = absurd (omega (arith, h))
-
 -- ---- what was written, and how long it is at most
 -- what was written is short, if its bytes are
-pub put_short : {bs a a' : List ℕ} {at r : ℕ} (most : ℕ) → length bs ≤ most → Wrote bs a at a' r → Put bs most a at a' r
-put_short most h w = record { wrote = w; few = omega (arith, w.next, h) }
+pub put_short : {bs : List ℕ} {o o' : Writer ℕ} (most : ℕ) → length bs ≤ most → Writes bs o o' → Put bs most o o'
+put_short most h w = record { wrote = w; few = omega (arith, w.wrote.next, h) }
 
 -- nothing was
-pub put_none : {bs a : List ℕ} {at most : ℕ} → [] ≡ bs → Put bs most a at a at
-put_none {a = a} {at} e = record { wrote = wrote_as (wrote_none a at) e; few = omega arith }
+pub put_none : {bs : List ℕ} {o : Writer ℕ} {most : ℕ} → [] ≡ bs → Put bs most o o
+put_none {o = o} e = record { wrote = writes_as (writes_none o) e; few = omega arith }
 
 -- the same bytes by another name
-pub put_as : {bs cs a a' : List ℕ} {at r most : ℕ} → Put bs most a at a' r → bs ≡ cs → Put cs most a at a' r
-put_as p e = record { wrote = wrote_as p.wrote e; few = p.few }
+pub put_as : {bs cs : List ℕ} {o o' : Writer ℕ} {most : ℕ} → Put bs most o o' → bs ≡ cs → Put cs most o o'
+put_as p e = record { wrote = writes_as p.wrote e; few = p.few }
+
+-- ---- a number: its digits before the last, if it has any, and the last
+pub record Leading (n : ℕ) (o o' : Writer ℕ) : Type 0 where
+  pub before : List ℕ
+  pub wrote : Writes before o o'
+  pub whole : digits n ≡ before ++ ((zero_digit + n % 10) ∷ [])
+
+pub leading_more : (n : ℕ) {o o' o'' : Writer ℕ} → 10 ≤ n → Writes (digits (n / 10)) o o' → o'' ≡ o' → Leading n o o''
+leading_more n {o} h w e = subst (λ (x : Writer ℕ). Leading n o x) (sym e) (record { before = digits (n / 10); wrote = w; whole = digits_more n h })
+
+pub leading_none : (n : ℕ) {o o' : Writer ℕ} → n < 10 → o' ≡ o → Leading n o o'
+leading_none n {o} h e =
+    let d : n ≡ n % 10 = omega arith in
+    subst (λ (x : Writer ℕ). Leading n o x) (sym e) (record { before = []; wrote = writes_none o; whole = digits_few n h ∙ ap (λ (i : ℕ). (zero_digit + i) ∷ []) d })
+
+module _ {n : ℕ} {o o' : Writer ℕ} (l : Leading n o o') where
+  pub leading_room : n < numbers → o'.at < o.at + most_digits
+  leading_room h = omega (arith, l.wrote.wrote.next, ap (λ (d : List ℕ). length d) l.whole, length-append l.before ((zero_digit + n % 10) ∷ []), digits_ten n h)
+
+  pub leading_last : {o'' : Writer ℕ} → Writes ((zero_digit + n % 10) ∷ []) o' o'' → Writes (digits n) o o''
+  leading_last w = writes_as (writes_then l.wrote w) (sym l.whole)

@@ -9,7 +9,8 @@ use Rattle.model.specs.Digits.{bytes, digits}
 use Rattle.model.specs.Dot.{kind_word, node_line, edge_line}
 use Rattle.workspace.specs.Rows.{row_f, row_b}
 use Rattle.workspace.specs.Graph.{edge_row, node_of}
-use Rattle.writing.specs.Wrote.{Wrote}
+use Rattle.writing.specs.declared.Writer.{Writer}
+use Rattle.writing.specs.Wrote.{Writes}
 
 -- the digits of a number of 32 bits
 abbrev pub most_digits : ℕ
@@ -73,6 +74,6 @@ abbrev pub most_edges : ℕ
 most_edges = most_identifiers * most_row
 
 -- bytes were written, and they are not more than `most`
-pub record Put (bs : List ℕ) (most : ℕ) (text : List ℕ) (at : ℕ) (text' : List ℕ) (r : ℕ) : Type 0 where
-  pub wrote : Wrote bs text at text' r
-  pub few : r ≤ at + most
+pub record Put (bs : List ℕ) (most : ℕ) (o o' : Writer ℕ) : Type 0 where
+  pub wrote : Writes bs o o'
+  pub few : o'.at ≤ o.at + most

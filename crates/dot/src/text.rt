@@ -1,36 +1,28 @@
 // Bytes and decimal numbers, written one after another.
 ghost use Rattle.std.specs.Prelude.{◌+◌, ◌≤◌, length};
 ghost use Rattle.model.specs.Digits.{digits};
-ghost use Rattle.writing.specs.Wrote.{Wrote, farthest};
+ghost use Rattle.writing.specs.Wrote.{Writes, farthest};
 ghost use Rattle.dot.specs.Lines.{most_digits};
 
-use writing::put_byte;
-
-// The byte of the digit 0.
-const ZERO: u32 = 48;
+use writing::Writer;
 
 // Some bytes.
-pub fn put_bytes(text: &mut [u8], at: usize, bytes: &[u8]) -> usize
-    requires { at + length bytes.now ≤ farthest }
-    ensures { Wrote bytes.now text.old at text.new result }
+pub fn put_bytes(text: &mut Writer<'_, u8>, bytes: &[u8])
+    requires { text.old.at + length bytes.now ≤ farthest }
+    ensures { Writes bytes.now text.old text.new }
 {
-    let mut to = at;
-    let mut i = 0;
-    while i < bytes.len() {
-        to = put_byte(text, to, bytes[i]);
-        i += 1;
+    for &byte in bytes {
+        text.put(byte);
     }
-    to
 }
 
 // The digits of a number, the most significant first.
-pub fn put_digits(text: &mut [u8], at: usize, n: u32) -> usize
-    requires { at + most_digits ≤ farthest }
-    ensures { Wrote (digits n) text.old at text.new result }
+pub fn put_digits(text: &mut Writer<'_, u8>, n: u32)
+    requires { text.old.at + most_digits ≤ farthest }
+    ensures { Writes (digits n) text.old text.new }
 {
-    if n < 10 {
-        return put_byte(text, at, (ZERO + n) as u8);
+    if 10 <= n {
+        put_digits(text, n / 10);
     }
-    let last = put_digits(text, at, n / 10);
-    put_byte(text, last, (ZERO + n % 10) as u8)
+    text.put(b'0' + (n % 10) as u8);
 }

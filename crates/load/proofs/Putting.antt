@@ -4,7 +4,7 @@ use native.Mathlib.Omega.{arith}
 use native.Mathlib.Numerals.{add-one}
 use mathlib.Core.Path.{◌≡◌, sym, ap, ◌∙◌}
 use mathlib.Core.List.{List, [], ◌∷◌, ◌++◌}
-use lib.ListN.{length, replicate, length-append, length-replicate}
+use lib.ListN.{length, replicate, length-append}
 use Rattle.model.specs.Lists.{gather}
 use Rattle.model.specs.Sheet.{EvaluationOrder}
 use Rattle.model.specs.Answer.{section}
@@ -27,18 +27,8 @@ identifiers_left left = gather identifier_words (replicate left load_identifier)
 identifiers_next : (n i : ℕ) → i < n → identifiers_left (n - i) ≡ identifier_words load_identifier ++ identifiers_left (n - (i + 1))
 identifiers_next n i h = let e : n - i ≡ suc (n - (i + 1)) = omega arith in ap identifiers_left e
 
-identifiers_none : (n i : ℕ) → n ≤ i → identifiers_left (n - i) ≡ []
-identifiers_none n i h = let e : n - i ≡ 0 = omega arith in rw e
-
-module _ {n : ℕ} {o₀ o₁ : Writer ℕ} (counted : Writes (n ∷ []) o₀ o₁) {i : ℕ} {o : Writer ℕ} (v : Leaves (identifiers_left n) (identifiers_left (n - i)) o₁ o) where
-  pub identifiers_room : (most : ℕ) → i < n → o₀.at + length (section identifier_words (replicate n load_identifier)) ≤ most → o.at + length (identifier_words load_identifier) ≤ most
-  identifiers_room most h r = leaves_room (identifier_words load_identifier) (identifiers_left (n - (i + 1))) most v (identifiers_next n i h) (omega (arith, r, counted.wrote.next))
-
-  pub identifiers_turn : i < n → {o' : Writer ℕ} → Writes (identifier_words load_identifier) o o' → Leaves (identifiers_left n) (identifiers_left (n - (i + 1))) o₁ o'
-  identifiers_turn h w = leaves_then v w (identifiers_next n i h)
-
-  pub identifiers_end : n ≤ i → Writes (section identifier_words (replicate n load_identifier)) o₀ o
-  identifiers_end h = writes_as (writes_then counted (leaves_none v (identifiers_none n i h))) (ap (λ (k : ℕ). k ∷ identifiers_left n) (sym (length-replicate n load_identifier)))
+pub identifiers_turn : (n i : ℕ) {o₀ o o' : Writer ℕ} → Leaves (identifiers_left n) (identifiers_left (n - i)) o₀ o → i < n → Writes (identifier_words load_identifier) o o' → Leaves (identifiers_left n) (identifiers_left (n - (i + 1))) o₀ o'
+identifiers_turn n i v h w = leaves_then v w (identifiers_next n i h)
 
 -- ---- instructions: those from an order on are left, drawn from a state on
 abbrev instructions_left : ℕ → ℕ → EvaluationOrder → ℕ → List ℕ

@@ -25,9 +25,6 @@ module _ (seed n m : ℕ) where
   pub blocks_parts : 1 ∷ 0 ∷ 0 ∷ (instructions ++ terminal) ≡ section block_words (load_block seed n m ∷ [])
   blocks_parts = ap (λ (l : List ℕ). 1 ∷ 0 ∷ 0 ∷ l) (sym (append-nil (instructions ++ terminal)))
 
-  pub blocks_length : length (section block_words (load_block seed n m ∷ [])) ≡ 3 + (length instructions + length terminal)
-  blocks_length = omega (arith, ap (λ (l : List ℕ). length l) blocks_parts, length-append instructions terminal)
-
 -- ---- the sheet
 module _ (seed n m : ℕ) where
   abbrev identifiers : List ℕ

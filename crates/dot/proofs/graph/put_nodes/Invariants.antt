@@ -1,13 +1,8 @@
-use Prim.Native.Nat.{◌-◌}
-use Rattle.model.specs.Limits.{most_identifiers}
 use Rattle.workspace.specs.Rows.{rows_of}
 use Rattle.dot.specs.Lines.{most_line}
-use Rattle.dot.proofs.Listing.{Saying}
+use Rattle.dot.proofs.Listing.{Listing}
 use Rattle.dot.proofs.Nodes.{nodes_from}
 use Rattle.dot.proofs.graph.put_nodes.Given as goal
 
 abbrev pub invariant-loop-x : goal.invariant-loop-x
-invariant-loop-x l = Saying most_line (nodes_from (rows_of l.ws)) l.initial.text l.initial.to l.text l.to l.x
-
-abbrev pub decreases-loop-x : goal.decreases-loop-x
-decreases-loop-x l = most_identifiers - l.x
+invariant-loop-x l = Listing most_line (nodes_from (rows_of l.ws) 0) (nodes_from (rows_of l.ws) l.x) l.initial.text l.x l.text

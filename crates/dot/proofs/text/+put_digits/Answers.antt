@@ -1,15 +1,18 @@
+use Prim.Native.Nat.{ℕ}
 use native.Mathlib.Omega.{arith}
-use mathlib.Core.Path.{sym}
-use Rattle.model.proofs.Digits.{digits_few, digits_more}
-use Rattle.writing.proofs.Writing.{wrote_as, wrote_then}
-use Rattle.dot.proofs.Lengths.{tenth_short}
+use Rattle.dot.proofs.Lengths.{Leading, leading_more, leading_none, leading_room, leading_last}
 use Rattle.dot.proofs.text.+put_digits.Goals as goal
+use Rattle.dot.proofs.text.+put_digits.Goals.{Joined-n-ge10, then-n-ge10, else-n-ge10}
 
-pub returns-then-n-lt10 : goal.returns-then-n-lt10
-returns-then-n-lt10 t c = wrote_as c.put_byte.ensures (sym (digits_few c.args.n c.if-n-lt10.true))
+-- the digits before the last
+leading : (t : ℕ) (c : Joined-n-ge10 t) → Leading c.args.n c.args.text.now c.if-n-ge10.text
+leading t c = elim c.if-n-ge10.branch [
+  | then-n-ge10 w ↦ leading_more _ w.if-n-ge10.true w.put_digits.ensures w.text-is
+  | else-n-ge10 w ↦ leading_none _ w.if-n-ge10.false w.text-is
+]
 
-pub put_byte-requires-2 : goal.put_byte-requires-2
-put_byte-requires-2 t c = omega (arith, c.put_digits-last.ensures.next, c.requires, tenth_short c.args.n c.if-n-lt10.false (omega arith))
+pub put-requires : goal.put-requires
+put-requires t c = let l = leading_room (leading t (goal.at.put-requires t c).Joined-n-ge10) (omega arith) in omega arith
 
 pub returns : goal.returns
-returns t c = wrote_as (wrote_then c.put_digits-last.ensures c.put_byte-2.ensures) (sym (digits_more c.args.n c.if-n-lt10.false))
+returns t c = leading_last (leading t (goal.at.returns t c).Joined-n-ge10) c.put.ensures
