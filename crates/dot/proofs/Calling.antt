@@ -45,21 +45,20 @@ module _ (sheet ws text ws₁ : List ℕ) {p : Result Read Refusal} (h : Prepare
   draw_refused e c = let q = refused_by h e in came_as (sym (ap (drawn (length text)) q.0)) (came_long q.1 refl c)
 
   module _ {x : Read} (e : p ≡ Ok x) where
-    module _ {o o₁ : Writer ℕ} (is_text : o.buffer.now ≡ text) (start : o.at ≡ 0) (put : Writes (dot (graph_of_rows (rows_of ws₁))) o o₁) where
+    module _ {b : List ℕ} {o o₁ : Writer ℕ} (start : o.at ≡ 0) (items : o.buffer.now ≡ text) (put : Writes (dot (graph_of_rows (rows_of ws₁))) o o₁) (left : b ≡ o₁.buffer.now) where
       -- the outcome is the text of the sheet's graph, if it fits
-      draw-fits : {s : Sheet} {c : Position} → Prepared s sheet sheet ws₁ x.function x.building → admit sheet (length ws) ≡ got s c → Came (fits (length text) (dot (graph_of_rows (rows_of ws₁)))) ws text r ws' text' → Drawn sheet ws text r ws' text'
+      draw-fits : {s : Sheet} {c : Position} → Prepared s sheet sheet ws₁ x.function x.building → admit sheet (length ws) ≡ got s c → Came (fits (length o.buffer.now) (dot (graph_of_rows (rows_of ws₁)))) ws o.buffer.now r ws' text' → Drawn sheet ws text r ws' text'
       unfolding draw drawn
-      draw-fits ready q c = came_as (ap (λ (g : Graph). fits (length text) (dot g)) (graph_is ready) ∙ sym (ap (drawn (length text)) q)) c
+      draw-fits ready q c =
+          came_as (ap (λ (g : Graph). fits (length text) (dot g)) (graph_is ready) ∙ sym (ap (drawn (length text)) q))
+          (subst (λ (l : List ℕ). Came (fits (length l) (dot (graph_of_rows (rows_of ws₁)))) ws l r ws' text') items c)
 
-      pub draw_nine : length o₁.buffer.now < o₁.at → Came (refusal 9) ws₁ o₁.buffer.now r ws' text' → Drawn sheet ws text r ws' text'
-      draw_nine k c =
-          let (_, (_, (q, (ready, same)))) = ready_by h e in
-          draw-fits ready q
-          (came_as (too_long put start k ∙ ap (λ (l : List ℕ). fits (length l) (dot (graph_of_rows (rows_of ws₁)))) is_text) (came_long same (room put start ∙ ap (λ (l : List ℕ). length l) is_text) c))
+      pub draw_nine : length b < o₁.at → Came (refusal 9) ws₁ b r ws' text' → Drawn sheet ws text r ws' text'
+      draw_nine k c = let (_, (_, (q, (ready, same)))) = ready_by h e in draw-fits ready q (came_as (too_long put start (rw (sym left) k)) (came_long same (ap (λ (l : List ℕ). length l) left ∙ room put start) c))
 
-      pub draw_accepted : o₁.at ≤ length o₁.buffer.now → r ≡ Ok o₁.at → ws' ≡ cleared_from 0 ws₁ → text' ≡ cleared_from o₁.at o₁.buffer.now → Drawn sheet ws text r ws' text'
+      pub draw_accepted : o₁.at ≤ length b → r ≡ Ok o₁.at → ws' ≡ cleared_from 0 ws₁ → text' ≡ cleared_from o₁.at b → Drawn sheet ws text r ws' text'
       draw_accepted k is u v =
           let (_, (_, (q, (ready, same)))) = ready_by h e in
           draw-fits ready q
-          (subst (λ (y : Result ℕ Refusal). Came (fits (length text) (dot (graph_of_rows (rows_of ws₁)))) ws text y ws' text') (sym is)
-          (subst (λ (l : List ℕ). Came (fits (length l) (dot (graph_of_rows (rows_of ws₁)))) ws l (Ok o₁.at) ws' text') is_text (answered_all put start ws₁ k same u v)))
+          (subst (λ (y : Result ℕ Refusal). Came (fits (length o.buffer.now) (dot (graph_of_rows (rows_of ws₁)))) ws o.buffer.now y ws' text') (sym is)
+          (answered_all put start ws₁ (rw (sym left) k) same u (v ∙ ap (cleared_from o₁.at) left)))

@@ -40,10 +40,12 @@ accepted_is sheet {t} e = let a = accepted_sheet sheet t e in (a.sheet, a.is)
 
 -- where neither a diagnosis nor a render was told it has no effect to copy
 pub accepted_none : (sheet : List ℕ) {t : Told} → judgement_of (read sheet) ≡ acceptance t → NoneUnless (t.diagnoses || ltb 0 t.renders) sheet
-DIAG
+accepted_none sheet {t} e h =
+    let r : t.renders ≤ 0 = ltb-false 0 t.renders (or_right t.diagnoses (ltb 0 t.renders) h) in
+    accepted_copies sheet t e (or_left t.diagnoses (ltb 0 t.renders) h) (omega (arith, r))
 
 -- what was told of Apply
-pub accepted_tells : (sheet : List ℕ) {t : Told} → judgement_of (read sheet) ≡ acceptance t → AppliesIs (ltb 0 t.applies) sheet
+pub accepted_tells : (sheet : List ℕ) {t : Told} → judgement_of (read sheet) ≡ acceptance t → AppliesIs t.applies sheet
 accepted_tells sheet {t} e s is = sym (accepted_applies sheet t e s is)
 
 -- ---- what is prepared
@@ -101,24 +103,23 @@ module _ (sheet ws ans ws₁ : List ℕ) {p : Result Read Refusal} (h : Prepares
         let ten : refusal 10 ≡ pick (applies s) (refusal 10) (fits (length ans) (answer_words (answer s))) = sym (rw (sym ready.applies ∙ told)) in
         came_as (ten ∙ sym (ap (answered (length ans)) q)) (came_long same refl c)
 
-    module _ (unapplied : x.function.applies ≡ false) {o o₁ : Writer ℕ} (is_ans : o.buffer.now ≡ ans) (start : o.at ≡ 0) {ws₂ : List ℕ} (put : AnswerPut sheet sheet ws₁ x.function x.building o ws₂ o₁) where
+    module _ (unapplied : x.function.applies ≡ false) {b : List ℕ} {o o₁ : Writer ℕ} (start : o.at ≡ 0) (items : o.buffer.now ≡ ans) {ws₂ : List ℕ} (put : AnswerPut sheet sheet ws₁ x.function x.building o ws₂ o₁) (left : b ≡ o₁.buffer.now) where
       -- the outcome is the answer, if it fits
-      call_fits : {s : Sheet} {c : Position} → x.function.applies ≡ applies s → admit sheet (length ws) ≡ got s c → Came (fits (length ans) (answer_words (answer s))) ws ans r ws' ans' → Inferred sheet ws ans r ws' ans'
+      call_fits : {s : Sheet} {c : Position} → x.function.applies ≡ applies s → admit sheet (length ws) ≡ got s c → Came (fits (length o.buffer.now) (answer_words (answer s))) ws o.buffer.now r ws' ans' → Inferred sheet ws ans r ws' ans'
       unfolding outcome answered
       call_fits {s} told q c =
           let none : fits (length ans) (answer_words (answer s)) ≡ pick (applies s) (refusal 10) (fits (length ans) (answer_words (answer s))) = sym (rw (sym told ∙ unapplied)) in
-          came_as (none ∙ sym (ap (answered (length ans)) q)) c
+          came_as (none ∙ sym (ap (answered (length ans)) q)) (subst (λ (l : List ℕ). Came (fits (length l) (answer_words (answer s))) ws l r ws' ans') items c)
 
-      pub call_nine : length o₁.buffer.now < o₁.at → Came (refusal 9) ws₂ o₁.buffer.now r ws' ans' → Inferred sheet ws ans r ws' ans'
+      pub call_nine : length b < o₁.at → Came (refusal 9) ws₂ b r ws' ans' → Inferred sheet ws ans r ws' ans'
       call_nine k c =
           let (s, (_, (q, (ready, same)))) = ready_by h e in
           let w = put.wrote s ready in
-          call_fits ready.applies q
-          (came_as (too_long w start k ∙ ap (λ (l : List ℕ). fits (length l) (answer_words (answer s))) is_ans) (came_long (put.walkable.same ∙ same) (room w start ∙ ap (λ (l : List ℕ). length l) is_ans) c))
+          call_fits ready.applies q (came_as (too_long w start (rw (sym left) k)) (came_long (put.walkable.same ∙ same) (ap (λ (l : List ℕ). length l) left ∙ room w start) c))
 
-      pub call-answered : o₁.at ≤ length o₁.buffer.now → r ≡ Ok o₁.at → ws' ≡ cleared_from 0 ws₂ → ans' ≡ cleared_from o₁.at o₁.buffer.now → Inferred sheet ws ans r ws' ans'
+      pub call-answered : o₁.at ≤ length b → r ≡ Ok o₁.at → ws' ≡ cleared_from 0 ws₂ → ans' ≡ cleared_from o₁.at b → Inferred sheet ws ans r ws' ans'
       call-answered k is p q =
           let (s, (_, (a, (ready, same)))) = ready_by h e in
           call_fits ready.applies a
-          (subst (λ (y : Result ℕ Refusal). Came (fits (length ans) (answer_words (answer s))) ws ans y ws' ans') (sym is)
-          (subst (λ (l : List ℕ). Came (fits (length l) (answer_words (answer s))) ws l (Ok o₁.at) ws' ans') is_ans (answered_all (put.wrote s ready) start ws₂ k (put.walkable.same ∙ same) p q)))
+          (subst (λ (y : Result ℕ Refusal). Came (fits (length o.buffer.now) (answer_words (answer s))) ws o.buffer.now y ws' ans') (sym is)
+          (answered_all (put.wrote s ready) start ws₂ (rw (sym left) k) (put.walkable.same ∙ same) p (q ∙ ap (cleared_from o₁.at) left)))

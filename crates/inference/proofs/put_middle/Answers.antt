@@ -8,52 +8,52 @@ pub process_mutations-hand-requires : goal.process_mutations-hand-requires
 process_mutations-hand-requires c =
     record { indexed = c.requires.prepared.1.indexed; pending = c.requires.prepared.1.pending }
 
-pub put_tracked-a1-requires : goal.put_tracked-a1-requires
-put_tracked-a1-requires c =
+pub put_tracked-requires : goal.put_tracked-requires
+put_tracked-requires c =
     let p = c.requires.prepared.1 in
     record { limited = (p.limited, (real_stands p c.process_mutations-hand.ensures).size); most_tracked_words_bound = omega (arith, c.requires.most_middle_bound) }
 
-pub put_diagnostics-a2-requires : goal.put_diagnostics-a2-requires
-put_diagnostics-a2-requires c =
+pub put_diagnostics-requires : goal.put_diagnostics-requires
+put_diagnostics-requires c =
     let p = c.requires.prepared.1 in
     let m = c.process_mutations-hand.ensures in
-    record { limited = p.limited; indexed = real_indexed p m; describes = (c.requires.prepared.0, (p.describes, real_stands p m)); renders_le_most_renders = (p.few_renders, (hand_low m, omega (arith, c.requires.most_middle_bound, c.put_tracked-a1.ensures.few))) }
+    record { limited = p.limited; indexed = real_indexed p m; describes = (c.requires.prepared.0, (p.describes, real_stands p m)); renders_le_most_renders = (p.few_renders, (hand_low m, omega (arith, c.requires.most_middle_bound, c.put_tracked.ensures.few))) }
 
 pub index-requires : goal.index-requires
 index-requires c =
     let p = c.requires.prepared.1 in
     p.indexes
 
-pub put_effects-a3-requires : goal.put_effects-a3-requires
-put_effects-a3-requires c =
+pub put_effects-requires : goal.put_effects-requires
+put_effects-requires c =
     let p = c.requires.prepared.1 in
     let m = c.process_mutations-hand.ensures in
-    let u = c.put_diagnostics-a2.ensures.unmoved in
-    record { limited = p.limited; indexed = next_indexed p m u; before = (c.requires.prepared.0, before_effects p m u c.index.ensures); index_le_most_index = (omega (arith, c.index.ensures, p.indexes), omega (arith, c.requires.most_middle_bound, c.put_tracked-a1.ensures.few, c.put_diagnostics-a2.ensures.few)) }
+    let u = c.put_diagnostics.ensures.unmoved in
+    record { limited = p.limited; indexed = next_indexed p m u; before = (c.requires.prepared.0, before_effects p m u c.index.ensures); index_le_most_index = (omega (arith, c.index.ensures, p.indexes), omega (arith, c.requires.most_middle_bound, c.put_tracked.ensures.few, c.put_diagnostics.ensures.few)) }
 
-pub overflow_add-f : goal.overflow_add-f
-overflow_add-f c =
+pub overflow_add-walks : goal.overflow_add-walks
+overflow_add-walks c =
     omega (arith, c.requires.prepared.1.limited.params, c.requires.prepared.1.limited.context)
 
-pub overflow_add-f-2 : goal.overflow_add-f-2
-overflow_add-f-2 c =
+pub overflow_add-walks-2 : goal.overflow_add-walks-2
+overflow_add-walks-2 c =
     omega (arith, c.requires.prepared.1.limited.params, c.requires.prepared.1.limited.context)
 
-pub overflow_cast-f : goal.overflow_cast-f
-overflow_cast-f c =
+pub overflow_cast-walks : goal.overflow_cast-walks
+overflow_cast-walks c =
     omega (arith, c.requires.prepared.1.limited.params, c.requires.prepared.1.limited.context)
 
 pub put_walks-requires : goal.put_walks-requires
 put_walks-requires c =
     let p = c.requires.prepared.1 in
-    record { real_le_most_mutations = (p.pending.few, (omega (arith, p.limited.params, p.limited.context), c.put_effects-a3.ensures.walkable.indexed.size)); most_walks_bound = omega (arith, c.requires.most_middle_bound, c.put_tracked-a1.ensures.few, c.put_diagnostics-a2.ensures.few, c.put_effects-a3.ensures.few) }
+    record { real_le_most_mutations = (p.pending.few, (omega (arith, p.limited.params, p.limited.context), c.put_effects.ensures.walkable.indexed.size)); most_walks_bound = omega (arith, c.requires.most_middle_bound, c.put_tracked.ensures.few, c.put_diagnostics.ensures.few, c.put_effects.ensures.few) }
 
 pub shape_of-ws : goal.shape_of-ws
 shape_of-ws c =
-    c.put_effects-a3.ensures.walkable.same
-    ∙ c.put_diagnostics-a2.ensures.unmoved.aside.same
+    c.put_effects.ensures.walkable.same
+    ∙ c.put_diagnostics.ensures.unmoved.aside.same
     ∙ c.process_mutations-hand.ensures.same
 
 pub returns : goal.returns
 returns c =
-    let p = c.requires.prepared.1 in stages p.limited p.pending.few c.process_mutations-hand.ensures c.put_tracked-a1.ensures c.put_diagnostics-a2.ensures c.index.ensures c.put_effects-a3.ensures c.put_walks.ensures
+    let p = c.requires.prepared.1 in stages p.limited p.pending.few c.process_mutations-hand.ensures c.put_tracked.ensures c.put_diagnostics.ensures c.index.ensures c.put_effects.ensures c.put_walks.ensures

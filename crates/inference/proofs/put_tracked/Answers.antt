@@ -3,14 +3,13 @@ use Rattle.summary.proofs.Rooms.{marked_next}
 use Rattle.inference.proofs.Answering.{tracked_put}
 use Rattle.inference.proofs.put_tracked.Goals as goal
 
-pub put_marked-a-requires : goal.put_marked-a-requires
-put_marked-a-requires c =
-    record { count_bound = (omega (arith, c.requires.limited.0.params), c.requires.limited.1); count_bound_2 = omega (arith, c.requires.limited.0.params, c.requires.most_tracked_words_bound) }
-
 pub put_marked-requires : goal.put_marked-requires
 put_marked-requires c =
-    record { count_bound = (omega (arith, c.requires.limited.0.params, c.requires.limited.0.context), c.requires.limited.1); count_bound_2 = omega (arith, c.requires.limited.0.params, c.requires.limited.0.context, c.requires.most_tracked_words_bound, marked_next _ _ _ c.put_marked-a.ensures) }
+    record { count_bound = (omega (arith, c.requires.limited.0.params), c.requires.limited.1); count_bound_2 = omega (arith, c.requires.limited.0.params, c.requires.most_tracked_words_bound) }
+
+pub put_marked-requires-2 : goal.put_marked-requires-2
+put_marked-requires-2 c =
+    record { count_bound = (omega (arith, c.requires.limited.0.params, c.requires.limited.0.context), c.requires.limited.1); count_bound_2 = omega (arith, c.requires.limited.0.params, c.requires.limited.0.context, c.requires.most_tracked_words_bound, marked_next _ _ _ c.put_marked.ensures) }
 
 pub returns : goal.returns
-returns c =
-    tracked_put c.requires.limited.0 c.put_marked-a.ensures c.put_marked.ensures
+returns c = tracked_put c.requires.limited.0 c.put_marked.ensures c.put_marked-2.ensures

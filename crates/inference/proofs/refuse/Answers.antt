@@ -1,6 +1,7 @@
-use Rattle.workspace.proofs.Clearing.{cleared_fill}
+use mathlib.Core.Path.{sym, ◌∙◌}
+use Rattle.workspace.proofs.Clearing.{cleared_all}
 use Rattle.inference.proofs.Ending.{refused_all}
 use Rattle.inference.proofs.refuse.Goals as goal
 
 pub returns : goal.returns
-returns c = refused_all (cleared_fill _ _ ?) (cleared_fill _ _ ?)
+returns c = refused_all (c.fill.ensures.after (λ y e. e) ∙ sym (cleared_all _)) (c.fill-2.ensures.after (λ y e. e) ∙ sym (cleared_all _))
