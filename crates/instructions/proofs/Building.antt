@@ -71,8 +71,9 @@ module _ {A : Type 0} (f : Standing A) (in_range : A → Type 0) (step : A → B
     pub rest : (ws' : List ℕ) (r : BuiltPart) → Builds (several left f s c) (each step) (costs cost) s ws b ws' r → Builds whole (each step) (costs cost) s ws₀ b₀ ws' r
 
 module _ {A : Type 0} {f : Standing A} {in_range : A → Type 0} {step : A → Built → Built} {cost : A → Cost} {s : List ℕ} where
-  pub loop_start : {left : ℕ} {c : Position} {ws : List ℕ} {b : Building} → Ready (several left f s c) (Every in_range) (costs cost) s ws b → Looping f in_range step cost s (several left f s c) ws b left c ws b
-  loop_start w = record { same = refl; ready = w; rest = λ ws' r h. h }
+  pub loop_start : {left : ℕ} {c : Position} {ws : List ℕ} {b : Building} → Ready (several left f s c) (Every in_range) (costs cost) s ws b → {k : ℕ} → k ≡ left → Looping f in_range step cost s (several left f s c) ws b k c ws b
+  loop_start {left} {c} {ws} {b} w e =
+      subst (λ (k : ℕ). Looping f in_range step cost s (several left f s c) ws b k c ws b) (sym e) (record { same = refl; ready = w; rest = λ ws' r h. h })
 
   module _ {whole : Part (List A)} {ws₀ : List ℕ} {b₀ : Building} {left : ℕ} {c : Position} {ws : List ℕ} {b : Building} (i : Looping f in_range step cost s whole ws₀ b₀ left c ws b) where
     -- nothing is left
@@ -99,8 +100,8 @@ module _ {A : Type 0} {f : Standing A} {in_range : A → Type 0} {step : A → B
           }
 
       -- it was built: one less is left
-      pub loop_turn : {ws₁ : List ℕ} {r : BuiltPart} → Builds (f s c) step cost s ws b ws₁ r → Looping f in_range step cost s whole ws₀ b₀ (left - 1) r.next ws₁ r.building
-      loop_turn {ws₁} {r} h =
+      one_less : {ws₁ : List ℕ} {r : BuiltPart} → Builds (f s c) step cost s ws b ws₁ r → Looping f in_range step cost s whole ws₀ b₀ (left - 1) r.next ws₁ r.building
+      one_less {ws₁} {r} h =
           let w = now_ready in
           let after : several (left - 1) f s (f s c).next ≡ several (left - 1) f s r.next = ap (several (left - 1) f s) (sym h.next) in
           record {
@@ -116,3 +117,6 @@ module _ {A : Type 0} {f : Standing A} {in_range : A → Type 0} {step : A → B
                 let o = builds_as after g in
                 i.rest ws' r' (builds_as (several_next f s left c t) (record { spends = spends_then (cost (f s c).what) (costs cost others.what) h.spends o.spends; next = o.next }));
           }
+
+      pub loop_turn : {ws₁ : List ℕ} {r : BuiltPart} → Builds (f s c) step cost s ws b ws₁ r → {k : ℕ} → k ≡ left - 1 → Looping f in_range step cost s whole ws₀ b₀ k r.next ws₁ r.building
+      loop_turn {ws₁} {r} h e = subst (λ (k : ℕ). Looping f in_range step cost s whole ws₀ b₀ k r.next ws₁ r.building) (sym e) (one_less h)

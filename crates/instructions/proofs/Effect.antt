@@ -65,22 +65,17 @@ module _ (e : AliasingEffect) {k : Kind} (q : e.kind ≡ k) {ws : List ℕ} {b :
   room : Asked e ws b → Fits (kind_cost (kind_says k)) b
   room p = subst (λ (k : Kind). Fits (kind_cost (kind_says k)) b) q p.fits
 
-  pub relation_can : is_relation (row_of (kind_says k)).role ≡ true → Asked e ws b → Sound ws b × ((index_of b < most_index) × (PlaceBelow most_identifiers (place_is e.first) × PlaceBelow most_identifiers (place_is e.second)))
+  pub relation_can : is_relation (row_of (kind_says k)).role ≡ true → Asked e ws b → (index_of b < most_index) × (PlaceBelow most_identifiers (place_is e.first) × PlaceBelow most_identifiers (place_is e.second))
   unfolding kind_cost
-  relation_can t p = (p.sound, (omega (arith, (room p).indexes, ap one_if t), (p.range.first, p.range.second (ap (λ (j : Kind). leb 2 (row_of (kind_says j)).places) q ∙ relation_places (kind_says k) t))))
+  relation_can t p = (omega (arith, (room p).indexes, ap one_if t), (p.range.first, p.range.second (ap (λ (j : Kind). leb 2 (row_of (kind_says j)).places) q ∙ relation_places (kind_says k) t)))
 
-  pub mutation_can : is_mutation (row_of (kind_says k)).role ≡ true → Asked e ws b → Sound ws b × ((index_of b < most_index) × ((b.mutations < most_mutations) × PlaceBelow most_identifiers (place_is e.first)))
+  pub mutation_can : is_mutation (row_of (kind_says k)).role ≡ true → Asked e ws b → (index_of b < most_index) × ((b.mutations < most_mutations) × PlaceBelow most_identifiers (place_is e.first))
   unfolding kind_cost
-  mutation_can t p = (p.sound, (omega (arith, (room p).indexes, ap one_if t), (omega (arith, (room p).mutations, ap one_if t), p.range.first)))
+  mutation_can t p = (omega (arith, (room p).indexes, ap one_if t), (omega (arith, (room p).mutations, ap one_if t), p.range.first))
 
-  pub render_can : is_render (row_of (kind_says k)).role ≡ true → Asked e ws b → Sound ws b × ((index_of b < most_index) × ((b.renders < most_renders) × PlaceBelow most_identifiers (place_is e.first)))
+  pub render_can : is_render (row_of (kind_says k)).role ≡ true → Asked e ws b → (index_of b < most_index) × ((b.renders < most_renders) × PlaceBelow most_identifiers (place_is e.first))
   unfolding kind_cost
-  render_can t p = (p.sound, (omega (arith, (room p).indexes, ap one_if t), (omega (arith, (room p).renders, ap one_if t), p.range.first)))
-
--- the extra word is a reason or none
-pub reason_below : (e : AliasingEffect) → e.kind ≡ KindMutate → InRange (effect_is e) → e.extra < 2
-unfolding row_of
-reason_below e q h = omega (arith, h.extra (ap (λ (k : Kind). is_create_function (kind_says k)) q), ap (λ (k : Kind). (row_of (kind_says k)).extra) q)
+  render_can t p = (omega (arith, (room p).indexes, ap one_if t), (omega (arith, (room p).renders, ap one_if t), p.range.first))
 
 -- it is an inner function
 pub function-below : (e : AliasingEffect) → e.kind ≡ KindCreateFunction → InRange (effect_is e) → e.extra < most_functions

@@ -18,8 +18,7 @@ fn build_terminal_effect(e: AliasingEffect, ws: &mut [u32], b: Building) -> Buil
     requires { Buildable (effect_is e) InRange terminal_effect_cost ws.old b }
     ensures { Spends (terminal_effect (effect_is e)) (terminal_effect_cost (effect_is e)) ws.old b ws.new result }
 {
-    let kind = e.kind;
-    match kind {
+    match e.kind {
         EffectKind::Alias => b.assign(ws, e.first.identifier, e.second.identifier),
         _ => b,
     }
@@ -30,14 +29,11 @@ fn build_terminal_effects(list: List, s: &[u32], ws: &mut [u32], b: Building) ->
     requires { Ready (and_count (several list.count (wide effect_width effect_at) s.now list.first)) (Every InRange) (costs terminal_effect_cost) s.now ws.old b }
     ensures { Builds (and_count (several list.count (wide effect_width effect_at) s.now list.first)) (each terminal_effect) (costs terminal_effect_cost) s.now ws.old b ws.new result }
 {
-    let mut left = list.count;
     let mut next = list.first;
     let mut building = b;
-    while 0 < left {
-        let e = effect_at(s, next);
-        building = build_terminal_effect(e, ws, building);
+    for _ in 0..list.count {
+        building = build_terminal_effect(effect_at(s, next), ws, building);
         next += EFFECT_WIDTH;
-        left -= 1;
     }
     Built {
         building,

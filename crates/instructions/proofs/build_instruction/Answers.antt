@@ -1,9 +1,6 @@
 use Rattle.instructions.proofs.Instruction.{effects_ready, instruction_builds}
 use Rattle.instructions.proofs.build_instruction.Goals as goal
 
-pub instruction_at-i-requires : goal.instruction_at-i-requires
-instruction_at-i-requires c = c.requires.inside
-
 pub build_effects-requires : goal.build_effects-requires
 build_effects-requires c = effects_ready c.instruction_at-i.ensures c.requires
 

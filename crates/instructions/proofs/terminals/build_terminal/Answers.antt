@@ -1,22 +1,17 @@
-use mathlib.Core.List.{[]}
-use mathlib.Core.Path.{◌∙◌}
 use Rattle.hir.specs.Says.{place_is}
 use Rattle.instructions.proofs.Terminal.{other_inside, other_builds, throw_ready, throw_builds, value-fits, value_known, return_ready, return_builds}
 use Rattle.instructions.proofs.terminals.build_terminal.Goals as goal
-
-pub terminal_at-requires : goal.terminal_at-requires
-terminal_at-requires c = c.requires.ready.inside
 
 pub past_places-requires : goal.past_places-requires
 past_places-requires c =
     other_inside _ _ c.requires.ready c.in-Other.is c.terminal_at.ensures
 
-pub assign-assigned-requires : goal.assign-assigned-requires
-assign-assigned-requires c =
+pub assign-assigned-requires-clause-self_bound : goal.assign-assigned-requires-clause-self_bound
+assign-assigned-requires-clause-self_bound c =
     let q = c.in-Return.is in
     let h = c.terminal_at.ensures in
     let w = c.requires.ready in
-    record { sound = w.sound; self_bound = (value-fits _ _ w q h, (value_known _ _ w q h, c.requires.place_below)) }
+    (value-fits _ _ w q h, (value_known _ _ w q h, c.requires.place_below))
 
 pub build_terminal_effects-requires : goal.build_terminal_effects-requires
 build_terminal_effects-requires c =
@@ -30,15 +25,9 @@ pub returns-in-Other : goal.returns-in-Other
 returns-in-Other c =
     other_builds _ _ c.requires.ready c.in-Other.is c.terminal_at.ensures (place_is c.args.returns) c.past_places.ensures
 
-pub shape_of-ws-in-Return : goal.shape_of-ws-in-Return
-shape_of-ws-in-Return c = c.build_terminal_effects.ensures.spends.same ∙ (c.assign-assigned.ensures []).same
-
 pub returns-in-Return : goal.returns-in-Return
 returns-in-Return c =
     return_builds _ _ c.requires.ready c.in-Return.is c.terminal_at.ensures (place_is c.args.returns) c.assign-assigned.ensures c.build_terminal_effects.ensures
-
-pub shape_of-ws-in-MaybeThrow : goal.shape_of-ws-in-MaybeThrow
-shape_of-ws-in-MaybeThrow c = c.build_terminal_effects-in-MaybeThrow.ensures.spends.same
 
 pub returns-in-MaybeThrow : goal.returns-in-MaybeThrow
 returns-in-MaybeThrow c =

@@ -3,10 +3,10 @@ use Rattle.instructions.proofs.Spending.{spends_none}
 use Rattle.instructions.proofs.Effect.{terminal-effect_of, is_alias_lem, alias_places, alias_fits, one_of, other_kinds, not_alias}
 use Rattle.instructions.proofs.terminals.build_terminal_effect.Goals as goal
 
-pub assign-requires : goal.assign-requires
-assign-requires c =
+pub assign-requires-clause-self_bound : goal.assign-requires-clause-self_bound
+assign-requires-clause-self_bound c =
     let p = c.requires in
-    record { sound = p.sound; self_bound = (alias_fits c.args.e (is_alias_lem c.in-Alias.is) p.fits, (p.range.first, p.range.second (alias_places c.in-Alias.is))) }
+    (alias_fits c.args.e (is_alias_lem c.in-Alias.is) p.fits, (p.range.first, p.range.second (alias_places c.in-Alias.is)))
 
 pub returns-in-Alias : goal.returns-in-Alias
 returns-in-Alias c =
