@@ -5,7 +5,8 @@ ghost use Rattle.std.specs.Prelude.{◌+◌, ◌≤◌, length};
 ghost use Rattle.model.specs.Limits.{most_identifiers};
 ghost use Rattle.workspace.specs.Layout.{LEAST};
 ghost use Rattle.model.specs.Sheet.{Sheet};
-ghost use Rattle.model.specs.Call.{refusal, read, holds, admit, IsSheet};
+ghost use Rattle.model.specs.Call.{refusal as refused, read, holds, admit, IsSheet};
+ghost use Rattle.hir.specs.Refusals.{refusal_number};
 ghost use Rattle.dataflow.specs.Function.{Limited};
 ghost use Rattle.inference.specs.Outcome.{Came, Inferred};
 ghost use Rattle.writing.specs.Wrote.{farthest};
@@ -26,7 +27,7 @@ use operands::{RANGE_WIDTH, put_operands};
 use summary::simulation::put_effects;
 use summary::tracked::put_marked;
 use summary::walks::put_walks;
-use workspace::{END, IDENTIFIERS, LEAST, RECORD, clear};
+use workspace::{END, IDENTIFIERS, LEAST, RECORD, clear, clear_from};
 use writing::Writer;
 
 // There is no record yet, and the ends are the sheet's n ones. The spans are not cleared: a record whose word is 0 is none.
@@ -156,7 +157,7 @@ pub fn put_answer(
 
 // A refusal leaves both buffers all 0.
 pub fn refuse(ws: &mut [u32], answer: &mut [u32], refusal: Refusal) -> Result<usize, Refusal>
-    ensures { Came (TheOutcome.refusal (refusal_number refusal)) ws.old answer.old result ws.new answer.new }
+    ensures { Came (refused (refusal_number refusal)) ws.old answer.old result ws.new answer.new }
 {
     ws.fill(0);
     answer.fill(0);
@@ -183,8 +184,8 @@ pub fn infer_mutation_aliasing_ranges(
             if answer.len() < length {
                 return refuse(workspace, answer, Refusal::ShortAnswer);
             }
-            workspace.fill(0);
-            answer[length..].fill(0);
+            clear_from(workspace, 0);
+            clear_from(answer, length);
             Ok(length)
         }
     }

@@ -1,8 +1,6 @@
 use native.Mathlib.Omega.{arith}
-use mathlib.Core.Path.{refl, sym, ◌∙◌}
+use mathlib.Core.Path.{refl}
 use Rattle.std.proofs.Common.{rules}
-use Rattle.workspace.proofs.Clearing.{cleared_all}
-use Rattle.writing.proofs.Ending.{rest_filled}
 use Rattle.inference.proofs.Calling.{ready_by, call_refused, call_ten, call_nine, call-answered}
 use Rattle.inference.proofs.infer_mutation_aliasing_ranges.Goals as goal
 
@@ -24,5 +22,4 @@ returns-in-Err c = call_refused _ _ _ _ c.prepare.ensures c.in-Err.is c.refuse.e
 
 pub returns-else-answer-length : goal.returns-else-answer-length
 returns-else-answer-length c =
-    call-answered _ _ _ _ c.prepare.ensures c.in-Ok.is c.if-function.false c.new-out.ensures.at_start c.new-out.ensures.items c.put_answer.ensures (search rules) c.if-answer-length.false refl
-    (c.fill.ensures.after (λ y e. e) ∙ sym (cleared_all _)) (rest_filled _ _ c.if-answer-length.false (c.fill-2.ensures.after (λ y e. e)))
+    call-answered _ _ _ _ c.prepare.ensures c.in-Ok.is c.if-function.false c.new-out.ensures.at_start c.new-out.ensures.items c.put_answer.ensures (search rules) c.if-answer-length.false refl c.clear_from.ensures c.clear_from-2.ensures
