@@ -4,16 +4,13 @@ use mathlib.Core.Path.{◌≡◌, ◌∙◌, refl, sym, ap}
 use mathlib.Core.Bool.{Bool}
 use mathlib.Core.List.{List, [], ◌∷◌}
 use native.Mathlib.Omega.{arith}
-use lib.Dec.{T, eqb, leb, eqb→eq}
+use lib.Dec.{T, eqb, eqb→eq}
 use lib.ListN.{get_or, get_or-eq_default}
 use Rattle.model.specs.Limits.{most_kind, most_diagnostic}
-use Rattle.model.specs.Sheet.{Freeze, Place}
-use Rattle.model.specs.Reading.{Position, got, ◌>>=◌, pure}
-use Rattle.model.specs.Sections.{extra, effect_after}
+use Rattle.model.specs.Sheet.{Freeze}
 use Rattle.model.specs.Effects.{kinds, kind_of, row_of}
 use Rattle.hir.specs.Numbers.{kind_says, kind_number}
-use Rattle.hir.specs.Says.{place_or_unused}
-use Rattle.hir.specs.Table.{role_says, TableRow, row_says, table_row, OwnRow}
+use Rattle.hir.specs.Table.{role_says, row_says, table_row}
 use Rattle.hir.specs.declared.EffectKind.{EffectKind as Kind}
 use Rattle.hir.specs.declared.EffectKind.TheVariants.{Freeze as KindFreeze, Mutate as KindMutate, MutateConditionally as KindMutateConditionally, MutateTransitive as KindMutateTransitive, MutateTransitiveConditionally as KindMutateTransitiveConditionally, Capture as KindCapture, Alias as KindAlias, MaybeAlias as KindMaybeAlias, Assign as KindAssign, Create as KindCreate, CreateFrom as KindCreateFrom, ImmutableCapture as KindImmutableCapture, Apply as KindApply, CreateFunction as KindCreateFunction, MutateFrozen as KindMutateFrozen, MutateGlobal as KindMutateGlobal, Impure as KindImpure, Render as KindRender}
 use Rattle.hir.specs.declared.effects.Row.{Row}
@@ -76,20 +73,14 @@ same r k t =
     rw (q, n, e, s)
 
 -- every row of the table
-pub row-right : (k : ℕ) → k ≤ most_kind → row_says (get_or rows k none) ≡ table_row k
+pub row_right : (k : ℕ) → k ≤ most_kind → row_says (get_or rows k none) ≡ table_row k
 unfolding right kind_of row_of
-row-right k h = same (get_or rows k none) k (at none right rows tt k (omega arith))
+row_right k h = same (get_or rows k none) k (at none right rows tt k (omega arith))
 
 -- a number above 17 has the first row, as in the definitions
 pub row_beyond : (k : ℕ) → most_kind < k → row_says first ≡ table_row k
 unfolding table_row kind_of row_of
 row_beyond k h = rw (get_or-eq_default kinds Freeze {n = k} (omega arith))
-
--- an effect whose places were read: the extra word is left
-pub places_read : (n m : ℕ) (r : TableRow) (ws : List ℕ) (c d e : Position) (p q : Place) → OwnRow r →
-    place_or_unused (leb 1 r.places) n 0 ws c ≡ got p d → place_or_unused (leb 2 r.places) n r.instance ws d ≡ got q e →
-    effect_after n m r.kind ws c ≡ (extra m r.kind >>= λ (x : ℕ). pure (record { kind = r.kind; first = p; second = q; extra = x })) ws e
-places_read n m r ws c d e p q own x y = rw (← own.places, ← own.instance, x, y)
 
 -- ---- what the kinds are for, as the code has it
 abbrev pub roles : List Role

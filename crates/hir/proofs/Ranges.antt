@@ -1,24 +1,15 @@
 -- What a number that was read is known to be.
-use Prim.Native.Nat.{ℕ, zero, suc, ◌<◌}
-use mathlib.Core.Path.{◌≡◌, refl}
+use Prim.Native.Nat.{ℕ, ◌<◌}
+use mathlib.Core.Path.{◌≡◌}
 use mathlib.Core.List.{List, [], ◌∷◌}
 use lib.Dec.{eqb, eqb→eq}
 use lib.ListN.{get_or}
-use Rattle.model.specs.Sheet.{other}
 use Rattle.model.specs.Traits.{reactive_traits}
-use Rattle.model.specs.Sections.{type_of}
 use Rattle.hir.specs.Numbers.{effect_number}
 use Rattle.hir.specs.declared.Effect.{Effect}
 use Rattle.hir.specs.declared.Effect.TheVariants.{Unknown, Freeze, Read as Reading, Capture, ConditionallyMutateIterator, ConditionallyMutate, Mutate, Store}
 use Rattle.hir.proofs.Table.{at}
 use native.Mathlib.Omega.{arith}
-
--- a number that is neither 1 nor 2 has the type `other`
-pub other_type : (t : ℕ) → (t ≡ 1 → ⊥) → (t ≡ 2 → ⊥) → other ≡ type_of t
-other_type zero a b = refl
-other_type (suc zero) a b = absurd (a refl)
-other_type (suc (suc zero)) a b = absurd (b refl)
-other_type (suc (suc (suc k))) a b = refl
 
 -- there are eight effects
 pub effect_number_lem : (e : Effect) → effect_number e < reactive_traits
@@ -35,5 +26,5 @@ effect_number_lem Store = omega arith
 abbrev pub effects : List Effect
 effects = Unknown ∷ Freeze ∷ Reading ∷ Capture ∷ ConditionallyMutateIterator ∷ ConditionallyMutate ∷ Mutate ∷ Store ∷ []
 
-pub effect-right : (k : ℕ) → k < reactive_traits → effect_number (get_or effects k Unknown) ≡ k
-effect-right k h = eqb→eq _ _ (at Unknown (λ (i : ℕ) (e : Effect). eqb (effect_number e) i) effects tt k (omega arith))
+pub effect_right : (k : ℕ) → k < reactive_traits → effect_number (get_or effects k Unknown) ≡ k
+effect_right k h = eqb→eq _ _ (at Unknown (λ (i : ℕ) (e : Effect). eqb (effect_number e) i) effects tt k (omega arith))

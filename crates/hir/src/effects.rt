@@ -140,6 +140,7 @@ const ROWS: [Row; 18] = [
 ];
 
 // The table's row of a kind's number; a number above 17 is refused before.
+#[tactic(auto, using(crate::proofs::EffectTable::row_right, crate::proofs::EffectTable::row_beyond))]
 pub fn row_of(number: u32) -> Row
     ensures { row_says result ≡ table_row number }
 {
@@ -173,6 +174,7 @@ const ROLES: [Role; 18] = [
 ];
 
 // What an effect of this kind is for, in an instruction.
+#[tactic(auto, using(crate::proofs::EffectTable::role_right))]
 pub fn role_of(kind: EffectKind) -> Role
     ensures { role_says result ≡ (row_of (kind_says kind)).role }
 {

@@ -62,6 +62,7 @@ impl Cursor {
         }
     }
 
+    #[tactic(auto, using(model::proofs::ReadLaws::at_most_reads))]
     pub fn terminal_kind(self, s: &[u32]) -> Step<TerminalKind>
         ensures { kind_step_says result ≡ at_most most_terminal s.now self.at }
     {

@@ -25,6 +25,7 @@ const EFFECTS: [Effect; 8] = [
 const REACTIVE: u32 = 8;
 
 // The position of the effect that a traits word names.
+#[tactic(auto, unfolding(model::specs::Traits::effect_of))]
 fn position_of(traits: u32) -> u32
     requires { traits ≤ most_traits }
     ensures { result ≡ effect_of traits }
@@ -37,6 +38,7 @@ fn position_of(traits: u32) -> u32
 }
 
 // The effect that a traits word names.
+#[tactic(auto, using(crate::proofs::Ranges::effect_right), unfolding(model::specs::Traits::effect_of))]
 pub fn effect_of(traits: u32) -> Effect
     requires { traits ≤ most_traits }
     ensures { effect_number result ≡ effect_of traits }
@@ -53,6 +55,7 @@ pub fn reactive_of(traits: u32) -> bool
 }
 
 // The effect that any word names as a traits word: by its lowest four bits.
+#[tactic(auto, unfolding(model::specs::Traits::effect_of))]
 pub fn effect_in(word: u32) -> Effect
     ensures { effect_number result ≡ effect_of word }
 {
@@ -74,7 +77,7 @@ pub fn traits_word(effect: Effect, reactive: bool) -> u32
 
 impl Cursor {
     // A place of an identifier below `n`.
-    #[tactic(auto, unfolding(model::specs::Sections::place))]
+    #[tactic(auto, using(model::proofs::ReadLaws::at_most_reads), unfolding(model::specs::Sections::place))]
     pub fn place(self, s: &[u32], n: u32) -> Step<Place>
         ensures { place_says result ≡ place n s.now self.at }
     {

@@ -13,6 +13,7 @@ use Rattle.model.specs.Effects.{kind_of}
 use Rattle.model.proofs.SheetAhead.{after_kind}
 use Rattle.model.specs.Asking as asking
 use Rattle.model.specs.Asking.{effect, effects, instruction, terminal_of, terminal, block, tell_effect, tell_operand, tell_phi, tell_instruction, tell_terminal, tell_block}
+use Rattle.hir.proofs.AtLaws.{row_kind, own_row}
 use Rattle.reading.specs.Judging.{Told, telling, judge, tell_kind, over_told, Tally, within, standing, count_kind, ask_tally, counting, terminal_effects, blocks_of}
 use Rattle.reading.specs.Whole.{length_of, skip, passing_numbered, uses, judged_instruction}
 use Rattle.reading.proofs.JudgeLaws.{result_case, judge_got, judge_refused, got_judged, refused_judged, then_got, then_refused, then_made, each_keeps, counted_keeps, numbered_keeps}
@@ -233,3 +234,14 @@ return_judged n m t ws c o d e y x =
     (λ k e3. rw (e1, e2, e3)))
     (λ k e2. rw (e1, e2)))
     (λ k e1. rw e1)
+
+-- ---- the laws that each function of `blocks` and `phis` stands on
+pub ruleset effect_laws = (row_kind, own_row, effect_got, effect_refused, effect_8, effect_kind_refused)
+
+pub ruleset terminal_laws = (terminal_kind_refused, terminal_order_refused, other-judged, return_judged, throw_judged)
+
+pub ruleset block_laws = (phis_got, phis_refused, block_got, block-phis_refused, block_instructions_refused)
+
+pub ruleset phi_laws = (phi_got, phi-place_refused, phi-count_refused)
+
+pub ruleset instruction_laws = (instruction-judged)

@@ -37,3 +37,6 @@ module _ (ws : List ℕ) where
   unfolding ended
   judged_accepted t c q h =
       judged-told (within t) c q (λ s e w. rw (e, le-ltb c (length ws) h) (ap (λ (y : Tally). acceptance (told_of y)) (sym w ∙ told-totals s (counted_got ws 0 s c e).1)))
+
+-- the laws that `read` stands on
+pub ruleset verdict_laws = (judged_refused, judged_seven, judged_accepted)

@@ -30,6 +30,7 @@ pub struct Totals {
 }
 
 // An effect: an instruction's is counted at its kind, where refusal 8 may come, before its places; a terminal's is asked with the totals as they were.
+#[tactic(auto, using(crate::proofs::BlockLaws::effect_laws))]
 fn effect(c: Cursor, s: &[u32], h: Heading, terminal: bool, totals: Totals) -> Step<Totals>
     ensures { totals_says result ≡ judge (effect counting terminal h.identifiers h.functions) (tell_effect counting terminal) (so_far totals) s.now c.at }
 {
@@ -44,6 +45,7 @@ fn effect(c: Cursor, s: &[u32], h: Heading, terminal: bool, totals: Totals) -> S
 }
 
 // An effect count and the effects, of an instruction or of a terminal.
+#[tactic(auto, using(crate::proofs::JudgeLaws::section_refused), unfolding(model::specs::Asking::effects))]
 fn effects(c: Cursor, s: &[u32], h: Heading, terminal: bool, totals: Totals) -> Step<Totals>
     ensures { totals_says result ≡ judge (effects counting terminal h.identifiers h.functions) (each (tell_effect counting terminal)) (so_far totals) s.now c.at }
 {
@@ -80,6 +82,7 @@ fn uses(c: Cursor, s: &[u32], h: Heading) -> Result<Cursor, Refusal>
 }
 
 // An order, places and a value, an effect count and the effects.
+#[tactic(auto, using(crate::proofs::BlockLaws::instruction_laws), unfolding(crate::specs::Whole::judged_instruction))]
 fn instruction(c: Cursor, s: &[u32], h: Heading, totals: Totals) -> Step<Totals>
     ensures { totals_says result ≡ judge (instruction counting h.identifiers h.functions) (tell_instruction counting) (so_far totals) s.now c.at }
 {
@@ -89,6 +92,7 @@ fn instruction(c: Cursor, s: &[u32], h: Heading, totals: Totals) -> Step<Totals>
 }
 
 // An instruction count and the instructions.
+#[tactic(auto, using(crate::proofs::JudgeLaws::section_refused))]
 fn instructions(c: Cursor, s: &[u32], h: Heading, totals: Totals) -> Step<Totals>
     ensures { totals_says result ≡ judge (counted_from most_count (instruction counting h.identifiers h.functions) (tell_instruction counting)) (each (tell_instruction counting)) (so_far totals) s.now c.at }
 {
@@ -111,6 +115,7 @@ fn terminal_effects(c: Cursor, s: &[u32], h: Heading, totals: Totals) -> Step<To
 }
 
 // Kind and order; of a Return its value; of a Return and a MaybeThrow the effects; the operands.
+#[tactic(auto, using(crate::proofs::BlockLaws::terminal_laws))]
 fn terminal(c: Cursor, s: &[u32], h: Heading, totals: Totals) -> Step<Totals>
     ensures { totals_says result ≡ judge (terminal counting h.identifiers h.functions) (tell_terminal counting) (so_far totals) s.now c.at }
 {
@@ -130,6 +135,7 @@ fn terminal(c: Cursor, s: &[u32], h: Heading, totals: Totals) -> Step<Totals>
 }
 
 // What follows a block's number.
+#[tactic(auto, using(crate::proofs::BlockLaws::block_laws))]
 fn block(c: Cursor, s: &[u32], h: Heading, totals: Totals) -> Step<Totals>
     ensures { (number : ModelBlock) → totals_says result ≡ judge (block counting h.identifiers h.functions number) (tell_block counting) (so_far totals) s.now c.at }
 {
@@ -139,6 +145,7 @@ fn block(c: Cursor, s: &[u32], h: Heading, totals: Totals) -> Step<Totals>
 }
 
 // A block count and the blocks, of which no two have one number. Numbers mostly rise, and then none of those before is looked at.
+// Kept: a loop of its own, not `times`, for each block is held to the numbers of those before it.
 pub fn blocks(c: Cursor, s: &[u32], h: Heading) -> Step<Totals>
     ensures { totals_says result ≡ judge (blocks_of h.identifiers h.functions) (each (tell_block counting)) nothing_yet s.now c.at }
 {

@@ -64,6 +64,7 @@ pub fn sheet(s: &[u32]) -> Step<Totals>
 }
 
 // Refusals 2 to 8, or what refusal 8 counts, and whether there is a diagnosis or an Apply.
+#[tactic(auto, using(crate::proofs::VerdictLaws::verdict_laws), unfolding(model::specs::Call::read))]
 pub fn read(s: &[u32]) -> Result<Totals, Refusal>
     ensures { verdict_says result ≡ judgement_of (read s.now) }
 {

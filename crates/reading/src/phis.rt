@@ -24,6 +24,7 @@ fn among_operands(s: &[u32], from: usize, to: usize, number: u32) -> bool
 }
 
 // `count` operands: a predecessor's number that none before had, and a place. Numbers mostly rise, and then none of those before is looked at.
+// Kept: a loop of its own, not `times`, for each operand is held to the numbers of those before it.
 fn operands(start: Cursor, s: &[u32], n: u32, count: u32) -> Result<Cursor, Refusal>
     ensures { cursor_says result ≡ passing_numbered count [] (operand n) s.now start.at }
 {
@@ -41,6 +42,7 @@ fn operands(start: Cursor, s: &[u32], n: u32, count: u32) -> Result<Cursor, Refu
 }
 
 // A place, an operand count and the operands.
+#[tactic(auto, using(crate::proofs::BlockLaws::phi_laws))]
 pub fn phi(c: Cursor, s: &[u32], n: u32) -> Result<Cursor, Refusal>
     ensures { cursor_says result ≡ telling (phi n) skip tt s.now c.at }
 {

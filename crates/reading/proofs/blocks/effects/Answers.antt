@@ -1,12 +1,8 @@
 use Rattle.std.proofs.Common.{rules, refl, sym, ◌∙◌}
 use Rattle.model.specs.Asking.{effects}
 use Rattle.reading.specs.TotalsSays.{so_far, totals_says}
-use Rattle.reading.proofs.JudgeLaws.{section_got, section_refused, times_said, exits}
+use Rattle.reading.proofs.JudgeLaws.{section_got, times_said}
 use Rattle.reading.proofs.blocks.effects.Goals as goal
-
-pub returns-in_err-count : goal.returns-in_err-count
-unfolding effects
-returns-in_err-count c = exits totals_says (λ k. refl) _ _ c.from_residual.ensures.1 (section_refused _ _ _ _ _ _ _ (sym c.in_err-count.ensures))
 
 pub returns : goal.returns
 unfolding effects
