@@ -23,19 +23,17 @@ use Rattle.hir.specs.Words.{Part, wide, place_at, several}
 use Rattle.hir.specs.declared.at.List.{List as Listed}
 use Rattle.hir.proofs.Ranges.{effect_number_lem}
 use Rattle.hir.proofs.Widths.{wide_rises}
-use Rattle.hir.proofs.Several.{several_next, several_none, first_inside}
+use Rattle.hir.proofs.Several.{several_next, several_none}
 use Rattle.workspace.specs.Layout.{STARTS, ENDS, CONTEXTS, PASSED}
 use Rattle.workspace.specs.Rows.{Kept}
 use Rattle.workspace.proofs.Parts.{slice_take, take-word, drop-word, take_sets, drop_sets, kept_none, kept_set}
-use Rattle.writing.specs.Wrote.{Wrote}
-use Rattle.writing.proofs.Writing.{wrote_as}
-use Rattle.copies.proofs.Loops.{Leaves, leaves_all, leaves_then, leaves_none}
+use Rattle.dataflow.proofs.Storing.{Storing, storing-start, storing_inside, storing_turn, storing_done}
 use Rattle.operands.specs.Given.{word_gives}
 use Rattle.operands.specs.Ranges.{ranges_of}
 use Rattle.operands.specs.Contexts.{places_from, context_at, contexts_of}
 use Rattle.operands.specs.Known.{places_at, Known, ContextOf}
 use Rattle.operands.specs.Marking.{Marking}
-use Rattle.operands.proofs.Inner.{context_most, context_few, contexts_length, contexts_at}
+use Rattle.operands.proofs.Inner.{context_most, contexts_length, contexts_at}
 
 -- ---- the ranges stay
 abbrev ranged : List ℕ → List ℕ → Ranges
@@ -76,9 +74,12 @@ marks_again ms d ws at [] = refl
 marks_again ms d ws at (p ∷ l) =
     ap (λ (q : Place). q ∷ map (with_mark ms d) (places_from ws (suc at) l)) (mark_again ms d (get_or ws at 0) p) ∙ ap (λ (m : List Place). with_mark ms d p ∷ m) (marks_again ms d ws (suc at) l)
 
--- the words of the marks of places
+-- the word of a place's mark, and those of places
+abbrev pub mark_word : List Mark → Place → ℕ
+mark_word ms p = mark_of ms p.identifier read_effect + 1
+
 abbrev pub mark_words : List Mark → List Place → List ℕ
-mark_words ms l = map (λ (p : Place). mark_of ms p.identifier read_effect + 1) l
+mark_words ms l = map (mark_word ms) l
 
 -- a place's mark is an effect's position
 abbrev pub Small : List Mark → Place → Type 0
@@ -139,7 +140,7 @@ module _ (ms : List Mark) {lists ws : List ℕ} {fs : List InnerFunction} {k : �
       most = omega (arith, context_most g z, ap (λ (x : List Place). length x) e)
 
       count : length (mark_words ms l) ≡ length l
-      count = length-map l (λ (p : Place). mark_of ms p.identifier read_effect + 1)
+      count = length-map l (mark_word ms)
 
       go : (j : ℕ) → j < length fs → Dec (j ≡ k) → places_from ws' (context_at j) (get_or fs j no_function).context ≡ get_or (set (contexts_of ws fs) k new) j []
       go j y (yes q) =
@@ -160,59 +161,48 @@ module _ (ms : List Mark) {lists ws : List ℕ} {fs : List InnerFunction} {k : �
 abbrev places_of : List ℕ → ℕ → Position → List Place
 places_of lists k c = (several k (wide place_width place_at) lists c).what
 
--- k of k₀ marks are left
-pub record Setting (ms : List Mark) (lists ws₀ : List ℕ) (k₀ : ℕ) (c₀ : Position) (w₀ : ℕ) (ws : List ℕ) (k : ℕ) (c : Position) (w : ℕ) : Type 0 where
-  pub leaves : Leaves (mark_words ms (places_of lists k₀ c₀)) (mark_words ms (places_of lists k c)) ws₀ w₀ ws w
-  pub small : Every (Small ms) (places_of lists k c) → Every (Small ms) (places_of lists k₀ c₀)
-  pub next : (several k (wide place_width place_at) lists c).next ≡ (several k₀ (wide place_width place_at) lists c₀).next
-  pub word : w + k ≡ w₀ + k₀
-  pub after : w₀ ≤ w
+-- i of n marks are set, from word w on; the next place stands at c
+pub record Setting (ms : List Mark) (lists ws₀ : List ℕ) (n : ℕ) (c₀ : Position) (w : ℕ) (ws : List ℕ) (i : ℕ) (c : Position) : Type 0 where
+  pub storing : Storing (wide place_width place_at) (mark_word ms) lists n c₀ w ws₀ (n - i) c (w + i) ws
+  pub small : Every (Small ms) (places_of lists (n - i) c) → Every (Small ms) (places_of lists n c₀)
   pub kept : Kept CONTEXTS PASSED ws₀ ws
 
-pub setting_start : (ms : List Mark) (lists ws : List ℕ) (k : ℕ) (c : Position) (w : ℕ) → Setting ms lists ws k c w ws k c w
-setting_start ms lists ws k c w = record {
-  leaves = leaves_all (mark_words ms (places_of lists k c)) ws w;
-  small = λ s. s;
-  next = refl;
-  word = refl;
-  after = omega arith;
-  kept = kept_none CONTEXTS PASSED ws;
-}
+pub setting_start : (ms : List Mark) (lists ws : List ℕ) (n : ℕ) (c : Position) (w : ℕ) → Setting ms lists ws n c w ws 0 c
+setting_start ms lists ws n c w =
+    let z : n - 0 ≡ n = omega arith in
+    let y : w + 0 ≡ w = omega arith in
+    record {
+      storing = rw (z, y) (storing-start (wide place_width place_at) (mark_word ms) lists n c w ws);
+      small = rw z (λ s. s);
+      kept = kept_none CONTEXTS PASSED ws;
+    }
 
-module _ {ms : List Mark} {lists ws₀ : List ℕ} {k₀ : ℕ} {c₀ : Position} {w₀ : ℕ} {ws : List ℕ} {k : ℕ} {c : Position} {w : ℕ} (v : Setting ms lists ws₀ k₀ c₀ w₀ ws k c w) where
+module _ {ms : List Mark} {lists ws₀ : List ℕ} {n : ℕ} {c₀ : Position} {w : ℕ} {ws : List ℕ} {i : ℕ} {c : Position} (v : Setting ms lists ws₀ n c₀ w ws i c) where
   -- the place that is next stands in the lists, if all do
-  pub setting_inside : 0 < k → (several k₀ (wide place_width place_at) lists c₀).next ≤ length lists → c + place_width ≤ length lists
-  setting_inside z i = first_inside (wide place_width place_at) lists k c (wide_rises place_width place_at) z (omega (arith, v.next, i))
+  pub setting_inside : i < n → (several n (wide place_width place_at) lists c₀).next ≤ length lists → c + place_width ≤ length lists
+  setting_inside z h = storing_inside v.storing (wide_rises place_width place_at) (omega arith) h
 
-  -- the mark m of place p, whose number is n
-  pub setting_turn : 0 < k → CONTEXTS ≤ w₀ → w < PASSED → {p : Place} (m : Effect) {n : ℕ} → p ≡ place_at lists c → effect_number m ≡ mark_of ms p.identifier read_effect → n ≡ effect_number m
-      → Setting ms lists ws₀ k₀ c₀ w₀ (set ws w (n + 1)) (k - 1) (c + place_width) (w + 1)
-  setting_turn z lo hi {p} m {n} e h q =
-      let all = several_next (wide place_width place_at) lists k c z in
+  -- the mark m of place p, whose number is k
+  pub setting_turn : i < n → CONTEXTS ≤ w → w + i < PASSED → {p : Place} (m : Effect) {k : ℕ} → p ≡ place_at lists c → effect_number m ≡ mark_of ms p.identifier read_effect → k ≡ effect_number m
+      → Setting ms lists ws₀ n c₀ w (set ws (w + i) (k + 1)) (i + 1) (c + place_width)
+  setting_turn z lo hi {p} m {k} e h q =
+      let all = several_next (wide place_width place_at) lists (n - i) c (omega arith) in
       let here : effect_number m ≡ mark_of ms (place_at lists c).identifier read_effect = h ∙ ap (λ (x : Place). mark_of ms x.identifier read_effect) e in
-      let wrote : Wrote ((n + 1) ∷ []) ws w (set ws w (n + 1)) (w + 1) = record { words = refl; next = omega arith } in
+      let less : n - (i + 1) ≡ n - i - 1 = omega arith in
+      let more : w + (i + 1) ≡ w + i + 1 = omega arith in
       record {
-        leaves = leaves_then v.leaves (wrote_as wrote (ap (λ (i : ℕ). (i + 1) ∷ []) (q ∙ here))) (ap (λ (x : Part (List Place)). mark_words ms x.what) all);
-        small = λ s. v.small (subst (λ (x : Part (List Place)). Every (Small ms) x.what) (sym all) (omega (arith, effect_number_lem m, here), s));
-        next = sym (ap (λ (x : Part (List Place)). x.next) all) ∙ v.next;
-        word = omega (arith, v.word, z);
-        after = omega (arith, v.after);
-        kept = kept_set v.kept w (n + 1) (omega (arith, lo, v.after)) hi;
+        storing = rw (less, more) (storing_turn v.storing (omega arith) (ap (λ (j : ℕ). j + 1) (q ∙ here)) refl);
+        small = rw less (λ s. v.small (subst (λ (x : Part (List Place)). Every (Small ms) x.what) (sym all) (omega (arith, effect_number_lem m, here), s)));
+        kept = kept_set v.kept (w + i) (k + 1) (omega (arith, lo)) hi;
       }
 
--- its words are the function's
-pub setting_word : {ms : List Mark} {lists ws₀ : List ℕ} {fs : List InnerFunction} {f : ℕ} {l : Listed} {ws : List ℕ} {k : ℕ} {c : Position} {w : ℕ} → Known lists ws₀ fs → f < length fs → ContextOf lists ws₀ f l
-    → Setting ms lists ws₀ l.count l.first (context_at f) ws k c w → 0 < k → w < PASSED
-setting_word g j h v z = omega (arith, v.word, context_few g j h, g.count, j, z)
-
 -- all got their marks
-pub context_marks : {ms : List Mark} {lists ws₀ : List ℕ} {f : ℕ} {l : Listed} {ws : List ℕ} {k : ℕ} {c : Position} {w : ℕ} → ContextOf lists ws₀ f l
-    → Setting ms lists ws₀ l.count l.first (context_at f) ws k c w → k ≤ 0 → Marking ms f lists ws₀ ws
-context_marks {ms} {lists} {l = l} {k = k} {c} h v z =
-    let none = several_none (wide place_width place_at) lists k c z in
+pub context_marks : {ms : List Mark} {lists ws₀ : List ℕ} {f : ℕ} {l : Listed} {ws : List ℕ} {i : ℕ} {c : Position} → ContextOf lists ws₀ f l
+    → Setting ms lists ws₀ l.count l.first (context_at f) ws i c → l.count ≤ i → Marking ms f lists ws₀ ws
+context_marks {ms} {lists} {l = l} {i = i} {c} h v z =
+    let none = several_none (wide place_width place_at) lists (l.count - i) c (omega arith) in
     let small : Every (Small ms) (places_at lists l).what = v.small (subst (λ (x : Part (List Place)). Every (Small ms) x.what) (sym none) tt) in
-    let wrote = leaves_none v.leaves (ap (λ (x : Part (List Place)). mark_words ms x.what) none) in
     record {
-      contexts = λ fs g j. ap (λ (x : List ℕ). contexts_of x fs) wrote.words ∙ contexts_marked ms g j (places_at lists l).what (h.is fs g j) small;
+      contexts = λ fs g j. ap (λ (x : List ℕ). contexts_of x fs) (storing_done v.storing (omega arith)).words ∙ contexts_marked ms g j (places_at lists l).what (h.is fs g j) small;
       kept = v.kept;
     }

@@ -1,11 +1,13 @@
 -- What an instruction does by its value: the context places that it marks, the starts that it sets, and its store; and the words of its places.
 use Prim.Native.Nat.{ℕ, ◌+◌, ◌*◌, ◌<◌}
 use native.Mathlib.Omega.{arith}
+use mathlib.Core.Bool.{Bool, true, false, true≢false}
 use mathlib.Core.Logic.{inl, inr}
 use mathlib.Core.Path.{◌≡◌, refl, sym, ap, subst, ◌∙◌}
 use mathlib.Core.List.{List, [], ◌∷◌, ◌++◌, map, append-nil}
 use lib.ListN.{length, get_or, length-map}
 use types.Run.{OneOf}
+use denote.Enum.Bare.{sameb}
 use denote.Enum.Declared.{tag_of}
 use Rattle.model.specs.Limits.{most_identifiers, place_width}
 use Rattle.model.specs.Lists.{gather, each}
@@ -30,8 +32,9 @@ use Rattle.hir.proofs.Several.{several-length}
 use Rattle.workspace.specs.Layout.{STARTS, CONTEXTS, PASSED}
 use Rattle.workspace.specs.Rows.{Kept}
 use Rattle.workspace.proofs.Parts.{kept_none, kept_then}
-use Rattle.writing.specs.Wrote.{Wrote}
-use Rattle.writing.proofs.Writing.{wrote_none, wrote_as, wrote_then}
+use Rattle.writing.specs.declared.Writer.{Writer}
+use Rattle.writing.specs.Wrote.{Writes}
+use Rattle.writing.proofs.Writing.{writes_none, writes_as, writes_then}
 use Rattle.operands.specs.declared.Section.{Section}
 use Rattle.operands.specs.declared.Section.TheVariants.{Phis, Instructions, Terminals}
 use Rattle.operands.specs.contracts.Section.{the_type as the-section}
@@ -54,28 +57,30 @@ kept_contexts {ws} {ws'} k = kept_then STARTS PASSED k (kept_none STARTS PASSED 
 
 -- ---- the words of its places
 -- where the places of a list end
-pub places_end : (g : Place → Place) (sheet : List ℕ) (l : Listed) {a b : List ℕ} {at r : ℕ} → Wrote (gather place_words (map g (places_at sheet l).what)) a at b r → r ≡ at + place_width * l.count
+pub places_end : (g : Place → Place) (sheet : List ℕ) (l : Listed) {o o' : Writer ℕ} → Writes (gather place_words (map g (places_at sheet l).what)) o o' → o'.at ≡ o.at + place_width * l.count
 places_end g sheet l h =
     let ps : List Place = (places_at sheet l).what in
-    omega (arith, h.next, places_length (map g ps), length-map ps g, several-length (wide place_width place_at) sheet l.count l.first)
+    omega (arith, h.wrote.next, places_length (map g ps), length-map ps g, several-length (wide place_width place_at) sheet l.count l.first)
 
 -- its lvalue, its value lvalues, then its operands
-pub uses_put : (ms : List Mark) (x : Place) (ls ps : List Place) {p : Place} {a a₁ a₂ a₃ : List ℕ} {at at₁ at₂ at₃ : ℕ} → Wrote (place_words p) a at a₁ at₁ → p ≡ with_mark ms conditionally_mutate_effect x
-    → Wrote (gather place_words (map (with_mark ms conditionally_mutate_effect) ls)) a₁ at₁ a₂ at₂ → Wrote (gather place_words (map (with_mark ms read_effect) ps)) a₂ at₂ a₃ at₃
-    → Wrote (gather place_words (map (with_mark ms conditionally_mutate_effect) (x ∷ ls) ++ map (with_mark ms read_effect) ps)) a at a₃ at₃
+pub uses_put : (ms : List Mark) (x : Place) (ls ps : List Place) {p : Place} {o o₁ o₂ o₃ : Writer ℕ} → Writes (place_words p) o o₁ → p ≡ with_mark ms conditionally_mutate_effect x
+    → Writes (gather place_words (map (with_mark ms conditionally_mutate_effect) ls)) o₁ o₂ → Writes (gather place_words (map (with_mark ms read_effect) ps)) o₂ o₃
+    → Writes (gather place_words (map (with_mark ms conditionally_mutate_effect) (x ∷ ls) ++ map (with_mark ms read_effect) ps)) o o₃
 uses_put ms x ls ps h e g k =
-    wrote_as (wrote_then (wrote_then (wrote_as h (ap place_words e)) g) k)
+    writes_as (writes_then (writes_then (writes_as h (ap place_words e)) g) k)
     (sym (gather_append place_words (map (with_mark ms conditionally_mutate_effect) (x ∷ ls)) (map (with_mark ms read_effect) ps)))
 
 -- where the section is that of instructions
-pub instructions_put : (s : Section) (ps : List Place) {a b : List ℕ} {at r : ℕ} → s ≡ Instructions → Wrote (gather place_words ps) a at b r → Wrote (gather place_words (of_instructions s ps)) a at b r
-instructions_put s ps {a} {b} {at} {r} e h = subst (λ (x : Section). Wrote (gather place_words (of_instructions x ps)) a at b r) (sym e) h
+pub instructions_put : (s : Section) (ps : List Place) {o o' : Writer ℕ} {b : Bool} → b ≡ sameb the-section s Instructions → b ≡ true → Writes (gather place_words ps) o o' → Writes (gather place_words (of_instructions s ps)) o o'
+instructions_put Phis ps e h w = absurd (true≢false (sym h ∙ e))
+instructions_put Instructions ps e h w = w
+instructions_put Terminals ps e h w = absurd (true≢false (sym h ∙ e))
 
 -- the other sections write nothing
-pub instructions_idle : (s : Section) (ps : List Place) (a : List ℕ) (at : ℕ) → OneOf (0 ∷ 2 ∷ []) (tag_of the-section s) → Wrote (gather place_words (of_instructions s ps)) a at a at
-instructions_idle Phis ps a at k = wrote_none a at
-instructions_idle Instructions ps a at k = absurd (elim k [ inl x ↦ omega (arith, x) | inr x ↦ omega (arith, x) ])
-instructions_idle Terminals ps a at k = wrote_none a at
+pub instructions_idle : (s : Section) (ps : List Place) (o : Writer ℕ) {b : Bool} → b ≡ sameb the-section s Instructions → b ≡ false → Writes (gather place_words (of_instructions s ps)) o o
+instructions_idle Phis ps o e h = writes_none o
+instructions_idle Instructions ps o e h = absurd (true≢false (sym e ∙ h))
+instructions_idle Terminals ps o e h = writes_none o
 
 -- ---- its value
 module _ {sheet : List ℕ} {fs : List InnerFunction} {i : Instruction} (k : InstructionIn sheet fs i) where

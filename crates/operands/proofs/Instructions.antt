@@ -27,9 +27,9 @@ use Rattle.hir.proofs.Widths.{several_wide, InstructionParts, instruction_parts}
 use Rattle.workspace.specs.Layout.{STARTS, PASSED}
 use Rattle.workspace.specs.Rows.{Kept}
 use Rattle.workspace.proofs.Parts.{kept_none, kept_then}
-use Rattle.writing.specs.Wrote.{Wrote}
-use Rattle.writing.proofs.Writing.{wrote_as}
-use Rattle.copies.specs.declared.Copied.{Copied}
+use Rattle.writing.specs.declared.Writer.{Writer}
+use Rattle.writing.specs.Wrote.{Writes}
+use Rattle.writing.proofs.Writing.{writes_as, writes_long}
 use Rattle.operands.specs.declared.Section.{Section}
 use Rattle.operands.specs.declared.Section.TheVariants.{Phis, Instructions, Terminals}
 use Rattle.operands.specs.Ranges.{ranges_of, Ranged}
@@ -38,7 +38,7 @@ use Rattle.operands.specs.Known.{places_at, effects_in, IntoBelow, PlacesIn, ins
 use Rattle.operands.specs.Instruction.{BelowOf, marks_now, of_instructions, ValueMarked, last_ranges, AllStarted, ListedPassed}
 use Rattle.operands.specs.Passes.{pass_of, forget, places_in, Ready, Steps, Passed}
 use Rattle.operands.proofs.Stepping.{known_kept}
-use Rattle.operands.proofs.Putting.{wrote_same, places_length}
+use Rattle.operands.proofs.Putting.{places_length}
 use Rattle.operands.proofs.Staying.{contexts_stay, ranges_stay}
 
 abbrev instruction_by : ℕ → Place → List Place → List Place → InstructionValue → Option EffectList → ModelInstruction
@@ -155,9 +155,9 @@ listed_present : (b : Bool) (l : EffectList) → is_some (listed_if b l) ≡ b
 listed_present true l = refl
 listed_present false l = refl
 
-module _ (section : Section) {sheet lists : List ℕ} {i : Instruction} {ws ws₁ ws₂ a a₁ : List ℕ} {at at₁ : ℕ}
+module _ (section : Section) {sheet lists : List ℕ} {i : Instruction} {ws ws₁ ws₂ : List ℕ} {o o₁ : Writer ℕ}
     (named : Ranged (name_lvalues (instruction_is sheet i)) ws ws₁)
-    (wrote : Wrote (gather place_words (of_instructions section (instruction_places (marks_now sheet ws₁ i) (instruction_is sheet i)))) a at a₁ at₁)
+    (wrote : Writes (gather place_words (of_instructions section (instruction_places (marks_now sheet ws₁ i) (instruction_is sheet i)))) o o₁)
     (passed : ListedPassed sheet lists i ws₁ ws₂) where
   pub steps_kept : Kept STARTS PASSED ws ws₂
   steps_kept = kept_then STARTS PASSED named.kept passed.kept (omega arith) (omega arith) (omega arith) (omega arith)
@@ -191,7 +191,7 @@ module _ (section : Section) {sheet lists : List ℕ} {i : Instruction} {ws ws�
         ∙ ap (λ (cs : List (List Place)). pick i.listed (context_marked (instruction_marks (instruction_is sheet i) (ranges_of ws)) (value_is i.value) cs) cs) (contexts_stay ws ws₁ named.kept.high fs)
         ∙ sym (ap (λ (b : Bool). pick b (context_marked (instruction_marks (instruction_is sheet i) (ranges_of ws)) (value_is i.value) (contexts_of ws fs)) (contexts_of ws fs)) is_listed_lem)
 
-    pub all_steps : Steps (instruction fs (instruction_is sheet i)) section fs ws a at ws₂ a₁ at₁
+    pub all_steps : Steps (instruction fs (instruction_is sheet i)) section fs ws o ws₂ o₁
     unfolding pass_of forget instruction
     all_steps = record {
       pass = ap (λ (r : Ranges). pass_by r (contexts_of ws₂ fs)) ranges_are ∙ ap (pass_by (instruction_ranges fs (instruction_is sheet i) (ranges_of ws))) contexts_are;
@@ -201,35 +201,36 @@ module _ (section : Section) {sheet lists : List ℕ} {i : Instruction} {ws ws�
         pass_by : Ranges → List (List Place) → Pass
         pass_by r cs = record { ranges = r; contexts = cs; phis = []; instructions = []; terminals = [] }
 
-        go : (s : Section) → Wrote (gather place_words (of_instructions s (instruction_places (marks_now sheet ws₁ i) (instruction_is sheet i)))) a at a₁ at₁
-            → Wrote (gather place_words (places_in s (instruction fs (instruction_is sheet i) (pass_of ws fs)))) a at a₁ at₁
+        go : (s : Section) → Writes (gather place_words (of_instructions s (instruction_places (marks_now sheet ws₁ i) (instruction_is sheet i)))) o o₁
+            → Writes (gather place_words (places_in s (instruction fs (instruction_is sheet i) (pass_of ws fs)))) o o₁
         go Phis w = w
-        go Instructions w = wrote_as w (ap (λ (ms : List Mark). gather place_words (instruction_places ms (instruction_is sheet i))) marks_are)
+        go Instructions w = writes_as w (ap (λ (ms : List Mark). gather place_words (instruction_places ms (instruction_is sheet i))) marks_are)
         go Terminals w = w
 
 -- the words of its places, or none
-pub places_few : (section : Section) (sheet ws : List ℕ) (i : Instruction) {a a' : List ℕ} {at r : ℕ} → Wrote (gather place_words (of_instructions section (instruction_places (marks_now sheet ws i) (instruction_is sheet i)))) a at a' r
-    → r ≤ at + place_width * (1 + i.value_lvalues.count + i.operands.count)
-places_few Phis sheet ws i w = omega (arith, w.next)
+pub places_few : (section : Section) (sheet ws : List ℕ) (i : Instruction) {o o' : Writer ℕ} → Writes (gather place_words (of_instructions section (instruction_places (marks_now sheet ws i) (instruction_is sheet i)))) o o'
+    → o'.at ≤ o.at + place_width * (1 + i.value_lvalues.count + i.operands.count)
+places_few Phis sheet ws i w = omega (arith, w.wrote.next)
 places_few Instructions sheet ws i w =
     let ms : List Mark = marks_now sheet ws i in
     let ls : List Place = (places_at sheet i.value_lvalues).what in
     let ps : List Place = (places_at sheet i.operands).what in
-    omega (arith, w.next, places_length (instruction_places ms (instruction_is sheet i)), length-append (map (with_mark ms conditionally_mutate_effect) (place_is i.lvalue ∷ ls)) (map (with_mark ms read_effect) ps), length-map ls (with_mark ms conditionally_mutate_effect), length-map ps (with_mark ms read_effect), several-length (wide place_width place_at) sheet i.value_lvalues.count i.value_lvalues.first, several-length (wide place_width place_at) sheet i.operands.count i.operands.first)
-places_few Terminals sheet ws i w = omega (arith, w.next)
+    omega (arith, w.wrote.next, places_length (instruction_places ms (instruction_is sheet i)), length-append (map (with_mark ms conditionally_mutate_effect) (place_is i.lvalue ∷ ls)) (map (with_mark ms read_effect) ps), length-map ls (with_mark ms conditionally_mutate_effect), length-map ps (with_mark ms read_effect), several-length (wide place_width place_at) sheet i.value_lvalues.count i.value_lvalues.first, several-length (wide place_width place_at) sheet i.operands.count i.operands.first)
+places_few Terminals sheet ws i w = omega (arith, w.wrote.next)
 
 -- ---- the instruction
-module _ (section : Section) {sheet lists : List ℕ} {c : Position} {i : Instruction} (at₀ : InstructionAt sheet c i) (inside : (instruction_from sheet c).next ≤ length sheet) {ws ws₁ ws₂ a a₁ : List ℕ} {at : ℕ} {r : Copied}
+module _ (section : Section) {sheet lists : List ℕ} {c : Position} {i : Instruction} (at₀ : InstructionAt sheet c i) (inside : (instruction_from sheet c).next ≤ length sheet) {ws ws₁ ws₂ : List ℕ} {o o₁ : Writer ℕ} {r : Position}
     (named : Ranged (name_lvalues (instruction_is sheet i)) ws ws₁)
-    (wrote : Wrote (gather place_words (of_instructions section (instruction_places (marks_now sheet ws₁ i) (instruction_is sheet i)))) a at a₁ r.at)
-    (passed : ListedPassed sheet lists i ws₁ ws₂) (next : r.next ≡ i.effects.first + effect_width * i.effects.count) where
-  pub instruction_passed : Passed instruction_from BelowOf instruction section sheet lists c ws a at ws₂ a₁ r
+    (wrote : Writes (gather place_words (of_instructions section (instruction_places (marks_now sheet ws₁ i) (instruction_is sheet i)))) o o₁)
+    (passed : ListedPassed sheet lists i ws₁ ws₂) (next : r ≡ i.effects.first + effect_width * i.effects.count) where
+  pub instruction_passed : Passed instruction_from BelowOf instruction section sheet lists c ws o ws₂ o₁ r
   instruction_passed = record {
     steps = λ fs ready.
-        subst (λ (m : ModelInstruction). Steps (instruction fs m) section fs ws a at ws₂ a₁ r.at) (instruction_is_lem at₀)
+        subst (λ (m : ModelInstruction). Steps (instruction fs m) section fs ws o ws₂ o₁) (instruction_is_lem at₀)
         (all_steps section named wrote passed (instruction_known at₀ inside (kept_none STARTS PASSED ws) ready));
     kept = steps_kept section named wrote passed;
     after = next ∙ instruction_end at₀;
     few = omega (arith, places_few section sheet ws₁ i wrote, instruction_few at₀, next, instruction_end at₀);
-    same = wrote_same wrote;
+    long = writes_long wrote;
+    same = wrote.same;
   }

@@ -1,6 +1,5 @@
 pub mod Adding
 pub mod Begun
-pub mod CopiedWords
 pub mod Folding
 pub mod Giving
 pub mod Inner

@@ -1,25 +1,22 @@
 -- The marks of an instruction's effects: those of an effect more decide before those of the effects before it.
 use Prim.Native.Nat.{ℕ, ◌≤◌, ◌<◌}
 use mathlib.Core.Path.{◌≡◌, refl, sym, ap, subst, ◌∙◌}
-use mathlib.Core.Bool.{Bool, true, false≢true}
+use mathlib.Core.Bool.{Bool, true}
+use mathlib.Core.Logic.{◌⊎◌, inl, inr}
 use mathlib.Core.List.{List, [], ◌∷◌}
 use lib.ListN.{get_or}
 use lib.Dec.{leb}
-use denote.Enum.Declared.{tag_of}
 use borrow.Author.Tests.{eq-eqb, ne_eqb, lt-ltb, le-ltb}
-use Rattle.model.specs.Limits.{most_identifiers}
-use Rattle.model.specs.Lists.{pick, each, among}
+use Rattle.model.specs.Lists.{pick, each}
 use Rattle.model.specs.Sheet.{IdentifierId, EvaluationOrder, Place, EffectKind, Freeze, Mutate, MutateConditionally, MutateTransitive, MutateTransitiveConditionally, Capture, Alias, MaybeAlias, Assign, Create, CreateFrom, ImmutableCapture, Apply, CreateFunction, MutateFrozen, MutateGlobal, Impure, Render, Effect, EffectList}
-use Rattle.model.specs.Traits.{capture_effect, read_effect, store_effect}
+use Rattle.model.specs.Traits.{capture_effect, read_effect, store_effect, conditionally_mutate_effect}
 use Rattle.model.specs.Effects.{row_of}
-use Rattle.model.specs.Marks.{with_effect, Mark, capture_or_read, flow_marks, marks_of, operand_effects, mark_of, with_mark}
+use Rattle.model.specs.Marks.{with_effect, Mark, capture_or_read, flow_marks, mark, marks_of, operand_effects, mark_of, with_mark}
 use Rattle.hir.specs.Numbers.{kind_says}
 use Rattle.hir.specs.Says.{effect_is}
 use Rattle.hir.specs.declared.AliasingEffect.{AliasingEffect}
-use Rattle.hir.specs.contracts.EffectKind.{the_type}
 use Rattle.hir.specs.declared.EffectKind.{EffectKind as Kind}
 use Rattle.hir.specs.declared.EffectKind.TheVariants.{Freeze as KindFreeze, Mutate as KindMutate, MutateConditionally as KindMutateConditionally, MutateTransitive as KindMutateTransitive, MutateTransitiveConditionally as KindMutateTransitiveConditionally, Capture as KindCapture, Alias as KindAlias, MaybeAlias as KindMaybeAlias, Assign as KindAssign, Create as KindCreate, CreateFrom as KindCreateFrom, ImmutableCapture as KindImmutableCapture, Apply as KindApply, CreateFunction as KindCreateFunction, MutateFrozen as KindMutateFrozen, MutateGlobal as KindMutateGlobal, Impure as KindImpure, Render as KindRender}
-use Rattle.operands.specs.Known.{IntoBelow}
 
 -- ---- Capture or Read
 pub is_capture : {end o : EvaluationOrder} → o < end → capture_effect ≡ capture_or_read end o
@@ -109,36 +106,49 @@ unfolding with_mark
 with_mark_lem ms d {p = p} e h k = e ∙ ap (λ (n : ℕ). with_effect n p) h ∙ ap (with_mark ms d) k
 
 -- ---- an effect whose kind is known
+-- a relation's marks, and those of an effect that may mutate
+module _ {k : Kind} where
+  pub flowing : (k ≡ KindCapture) ⊎ ((k ≡ KindAlias) ⊎ ((k ≡ KindMaybeAlias) ⊎ ((k ≡ KindAssign) ⊎ (k ≡ KindCreateFrom))))
+      → leb 2 (row_of (kind_says k)).places ≡ true × ((ends : List EvaluationOrder) (o : EvaluationOrder) (e : Effect) (ms : List Mark) → flow_marks ends o e ms ≡ marks_of (kind_says k) ends o e ms)
+  unfolding row_of marks_of
+  flowing (inl q) = rw q (refl, λ ends o e ms. refl)
+  flowing (inr (inl q)) = rw q (refl, λ ends o e ms. refl)
+  flowing (inr (inr (inl q))) = rw q (refl, λ ends o e ms. refl)
+  flowing (inr (inr (inr (inl q)))) = rw q (refl, λ ends o e ms. refl)
+  flowing (inr (inr (inr (inr q)))) = rw q (refl, λ ends o e ms. refl)
+
+  pub conditional : (k ≡ KindMutateConditionally) ⊎ ((k ≡ KindMutateTransitive) ⊎ (k ≡ KindMutateTransitiveConditionally))
+      → (ends : List EvaluationOrder) (o : EvaluationOrder) (e : Effect) (ms : List Mark) → mark e.first conditionally_mutate_effect ms ≡ marks_of (kind_says k) ends o e ms
+  unfolding marks_of
+  conditional (inl q) ends o e ms = rw q refl
+  conditional (inr (inl q)) ends o e ms = rw q refl
+  conditional (inr (inr q)) ends o e ms = rw q refl
+
 module _ (e : AliasingEffect) {k : Kind} (q : e.kind ≡ k) where
   -- its marks
   pub marked_by : (ends : List EvaluationOrder) (o : EvaluationOrder) (x : IdentifierId) (d : ℕ) {n : ℕ} → n ≡ mark_of (marks_of (kind_says k) ends o (effect_is e) []) x d → n ≡ mark_of (marks_of (effect_is e).kind ends o (effect_is e) []) x d
   marked_by ends o x d {n} h = subst (λ (j : Kind). n ≡ mark_of (marks_of (kind_says j) ends o (effect_is e) []) x d) (sym q) h
 
-  -- "into" has a word
-  pub into_below : leb 2 (row_of (kind_says k)).places ≡ true → IntoBelow (effect_is e) → e.second.identifier.0 < most_identifiers
-  into_below t h = h (ap (λ (j : Kind). leb 2 (row_of (kind_says j)).places) q ∙ t)
-
 -- the kinds that mark nothing
-abbrev pub silent_kinds : List ℕ
-silent_kinds = 9 ∷ 11 ∷ 12 ∷ 13 ∷ 14 ∷ 15 ∷ 16 ∷ 17 ∷ []
-
-pub silent : (k : Kind) → among (tag_of the_type k) silent_kinds ≡ true → (ends : List EvaluationOrder) (o : EvaluationOrder) (e : Effect) (x : IdentifierId) (d : ℕ) → d ≡ mark_of (marks_of (kind_says k) ends o e []) x d
+pub silent : (k : Kind) → ¬ (k ≡ KindFreeze) → ¬ (k ≡ KindMutate) → ¬ (k ≡ KindMutateConditionally) → ¬ (k ≡ KindMutateTransitive) → ¬ (k ≡ KindMutateTransitiveConditionally) → ¬ (k ≡ KindCapture)
+    → ¬ (k ≡ KindAlias) → ¬ (k ≡ KindMaybeAlias) → ¬ (k ≡ KindAssign) → ¬ (k ≡ KindCreateFrom)
+    → (ends : List EvaluationOrder) (o : EvaluationOrder) (e : Effect) (x : IdentifierId) (d : ℕ) → d ≡ mark_of (marks_of (kind_says k) ends o e []) x d
 unfolding marks_of mark_of
-silent KindFreeze t ends o e x d = absurd (false≢true t)
-silent KindMutate t ends o e x d = absurd (false≢true t)
-silent KindMutateConditionally t ends o e x d = absurd (false≢true t)
-silent KindMutateTransitive t ends o e x d = absurd (false≢true t)
-silent KindMutateTransitiveConditionally t ends o e x d = absurd (false≢true t)
-silent KindCapture t ends o e x d = absurd (false≢true t)
-silent KindAlias t ends o e x d = absurd (false≢true t)
-silent KindMaybeAlias t ends o e x d = absurd (false≢true t)
-silent KindAssign t ends o e x d = absurd (false≢true t)
-silent KindCreate t ends o e x d = refl
-silent KindCreateFrom t ends o e x d = absurd (false≢true t)
-silent KindImmutableCapture t ends o e x d = refl
-silent KindApply t ends o e x d = refl
-silent KindCreateFunction t ends o e x d = refl
-silent KindMutateFrozen t ends o e x d = refl
-silent KindMutateGlobal t ends o e x d = refl
-silent KindImpure t ends o e x d = refl
-silent KindRender t ends o e x d = refl
+silent KindFreeze a b c f g h i j l m ends o e x d = absurd (a refl)
+silent KindMutate a b c f g h i j l m ends o e x d = absurd (b refl)
+silent KindMutateConditionally a b c f g h i j l m ends o e x d = absurd (c refl)
+silent KindMutateTransitive a b c f g h i j l m ends o e x d = absurd (f refl)
+silent KindMutateTransitiveConditionally a b c f g h i j l m ends o e x d = absurd (g refl)
+silent KindCapture a b c f g h i j l m ends o e x d = absurd (h refl)
+silent KindAlias a b c f g h i j l m ends o e x d = absurd (i refl)
+silent KindMaybeAlias a b c f g h i j l m ends o e x d = absurd (j refl)
+silent KindAssign a b c f g h i j l m ends o e x d = absurd (l refl)
+silent KindCreate a b c f g h i j l m ends o e x d = refl
+silent KindCreateFrom a b c f g h i j l m ends o e x d = absurd (m refl)
+silent KindImmutableCapture a b c f g h i j l m ends o e x d = refl
+silent KindApply a b c f g h i j l m ends o e x d = refl
+silent KindCreateFunction a b c f g h i j l m ends o e x d = refl
+silent KindMutateFrozen a b c f g h i j l m ends o e x d = refl
+silent KindMutateGlobal a b c f g h i j l m ends o e x d = refl
+silent KindImpure a b c f g h i j l m ends o e x d = refl
+silent KindRender a b c f g h i j l m ends o e x d = refl

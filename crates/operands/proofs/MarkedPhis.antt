@@ -23,10 +23,11 @@ use Rattle.hir.specs.declared.at.List.{List as Listed}
 use Rattle.hir.specs.declared.at.Phi.{Phi as Hir}
 use Rattle.hir.proofs.Several.{several_next, first_inside, several_none}
 use Rattle.hir.proofs.Widths.{several_rises}
-use Rattle.writing.specs.Wrote.{Wrote}
-use Rattle.copies.proofs.Loops.{Leaves, leaves_all, leaves_then, leaves_none, leaves_same}
+use Rattle.writing.specs.declared.Writer.{Writer}
+use Rattle.writing.specs.Wrote.{Writes}
+use Rattle.copies.proofs.Loops.{Leaves, leaves_all, leaves_then, leaves_none}
 use Rattle.copies.proofs.Passing.{phi_follows}
-use Rattle.operands.specs.declared.given.Given.TheVariants.{Kept, Marked}
+use Rattle.std.specs.Prelude.{None, Some}
 use Rattle.operands.specs.Given.{given_phi}
 use Rattle.operands.specs.Phis.{phi_identifier, phis_in, PlacesPut}
 use Rattle.operands.proofs.PhiNames.{several_more, phi-identifier}
@@ -37,12 +38,12 @@ abbrev pub marks_phi : Ranges → EvaluationOrder → List IdentifierId → Phi 
 marks_phi r o used p = pick (among p.place.identifier used) (phi_places p) (marked_phi r o p)
 
 -- one of them has its identifier
-phi_kept : (r : Ranges) (o : EvaluationOrder) (used : List IdentifierId) (p : Phi) → among p.place.identifier used ≡ true → given_phi Kept Kept p ≡ marks_phi r o used p
+phi_kept : (r : Ranges) (o : EvaluationOrder) (used : List IdentifierId) (p : Phi) → among p.place.identifier used ≡ true → given_phi None None p ≡ marks_phi r o used p
 phi_kept r o used p e = rw e
 
 -- none has
 phi-marked : (r : Ranges) (o : EvaluationOrder) (used : List IdentifierId) (p : Phi) (m : Effect) → among p.place.identifier used ≡ false
-    → effect_number m ≡ capture_or_read (get_or r.ends p.place.identifier 0) o → given_phi (Marked Store) (Marked m) p ≡ marks_phi r o used p
+    → effect_number m ≡ capture_or_read (get_or r.ends p.place.identifier 0) o → given_phi (Some Store) (Some m) p ≡ marks_phi r o used p
 phi-marked r o used p m e f = rw e (ap (λ (k : ℕ). with_effect (effect_number Store) p.place ∷ map (λ (a : Operand). with_effect k a.place) p.operands) f)
 
 -- ---- the phis of a list, with the first `done` of them written
@@ -55,19 +56,19 @@ module _ (sheet : List ℕ) (l : Listed) (r : Ranges) (o : EvaluationOrder) wher
   abbrev words_of : List IdentifierId → ℕ → Position → List ℕ
   words_of used k c = gather place_words (phis_marked r o used (several k phi_from sheet c).what)
 
-  pub record MarkingPhis (a₀ : List ℕ) (at₀ done : ℕ) (c : Position) (a : List ℕ) (at : ℕ) : Type 0 where
-    pub leaves : Leaves (gather place_words (phis_marked r o [] (phis_in sheet l).what)) (words_of (used_by done) (l.count - done) c) a₀ at₀ a at
+  pub record MarkingPhis (o₀ : Writer ℕ) (done : ℕ) (c : Position) (out : Writer ℕ) : Type 0 where
+    pub leaves : Leaves (gather place_words (phis_marked r o [] (phis_in sheet l).what)) (words_of (used_by done) (l.count - done) c) o₀ out
     pub here : c ≡ (several done phi_from sheet l.first).next
     pub next : (several (l.count - done) phi_from sheet c).next ≡ (phis_in sheet l).next
     pub below : Every (PhiBelow most_identifiers) (several (l.count - done) phi_from sheet c).what
-    pub few : at + l.first ≤ at₀ + c
+    pub few : out.at + l.first ≤ o₀.at + c
 
-  pub marking_start : (a : List ℕ) (at : ℕ) → Every (PhiBelow most_identifiers) (phis_in sheet l).what → MarkingPhis a at 0 l.first a at
+  pub marking_start : (out : Writer ℕ) → Every (PhiBelow most_identifiers) (phis_in sheet l).what → MarkingPhis out 0 l.first out
   unfolding several
-  marking_start a at b =
+  marking_start out b =
       let e : l.count ≡ l.count - 0 = omega arith in
       record {
-        leaves = subst (λ (k : ℕ). Leaves (gather place_words (phis_marked r o [] (phis_in sheet l).what)) (words_of [] k l.first) a at a at) e (leaves_all (gather place_words (phis_marked r o [] (phis_in sheet l).what)) a at);
+        leaves = subst (λ (k : ℕ). Leaves (gather place_words (phis_marked r o [] (phis_in sheet l).what)) (words_of [] k l.first) out out) e (leaves_all (gather place_words (phis_marked r o [] (phis_in sheet l).what)) out);
         here = refl;
         next = ap (λ (k : ℕ). (several k phi_from sheet l.first).next) (sym e);
         below = subst (λ (k : ℕ). Every (PhiBelow most_identifiers) (several k phi_from sheet l.first).what) e b;
@@ -90,20 +91,16 @@ module _ (sheet : List ℕ) (l : Listed) (r : Ranges) (o : EvaluationOrder) wher
   unfolding phis_marked
   words_none used = refl
 
-module _ {sheet : List ℕ} {l : Listed} {r : Ranges} {o : EvaluationOrder} {a₀ : List ℕ} {at₀ done : ℕ} {c : Position} {a : List ℕ} {at : ℕ} (v : MarkingPhis sheet l r o a₀ at₀ done c a at) where
+module _ {sheet : List ℕ} {l : Listed} {r : Ranges} {o : EvaluationOrder} {o₀ : Writer ℕ} {done : ℕ} {c : Position} {out : Writer ℕ} (v : MarkingPhis sheet l r o o₀ done c out) where
   -- what was written stands in the sheet, and the next phi too
   pub done_inside : (phis_in sheet l).next ≤ length sheet → (several done phi_from sheet l.first).next ≤ length sheet
   done_inside i = omega (arith, v.here, v.next, i, several_rises (l.count - done) phi_from phi_follows sheet c)
 
-  pub marking_same : length a ≡ length a₀
-  marking_same = leaves_same v.leaves
-
   -- the same by another name
-  pub marking_as : {a' : List ℕ} {at' : ℕ} → a' ≡ a → at' ≡ at → MarkingPhis sheet l r o a₀ at₀ done c a' at'
-  marking_as {a'} {at'} e f =
-      subst (λ (b : List ℕ). MarkingPhis sheet l r o a₀ at₀ done c b at') (sym e) (subst (λ (i : ℕ). MarkingPhis sheet l r o a₀ at₀ done c a i) (sym f) v)
+  pub marking_as : {out' : Writer ℕ} → out' ≡ out → MarkingPhis sheet l r o o₀ done c out'
+  marking_as e = subst (MarkingPhis sheet l r o o₀ done c) (sym e) v
 
-  pub marking_end : l.count ≤ done → PlacesPut (phis_marked r o [] (phis_in sheet l).what) l.first (phis_in sheet l).next a₀ at₀ a at
+  pub marking_end : l.count ≤ done → PlacesPut (phis_marked r o [] (phis_in sheet l).what) l.first (phis_in sheet l).next o₀ out
   marking_end h =
       let e = several_none phi_from sheet (l.count - done) c (omega (arith, h)) in
       record {
@@ -128,9 +125,9 @@ module _ {sheet : List ℕ} {l : Listed} {r : Ranges} {o : EvaluationOrder} {a�
     pub marking_below : {p : Hir} → PhiAt sheet c p → p.place.identifier.0 < most_identifiers
     marking_below k = omega (arith, phi-identifier sheet c k, both.0.0)
 
-    turn : {ps : List Place} {a' : List ℕ} {at' c' : ℕ} → PlacesPut ps c (phi_from sheet c).next a at a' at' → ps ≡ marks_phi r o (used_by sheet l r o done) (phi_from sheet c).what → c' ≡ (phi_from sheet c).next
-        → MarkingPhis sheet l r o a₀ at₀ (done + 1) c' a' at'
-    turn {ps} {a'} {at'} {c'} w e n =
+    turn : {ps : List Place} {out' : Writer ℕ} {c' : ℕ} → PlacesPut ps c (phi_from sheet c).next out out' → ps ≡ marks_phi r o (used_by sheet l r o done) (phi_from sheet c).what → c' ≡ (phi_from sheet c).next
+        → MarkingPhis sheet l r o o₀ (done + 1) c' out'
+    turn {ps} {c' = c'} w e n =
         let used = used_by sheet l r o done in
         let p = (phi_from sheet c).what in
         let more = used ++ (phi_identifier p ∷ []) in
@@ -159,11 +156,11 @@ module _ {sheet : List ℕ} {l : Listed} {r : Ranges} {o : EvaluationOrder} {a�
       before : {b' : Bool} → b ≡ b' → among (phi_identifier (phi_from sheet c).what) (used_by sheet l r o done) ≡ b'
       before e = ap (λ (x : IdentifierId). among x (used_by sheet l r o done)) (sym (phi-identifier sheet c k)) ∙ sym t ∙ e
 
-      pub kept_turn : b ≡ true → {a' : List ℕ} {at' : ℕ} → Wrote (gather place_words (given_phi Kept Kept (phi_from sheet c).what)) a at a' at' → MarkingPhis sheet l r o a₀ at₀ (done + 1) c' a' at'
-      kept_turn e w = turn (phi_put sheet c Kept Kept w) (phi_kept r o (used_by sheet l r o done) (phi_from sheet c).what (before e)) n
+      pub kept_turn : b ≡ true → {out' : Writer ℕ} → Writes (gather place_words (given_phi None None (phi_from sheet c).what)) out out' → MarkingPhis sheet l r o o₀ (done + 1) c' out'
+      kept_turn e w = turn (phi_put sheet c None None w) (phi_kept r o (used_by sheet l r o done) (phi_from sheet c).what (before e)) n
 
-      pub marked_turn : b ≡ false → (m : Effect) → effect_number m ≡ capture_or_read (get_or r.ends p.place.identifier.0 0) o → {a' : List ℕ} {at' : ℕ}
-          → Wrote (gather place_words (given_phi (Marked Store) (Marked m) (phi_from sheet c).what)) a at a' at' → MarkingPhis sheet l r o a₀ at₀ (done + 1) c' a' at'
+      pub marked_turn : b ≡ false → (m : Effect) → effect_number m ≡ capture_or_read (get_or r.ends p.place.identifier.0 0) o → {out' : Writer ℕ}
+          → Writes (gather place_words (given_phi (Some Store) (Some m) (phi_from sheet c).what)) out out' → MarkingPhis sheet l r o o₀ (done + 1) c' out'
       marked_turn e m f w =
-          turn (phi_put sheet c (Marked Store) (Marked m) w)
+          turn (phi_put sheet c (Some Store) (Some m) w)
           (phi-marked r o (used_by sheet l r o done) (phi_from sheet c).what m (before e) (f ∙ ap (λ (x : IdentifierId). capture_or_read (get_or r.ends x 0) o) (phi-identifier sheet c k))) n

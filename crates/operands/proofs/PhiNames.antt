@@ -6,6 +6,7 @@ use mathlib.Core.Path.{◌≡◌, refl, sym, ap, ◌∙◌}
 use mathlib.Core.List.{List, [], ◌∷◌, ◌++◌, map}
 use lib.ListN.{length}
 use lib.Dec.{eqb}
+use borrow.Author.Tests.{eq-eqb, ne_eqb}
 use Rattle.model.specs.Limits.{place_width}
 use Rattle.model.specs.Lists.{among}
 use Rattle.model.specs.Sheet.{Place, Phi}
@@ -15,7 +16,6 @@ use Rattle.hir.specs.Parts.{PhiAt}
 use Rattle.hir.specs.declared.at.Phi.{Phi as Hir}
 use Rattle.hir.proofs.Several.{several_next, first_inside, several_none}
 use Rattle.hir.proofs.Widths.{phi_rises}
-use Rattle.building.proofs.Operands.{eqb_sym}
 use Rattle.copies.proofs.Passing.{phi_follows}
 use Rattle.operands.specs.Phis.{phi_identifier}
 
@@ -44,43 +44,46 @@ module _ (ws : List ℕ) (c : Position) where
   pub phi_inside : (phi_from ws c).next ≤ length ws → c + place_width + 1 ≤ length ws
   phi_inside i = omega (arith, phi_rises ws c, i)
 
--- ---- is x named among k₀ phis from c₀ on, with k of them left from c on
+-- ---- is x named among n phis from c₀ on? Not among the first i; the next stands at c
 module _ (ws : List ℕ) (x : ℕ) where
   abbrev names : ℕ → Position → List ℕ
   names k c = map phi_identifier (several k phi_from ws c).what
 
-  pub record Naming (k₀ : ℕ) (c₀ : Position) (k : ℕ) (c : Position) (found : Bool) : Type 0 where
-    pub is : found || among x (names k c) ≡ among x (names k₀ c₀)
-    pub next : (several k phi_from ws c).next ≡ (several k₀ phi_from ws c₀).next
+  pub record Naming (n : ℕ) (c₀ : Position) (i : ℕ) (c : Position) : Type 0 where
+    pub is : among x (names (n - i) c) ≡ among x (names n c₀)
+    pub next : (several (n - i) phi_from ws c).next ≡ (several n phi_from ws c₀).next
 
-  pub naming_start : (k : ℕ) (c : Position) → Naming k c k c false
-  naming_start k c = record { is = refl; next = refl }
+  pub naming_start : (n : ℕ) (c : Position) → Naming n c 0 c
+  naming_start n c = let z : n - 0 ≡ n = omega arith in record { is = rw z refl; next = rw z refl }
 
-or_assoc : (a b c : Bool) → (a || b) || c ≡ a || (b || c)
-or_assoc true b c = refl
-or_assoc false b c = refl
+module _ {ws : List ℕ} {x n : ℕ} {c₀ : Position} {i : ℕ} {c : Position} (v : Naming ws x n c₀ i c) where
+  pub naming_inside : i < n → (several n phi_from ws c₀).next ≤ length ws → (phi_from ws c).next ≤ length ws
+  naming_inside h k = first_inside phi_from ws (n - i) c phi_follows (omega arith) (omega (arith, v.next, k))
 
-or_none : (a : Bool) → a || false ≡ a
-or_none true = refl
-or_none false = refl
+  module _ (h : i < n) {p : Hir} (k : PhiAt ws c p) where
+    abbrev rest : Position → Bool
+    rest d = among x (map phi_identifier (several (n - i - 1) phi_from ws d).what)
 
-module _ {ws : List ℕ} {x k₀ : ℕ} {c₀ : Position} {k : ℕ} {c : Position} {found : Bool} (v : Naming ws x k₀ c₀ k c found) where
-  pub naming_inside : 0 < k → (several k₀ phi_from ws c₀).next ≤ length ws → (phi_from ws c).next ≤ length ws
-  naming_inside h i = first_inside phi_from ws k c phi_follows h (omega (arith, v.next, i))
+    first : eqb x p.place.identifier.0 || rest (phi_from ws c).next ≡ among x (map phi_identifier (several n phi_from ws c₀).what)
+    first =
+        ap (λ (y : ℕ). eqb x y || rest (phi_from ws c).next) (phi-identifier ws c k)
+        ∙ ap (λ (q : Part (List Phi)). among x (map phi_identifier q.what)) (sym (several_next phi_from ws (n - i) c (omega arith))) ∙ v.is
 
-  pub naming_turn : 0 < k → {p : Hir} {c' : Position} → PhiAt ws c p → c' ≡ (phi_from ws c).next → Naming ws x k₀ c₀ (k - 1) c' (found || eqb p.place.identifier.0 x)
-  naming_turn h {p} {c'} i n =
-      let first = several_next phi_from ws k c h in
-      let rest : Position → Bool = λ (d : Position). among x (map phi_identifier (several (k - 1) phi_from ws d).what) in
-      record {
-        is =
-            or_assoc found (eqb p.place.identifier.0 x) (rest c')
-            ∙ ap (λ (b : Bool). found || (b || rest c')) (eqb_sym p.place.identifier.0 x)
-            ∙ ap (λ (y : ℕ). found || (eqb x y || rest c')) (phi-identifier ws c i)
-            ∙ ap (λ (d : Position). found || (eqb x (phi_identifier (phi_from ws c).what) || rest d)) n
-            ∙ ap (λ (q : Part (List Phi)). found || among x (map phi_identifier q.what)) (sym first) ∙ v.is;
-        next = ap (λ (d : Position). (several (k - 1) phi_from ws d).next) n ∙ ap (λ (q : Part (List Phi)). q.next) (sym first) ∙ v.next;
-      }
+    -- the next one names it
+    pub naming_found : p.place.identifier.0 ≡ x → true ≡ among x (map phi_identifier (several n phi_from ws c₀).what)
+    naming_found e = ap (λ (b : Bool). b || rest (phi_from ws c).next) (sym (eq-eqb x p.place.identifier.0 (sym e))) ∙ first
 
-  pub naming_end : k ≤ 0 → found ≡ among x (map phi_identifier (several k₀ phi_from ws c₀).what)
-  naming_end h = sym (or_none found) ∙ ap (λ (p : Part (List Phi)). found || among x (map phi_identifier p.what)) (sym (several_none phi_from ws k c h)) ∙ v.is
+    -- or not
+    pub naming_turn : ¬ (p.place.identifier.0 ≡ x) → {c' : Position} → c' ≡ (phi_from ws c).next → Naming ws x n c₀ (i + 1) c'
+    naming_turn e t =
+        let less : n - (i + 1) ≡ n - i - 1 = omega arith in
+        record {
+          is = rw less
+              (ap rest t ∙ ap (λ (b : Bool). b || rest (phi_from ws c).next) (sym (ne_eqb x p.place.identifier.0 (λ q. e (sym q)))) ∙ first);
+          next = rw less
+              (ap (λ (d : Position). (several (n - i - 1) phi_from ws d).next) t
+              ∙ ap (λ (q : Part (List Phi)). q.next) (sym (several_next phi_from ws (n - i) c (omega arith))) ∙ v.next);
+        }
+
+  pub naming_end : n ≤ i → false ≡ among x (map phi_identifier (several n phi_from ws c₀).what)
+  naming_end h = ap (λ (p : Part (List Phi)). among x (map phi_identifier p.what)) (sym (several_none phi_from ws (n - i) c (omega arith))) ∙ v.is

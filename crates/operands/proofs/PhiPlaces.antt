@@ -17,16 +17,18 @@ use Rattle.hir.specs.declared.at.Phi.{Phi as Hir}
 use Rattle.hir.proofs.AtLaws.{operand_made}
 use Rattle.hir.proofs.Several.{several-length, list_is}
 use Rattle.hir.proofs.Widths.{several_wide, phi_rises}
-use Rattle.writing.specs.Wrote.{Wrote, farthest}
-use Rattle.writing.proofs.Writing.{wrote_then, wrote_as}
+use Rattle.writing.specs.declared.Writer.{Writer}
+use Rattle.writing.specs.Wrote.{Writes, farthest}
+use Rattle.writing.proofs.Writing.{writes_then, writes_as}
 use Rattle.copies.proofs.Passing.{phi_past}
-use Rattle.operands.specs.declared.given.Given.{Given}
+use Rattle.std.specs.Prelude.{Option}
+use Rattle.hir.specs.declared.Effect.{Effect}
 use Rattle.operands.specs.Given.{given_to, last_place, last_places, given_phi}
 use Rattle.operands.specs.Phis.{PlacesPut}
 use Rattle.operands.proofs.Putting.{places_length, last_places_lem}
 
 -- an operand's place as it is given
-abbrev operand_given : Given → Operand → Place
+abbrev operand_given : Option Effect → Operand → Place
 operand_given g o = given_to g o.place
 
 -- ---- one phi
@@ -39,18 +41,18 @@ module _ (ws : List ℕ) (c : Position) where
     operands_inside i = omega (arith, several_wide operand_width p.operands.count (last_place operand_width) ws p.operands.first, phi_past ws c h.operands, i)
 
     -- an operand ends with its place
-    operand_places : (g : Given) → map (given_to g) (last_places operand_width ws p.operands).what ≡ map (operand_given g) (several p.operands.count (wide operand_width operand_at) ws p.operands.first).what
+    operand_places : (g : Option Effect) → map (given_to g) (last_places operand_width ws p.operands).what ≡ map (operand_given g) (several p.operands.count (wide operand_width operand_at) ws p.operands.first).what
     operand_places g = last_places_lem operand_width operand_at (operand_given g) (given_to g) ws (λ d. ap (operand_given g) (operand_made ws d refl)) p.operands.count p.operands.first
 
     pub operands_room : (at to : ℕ) → (phi_from ws c).next ≤ length ws → at + length ws ≤ farthest + c → to ≡ at + place_width → to + place_width * p.operands.count ≤ farthest
     operands_room at to i r e = omega (arith, phi_past ws c h.operands, h.operands.first, i, r, e)
 
-    pub phi_written : (g k : Given) (q : HirPlace) → place_is q ≡ given_to g (place_is p.place) → {a b b' : List ℕ} {at to r : ℕ} → Wrote (place_words (place_is q)) a at b to
-        → Wrote (gather place_words (map (given_to k) (last_places operand_width ws p.operands).what)) b to b' r
-        → Wrote (gather place_words (given_phi g k (phi_from ws c).what)) a at b' r
+    pub phi_written : (g k : Option Effect) (q : HirPlace) → place_is q ≡ given_to g (place_is p.place) → {o₁ o₂ o₃ : Writer ℕ} → Writes (place_words (place_is q)) o₁ o₂
+        → Writes (gather place_words (map (given_to k) (last_places operand_width ws p.operands).what)) o₂ o₃
+        → Writes (gather place_words (given_phi g k (phi_from ws c).what)) o₁ o₃
     unfolding phi_from
     phi_written g k q e w v =
-        wrote_as (wrote_then w (wrote_as v (ap (gather place_words) (operand_places k))))
+        writes_as (writes_then w (writes_as v (ap (gather place_words) (operand_places k))))
         (ap (λ (x : Place). place_words x ++ gather place_words (map (operand_given k) (several p.operands.count (wide operand_width operand_at) ws p.operands.first).what)) (e ∙ ap (given_to g) h.place)
         ∙ ap (λ (l : Part (List Operand)). place_words (given_to g (place_at ws c)) ++ gather place_words (map (operand_given k) l.what)) operands_are)
 
@@ -58,7 +60,7 @@ module _ (ws : List ℕ) (c : Position) where
   phi_room at i r = omega (arith, phi_rises ws c, i, r)
 
   -- no more words than were read
-  pub phi_put : (g k : Given) {a b : List ℕ} {at r : ℕ} → Wrote (gather place_words (given_phi g k (phi_from ws c).what)) a at b r → PlacesPut (given_phi g k (phi_from ws c).what) c (phi_from ws c).next a at b r
+  pub phi_put : (g k : Option Effect) {o₁ o₂ : Writer ℕ} → Writes (gather place_words (given_phi g k (phi_from ws c).what)) o₁ o₂ → PlacesPut (given_phi g k (phi_from ws c).what) c (phi_from ws c).next o₁ o₂
   unfolding phi_from listed
   phi_put g k w =
       let os : List Operand = (several (word_at ws (c + place_width)) (wide operand_width operand_at) ws (c + place_width + 1)).what in
@@ -66,7 +68,7 @@ module _ (ws : List ℕ) (c : Position) where
         wrote = w;
         few = omega (
           arith,
-          w.next,
+          w.wrote.next,
           places_length (given_phi g k (phi_from ws c).what),
           length-map os (operand_given k),
           several-length (wide operand_width operand_at) ws (word_at ws (c + place_width)) (c + place_width + 1),

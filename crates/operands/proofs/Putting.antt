@@ -4,7 +4,6 @@ use native.Mathlib.Omega.{arith}
 use mathlib.Core.Path.{◌≡◌, refl, sym, ap, ◌∙◌}
 use mathlib.Core.List.{List, [], ◌∷◌, map}
 use lib.ListN.{length, length-map}
-use lib.Seq.{length-sets}
 use Rattle.model.specs.Limits.{place_width}
 use Rattle.model.specs.Lists.{gather}
 use Rattle.model.specs.Sheet.{Place}
@@ -14,15 +13,11 @@ use Rattle.model.proofs.Gathers.{gather_map}
 use Rattle.hir.specs.Words.{wide, several}
 use Rattle.hir.proofs.Widths.{wide_rises}
 use Rattle.hir.proofs.Several.{several-length}
-use Rattle.writing.specs.Wrote.{Wrote}
-use Rattle.writing.proofs.Writing.{wrote_as}
+use Rattle.writing.specs.declared.Writer.{Writer}
+use Rattle.writing.specs.Wrote.{Writes}
+use Rattle.writing.proofs.Writing.{writes_as}
 use Rattle.copies.proofs.Copying.{Copying, copying_start, copying_turn, copying_inside, copying_end}
-use Rattle.copies.proofs.Loops.{leaves_same}
 use Rattle.operands.specs.Given.{last_place}
-
--- what was written leaves the length
-pub wrote_same : {vs a b : List ℕ} {at r : ℕ} → Wrote vs a at b r → length b ≡ length a
-wrote_same {vs} {a} {at = at} h = ap (λ (l : List ℕ). length l) h.words ∙ length-sets a at vs
 
 -- the words of places
 pub places_length : (l : List Place) → length (gather place_words l) ≡ place_width * length l
@@ -42,34 +37,31 @@ module _ {A : Type 0} (width : ℕ) (part_at : List ℕ → Position → A) (g :
   abbrev words : A → List ℕ
   words a = place_words (g a)
 
-  abbrev pub Putting : ℕ → Position → List ℕ → ℕ → ℕ → Position → List ℕ → ℕ → Type 0
-  Putting k₀ c₀ a₀ at₀ k c a at = Copying (wide width part_at) words sheet k₀ c₀ a₀ at₀ k c a at
+  -- n of them from c₀ on, of which i are written
+  abbrev pub Putting : ℕ → Position → Writer ℕ → ℕ → Position → Writer ℕ → Type 0
+  Putting n c₀ o₀ i c o = Copying (wide width part_at) words sheet n c₀ o₀ i c o
 
-  pub putting_start : (k : ℕ) (c : Position) (a : List ℕ) (at : ℕ) → Putting k c a at k c a at
-  putting_start k c a at = copying_start (wide width part_at) words sheet k c a at
+  pub putting_start : (n : ℕ) (c : Position) (o : Writer ℕ) → Putting n c o 0 c o
+  putting_start n c o = copying_start (wide width part_at) words sheet n c o
 
   part-words : (l : List A) → length (gather words l) ≡ place_width * length l
   part-words l = ap (λ (ws : List ℕ). length ws) (sym (gather_map place_words g l)) ∙ places_length (map g l) ∙ ap (λ (n : ℕ). place_width * n) (length-map l g)
 
-  module _ {k₀ : ℕ} {c₀ : Position} {a₀ : List ℕ} {at₀ k : ℕ} {c : Position} {a : List ℕ} {at : ℕ} (v : Putting k₀ c₀ a₀ at₀ k c a at) where
-    pub putting_turn : place_width ≤ width → 0 < k → {p : Place} {a' : List ℕ} {at' : ℕ} → Wrote (place_words p) a at a' at' → p ≡ g (part_at sheet c) → Putting k₀ c₀ a₀ at₀ (k - 1) (c + width) a' at'
-    putting_turn h z p e = copying_turn (wide width part_at) words sheet v z (record { wrote = wrote_as p (ap place_words e); after = refl; few = omega (arith, p.next, h) })
+  module _ {n : ℕ} {c₀ : Position} {o₀ : Writer ℕ} {i : ℕ} {c : Position} {o : Writer ℕ} (v : Putting n c₀ o₀ i c o) where
+    pub putting_turn : place_width ≤ width → i < n → {p : Place} {o' : Writer ℕ} → Writes (place_words p) o o' → p ≡ g (part_at sheet c) → Putting n c₀ o₀ (i + 1) (c + width) o'
+    putting_turn h z p e = copying_turn (wide width part_at) words sheet v z (record { wrote = writes_as p (ap place_words e); after = refl; few = omega (arith, p.wrote.next, h) })
 
     -- the part that is next stands in the sheet, if all do
-    pub putting_inside : 0 < k → (several k₀ (wide width part_at) sheet c₀).next ≤ length sheet → c + width ≤ length sheet
-    putting_inside z i = copying_inside (wide width part_at) words sheet v (wide_rises width part_at) z i
+    pub putting_inside : i < n → (several n (wide width part_at) sheet c₀).next ≤ length sheet → c + width ≤ length sheet
+    putting_inside z h = copying_inside (wide width part_at) words sheet v (wide_rises width part_at) z h
 
     -- three words a place
-    pub putting_room : at + place_width * k ≡ at₀ + place_width * k₀
+    pub putting_room : o.at + place_width * (n - i) ≡ o₀.at + place_width * n
     putting_room =
-        let l : List A = (several k (wide width part_at) sheet c).what in
-        let l₀ : List A = (several k₀ (wide width part_at) sheet c₀).what in
-        omega (arith, v.leaves.next, part-words l, part-words l₀, several-length (wide width part_at) sheet k c, several-length (wide width part_at) sheet k₀ c₀)
+        let l : List A = (several (n - i) (wide width part_at) sheet c).what in
+        let l₀ : List A = (several n (wide width part_at) sheet c₀).what in
+        omega (arith, v.leaves.next, part-words l, part-words l₀, several-length (wide width part_at) sheet (n - i) c, several-length (wide width part_at) sheet n c₀)
 
-    -- the buffer keeps its length
-    pub putting_same : length a ≡ length a₀
-    putting_same = leaves_same v.leaves
-
-    pub putting_end : k ≤ 0 → Wrote (gather place_words (map g (several k₀ (wide width part_at) sheet c₀).what)) a₀ at₀ a at
+    pub putting_end : n ≤ i → Writes (gather place_words (map g (several n (wide width part_at) sheet c₀).what)) o₀ o
     putting_end z =
-        wrote_as (copying_end (wide width part_at) words sheet v z).wrote (sym (gather_map place_words g (several k₀ (wide width part_at) sheet c₀).what))
+        writes_as (copying_end (wide width part_at) words sheet v z).wrote (sym (gather_map place_words g (several n (wide width part_at) sheet c₀).what))

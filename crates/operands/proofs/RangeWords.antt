@@ -1,14 +1,14 @@
 -- The words of the ranges: what a write of a start or of an end is to the ranges.
-use Prim.Native.Nat.{ℕ, zero, suc, ◌+◌, ◌≤◌, ◌<◌}
+use Prim.Native.Nat.{ℕ, suc, ◌+◌, ◌≤◌, ◌<◌}
 use native.Mathlib.Omega.{arith}
 use native.Mathlib.Numerals.{add-one}
 use mathlib.Core.Bool.{Bool, true, false}
-use mathlib.Core.Path.{◌≡◌, refl, sym, ap, ◌∙◌}
+use mathlib.Core.Path.{◌≡◌, sym, ap, ◌∙◌}
 use mathlib.Core.List.{List}
-use lib.Dec.{eqb, ltb, leb}
+use lib.Dec.{ltb, leb}
 use lib.ListN.{get_or, set}
 use lib.Seq.{slice, set-get_or}
-use borrow.Author.Tests.{eqb-true, eqb-false, lt-ltb, le-ltb, le-leb, lt-leb}
+use borrow.Author.Tests.{lt-ltb, le-ltb, le-leb, lt-leb}
 use Rattle.model.specs.Limits.{most_identifiers}
 use Rattle.model.specs.Lists.{pick}
 use Rattle.model.specs.Sheet.{StoreContext, Place}
@@ -83,19 +83,6 @@ end_set w {ws} {ws'} {x} h e =
           ∙ ap (λ (s : ℕ). ranges (slice STARTS ENDS ws) (set (slice ENDS CONTEXTS ws) x (w s))) (sym (end_at_lem ws x h));
       kept = rw e (kept_set (kept_none STARTS CONTEXTS ws) (ENDS + x) v (omega arith) (omega (arith, h)));
     }
-
--- ---- what is unset
-pub unset_set : (ws : List ℕ) (at o : ℕ) {r : Bool} → r ≡ eqb (get_or ws at 0) 0 → r ≡ true → set ws at o ≡ set ws at (or_if_unset (get_or ws at 0) o)
-unset_set ws at o p q =
-    let z : get_or ws at 0 ≡ 0 = eqb-true (get_or ws at 0) 0 (sym p ∙ q) in
-    ap (λ (w : ℕ). set ws at (or_if_unset w o)) (sym z)
-
-or_set : (w o : ℕ) → eqb w 0 ≡ false → w ≡ or_if_unset w o
-or_set zero o e = absurd (eqb-false 0 0 e refl)
-or_set (suc w) o e = refl
-
-pub unset_kept : (ws : List ℕ) (at o : ℕ) {r : Bool} → r ≡ eqb (get_or ws at 0) 0 → r ≡ false → ws ≡ set ws at (or_if_unset (get_or ws at 0) o)
-unset_kept ws at o p q = sym (set-get_or ws at 0) ∙ ap (set ws at) (or_set (get_or ws at 0) o (sym p ∙ q))
 
 -- ---- the steps of the definition
 pub start-taken : {ws ws' : List ℕ} (p : Place) (o s : ℕ) {e : ℕ} → p.identifier < most_identifiers → e ≡ get_or (ranges_of ws).ends p.identifier 0 → o < e

@@ -19,9 +19,8 @@ use Rattle.hir.proofs.Several.{several_next, several_none, first_inside, list_is
 use Rattle.workspace.specs.Layout.{STARTS, PASSED, FUNCTIONS}
 use Rattle.workspace.specs.Rows.{Kept}
 use Rattle.workspace.proofs.Parts.{kept_none, kept_then, drop-word}
-use Rattle.writing.specs.Wrote.{Wrote}
-use Rattle.writing.proofs.Writing.{wrote_as, wrote_then}
-use Rattle.copies.specs.declared.Copied.{Copied}
+use Rattle.writing.specs.declared.Writer.{Writer}
+use Rattle.writing.proofs.Writing.{writes_as, writes_then}
 use Rattle.copies.proofs.Errors.{functions_kept}
 use Rattle.copies.proofs.Loops.{Leaves, leaves_all, leaves_then, leaves_none}
 use Rattle.operands.specs.declared.Section.{Section}
@@ -43,19 +42,19 @@ abbrev pub words_in : Section → Pass → List ℕ
 words_in section p = gather place_words (places_in section p)
 
 -- ---- one step after another
-pub steps_then : {section : Section} {fs : List InnerFunction} {f g : Pass → Pass} → Adds section g → {ws a : List ℕ} {at : ℕ} {ws₁ a₁ : List ℕ} {at₁ : ℕ} {ws₂ a₂ : List ℕ} {at₂ : ℕ} → Steps f section fs ws a at ws₁ a₁ at₁
-    → Steps g section fs ws₁ a₁ at₁ ws₂ a₂ at₂ → Steps (λ (p : Pass). g (f p)) section fs ws a at ws₂ a₂ at₂
+pub steps_then : {section : Section} {fs : List InnerFunction} {f g : Pass → Pass} → Adds section g → {ws ws₁ ws₂ : List ℕ} {o o₁ o₂ : Writer ℕ} → Steps f section fs ws o ws₁ o₁
+    → Steps g section fs ws₁ o₁ ws₂ o₂ → Steps (λ (p : Pass). g (f p)) section fs ws o ws₂ o₂
 steps_then {section} {fs} {f} {g} h {ws} s t =
     let q : Pass = f (pass_of ws fs) in
     record {
       pass = t.pass ∙ ap (λ (p : Pass). forget (g p)) s.pass ∙ sym (h.state q);
-      wrote = wrote_as (wrote_then s.wrote t.wrote)
+      wrote = writes_as (writes_then s.wrote t.wrote)
           (ap (λ (p : Pass). words_in section q ++ words_in section (g p)) s.pass
           ∙ sym (gather_append place_words (places_in section q) (places_in section (g (forget q))))
           ∙ ap (gather place_words) (sym (h.places q)));
     }
 
--- ---- k₀ parts from c₀ on, with k of them left from c on
+-- ---- n parts from c₀ on, of which i are passed over; the next stands at c
 module _ {A : Type 0} (f : Standing A) (Below : List InnerFunction → A → Type 0) (step : List InnerFunction → A → Pass → Pass) (section : Section) (sheet lists : List ℕ) where
   -- so many of them can be passed over
   abbrev ReadyAll : List ℕ → ℕ → Position → List InnerFunction → Type 0
@@ -65,89 +64,98 @@ module _ {A : Type 0} (f : Standing A) (Below : List InnerFunction → A → Typ
   abbrev all_from : ℕ → Position → List ℕ → List InnerFunction → Pass
   all_from k c ws fs = each (step fs) (several k f sheet c).what (pass_of ws fs)
 
-  pub record Looping (k₀ : ℕ) (c₀ : Position) (ws₀ a₀ : List ℕ) (at₀ k : ℕ) (c : Position) (ws a : List ℕ) (at : ℕ) : Type 0 where
-    pub ready : (fs : List InnerFunction) → ReadyAll ws₀ k₀ c₀ fs → ReadyAll ws k c fs
-    pub state : (fs : List InnerFunction) → ReadyAll ws₀ k₀ c₀ fs → forget (all_from k c ws fs) ≡ forget (all_from k₀ c₀ ws₀ fs)
-    pub leaves : (fs : List InnerFunction) → ReadyAll ws₀ k₀ c₀ fs → Leaves (words_in section (all_from k₀ c₀ ws₀ fs)) (words_in section (all_from k c ws fs)) a₀ at₀ a at
+  pub record Looping (n : ℕ) (c₀ : Position) (ws₀ : List ℕ) (o₀ : Writer ℕ) (i : ℕ) (c : Position) (ws : List ℕ) (o : Writer ℕ) : Type 0 where
+    pub ready : (fs : List InnerFunction) → ReadyAll ws₀ n c₀ fs → ReadyAll ws (n - i) c fs
+    pub state : (fs : List InnerFunction) → ReadyAll ws₀ n c₀ fs → forget (all_from (n - i) c ws fs) ≡ forget (all_from n c₀ ws₀ fs)
+    pub leaves : (fs : List InnerFunction) → ReadyAll ws₀ n c₀ fs → Leaves (words_in section (all_from n c₀ ws₀ fs)) (words_in section (all_from (n - i) c ws fs)) o₀ o
     pub kept : Kept STARTS PASSED ws₀ ws
-    pub next : (several k f sheet c).next ≡ (several k₀ f sheet c₀).next
-    pub few : at + c₀ ≤ at₀ + c
-    pub same : length a ≡ length a₀
+    pub next : (several (n - i) f sheet c).next ≡ (several n f sheet c₀).next
+    pub few : o.at + c₀ ≤ o₀.at + c
+    pub long : length o.buffer.now ≡ length o₀.buffer.now
+    pub same : o.buffer.ghost_name ≡ o₀.buffer.ghost_name
 
-  pub looping_start : (k : ℕ) (c : Position) (ws a : List ℕ) (at : ℕ) → Looping k c ws a at k c ws a at
-  looping_start k c ws a at = record {
-    ready = λ fs h. h;
-    state = λ fs h. refl;
-    leaves = λ fs h. leaves_all (words_in section (all_from k c ws fs)) a at;
-    kept = kept_none STARTS PASSED ws;
-    next = refl;
-    few = omega arith;
-    same = refl;
-  }
+  pub looping_start : (n : ℕ) (c : Position) (ws : List ℕ) (o : Writer ℕ) → Looping n c ws o 0 c ws o
+  looping_start n c ws o =
+      let z : n - 0 ≡ n = omega arith in
+      record {
+        ready = rw z (λ fs h. h);
+        state = rw z (λ fs h. refl);
+        leaves = rw z (λ fs h. leaves_all (words_in section (all_from n c ws fs)) o);
+        kept = kept_none STARTS PASSED ws;
+        next = rw z refl;
+        few = omega arith;
+        long = refl;
+        same = refl;
+      }
 
-  module _ {k₀ : ℕ} {c₀ : Position} {ws₀ a₀ : List ℕ} {at₀ k : ℕ} {c : Position} {ws a : List ℕ} {at : ℕ} (v : Looping k₀ c₀ ws₀ a₀ at₀ k c ws a at) where
-    -- the first of those that are left can be passed over
-    pub looping_first : 0 < k → (fs : List InnerFunction) → ReadyAll ws₀ k₀ c₀ fs → Ready f Below sheet lists ws c fs
-    looping_first z fs h =
-        let r : ReadyAll ws k c fs = v.ready fs h in
-        record { known = r.known; below = (subst (Every (Below fs)) (part-value (several_next f sheet k c z)) r.below).0 }
+  module _ {n : ℕ} {c₀ : Position} {ws₀ : List ℕ} {o₀ : Writer ℕ} {i : ℕ} {c : Position} {ws : List ℕ} {o : Writer ℕ} (v : Looping n c₀ ws₀ o₀ i c ws o) where
+    module _ (z : i < n) where
+      first : several (n - i) f sheet c ≡ record { what = (f sheet c).what ∷ (several (n - i - 1) f sheet (f sheet c).next).what; next = (several (n - i - 1) f sheet (f sheet c).next).next }
+      first = several_next f sheet (n - i) c (omega arith)
 
-    pub looping_passable : Rises f → 0 < k → Passable (several k₀ f) (λ (fs : List InnerFunction). Every (Below fs)) sheet lists ws₀ c₀ at₀ → Passable f Below sheet lists ws c at
-    looping_passable r z p = record {
-      functions = p.functions;
-      ready = looping_first z p.functions p.ready;
-      inside = first_inside f sheet k c r z (omega (arith, v.next, p.inside));
-      room = omega (arith, v.few, p.room);
-    }
+      -- the next one can be passed over
+      pub looping_first : (fs : List InnerFunction) → ReadyAll ws₀ n c₀ fs → Ready f Below sheet lists ws c fs
+      looping_first fs h =
+          let r : ReadyAll ws (n - i) c fs = v.ready fs h in
+          record { known = r.known; below = (subst (Every (Below fs)) (part-value first) r.below).0 }
 
-    pub looping_turn : ((fs : List InnerFunction) (x : A) → Adds section (step fs x)) → 0 < k → {ws' a' : List ℕ} {r : Copied} → Passed f Below step section sheet lists c ws a at ws' a' r
-        → Looping k₀ c₀ ws₀ a₀ at₀ (k - 1) r.next ws' a' r.at
-    looping_turn adds z {ws'} {a'} {r} p =
-        let x : A = (f sheet c).what in
-        let rest : List A = (several (k - 1) f sheet r.next).what in
-        let first : (several k f sheet c).what ≡ x ∷ rest =
-        part-value (several_next f sheet k c z) ∙ ap (λ (d : Position). x ∷ (several (k - 1) f sheet d).what) (sym p.after) in
-        record {
-          ready = λ fs h.
-              let q : ReadyAll ws k c fs = v.ready fs h in
-              record { known = known_kept p.kept q.known; below = (subst (Every (Below fs)) first q.below).1 };
-          state = λ fs h.
-              let q : Pass = pass_of ws fs in
-              let more : Adds section (each (step fs) rest) = each_adds section (step fs) (adds fs) rest in
-              ap (λ (y : Pass). forget (each (step fs) rest y)) (p.steps fs (looping_first z fs h)).pass
-              ∙ sym (more.state (step fs x q))
-              ∙ ap (λ (l : List A). forget (each (step fs) l q)) (sym first)
-              ∙ v.state fs h;
-          leaves = λ fs h.
-              let q : Pass = pass_of ws fs in
-              let more : Adds section (each (step fs) rest) = each_adds section (step fs) (adds fs) rest in
-              leaves_then (v.leaves fs h) (p.steps fs (looping_first z fs h)).wrote
-              (ap (λ (l : List A). words_in section (each (step fs) l q)) first
-              ∙ ap (gather place_words) (more.places (step fs x q))
-              ∙ gather_append place_words (places_in section (step fs x q)) (places_in section (each (step fs) rest (forget (step fs x q))))
-              ∙ ap (λ (y : Pass). words_in section (step fs x q) ++ words_in section (each (step fs) rest y)) (sym (p.steps fs (looping_first z fs h)).pass));
-          kept = kept_then STARTS PASSED v.kept p.kept (omega arith) (omega arith) (omega arith) (omega arith);
-          next = ap (λ (d : Position). (several (k - 1) f sheet d).next) p.after ∙ sym (part_next (several_next f sheet k c z)) ∙ v.next;
-          few = omega (arith, v.few, p.few);
-          same = p.same ∙ v.same;
-        }
+      pub looping_passable : Rises f → Passable (several n f) (λ (fs : List InnerFunction). Every (Below fs)) sheet lists ws₀ c₀ o₀ → Passable f Below sheet lists ws c o
+      looping_passable r p = record {
+        functions = p.functions;
+        ready = looping_first p.functions p.ready;
+        inside = first_inside f sheet (n - i) c r (omega arith) (omega (arith, v.next, p.inside));
+        room = omega (arith, v.few, p.room);
+      }
 
-    pub looping_end : k ≤ 0 → {r : Copied} → r.at ≡ at → r.next ≡ c
-        → Passed (several k₀ f) (λ (fs : List InnerFunction). Every (Below fs)) (λ (fs : List InnerFunction). each (step fs)) section sheet lists c₀ ws₀ a₀ at₀ ws a r
+      pub looping_turn : ((fs : List InnerFunction) (x : A) → Adds section (step fs x)) → {ws' : List ℕ} {o' : Writer ℕ} {c' : Position} → Passed f Below step section sheet lists c ws o ws' o' c'
+          → Looping n c₀ ws₀ o₀ (i + 1) c' ws' o'
+      looping_turn adds {ws'} {o'} {c'} p =
+          let x : A = (f sheet c).what in
+          let rest : List A = (several (n - i - 1) f sheet c').what in
+          let less : n - (i + 1) ≡ n - i - 1 = omega arith in
+          let one : (several (n - i) f sheet c).what ≡ x ∷ rest =
+          part-value first ∙ ap (λ (d : Position). x ∷ (several (n - i - 1) f sheet d).what) (sym p.after) in
+          record {
+            ready = rw less (λ fs h.
+                let q : ReadyAll ws (n - i) c fs = v.ready fs h in
+                record { known = known_kept p.kept q.known; below = (subst (Every (Below fs)) one q.below).1 });
+            state = rw less (λ fs h.
+                let q : Pass = pass_of ws fs in
+                let more : Adds section (each (step fs) rest) = each_adds section (step fs) (adds fs) rest in
+                ap (λ (y : Pass). forget (each (step fs) rest y)) (p.steps fs (looping_first fs h)).pass
+                ∙ sym (more.state (step fs x q))
+                ∙ ap (λ (l : List A). forget (each (step fs) l q)) (sym one)
+                ∙ v.state fs h);
+            leaves = rw less (λ fs h.
+                let q : Pass = pass_of ws fs in
+                let more : Adds section (each (step fs) rest) = each_adds section (step fs) (adds fs) rest in
+                leaves_then (v.leaves fs h) (p.steps fs (looping_first fs h)).wrote
+                (ap (λ (l : List A). words_in section (each (step fs) l q)) one
+                ∙ ap (gather place_words) (more.places (step fs x q))
+                ∙ gather_append place_words (places_in section (step fs x q)) (places_in section (each (step fs) rest (forget (step fs x q))))
+                ∙ ap (λ (y : Pass). words_in section (step fs x q) ++ words_in section (each (step fs) rest y)) (sym (p.steps fs (looping_first fs h)).pass)));
+            kept = kept_then STARTS PASSED v.kept p.kept (omega arith) (omega arith) (omega arith) (omega arith);
+            next = rw less (ap (λ (d : Position). (several (n - i - 1) f sheet d).next) p.after ∙ sym (part_next first) ∙ v.next);
+            few = omega (arith, v.few, p.few);
+            long = p.long ∙ v.long;
+            same = p.same ∙ v.same;
+          }
+
+    pub looping_end : n ≤ i → Passed (several n f) (λ (fs : List InnerFunction). Every (Below fs)) (λ (fs : List InnerFunction). each (step fs)) section sheet lists c₀ ws₀ o₀ ws o c
     unfolding pass_of forget
-    looping_end z {r} e d =
-        let none = several_none f sheet k c z in
+    looping_end z =
+        let none = several_none f sheet (n - i) c (omega arith) in
         record {
           steps = λ fs h. record {
             pass = sym (ap (λ (l : List A). forget (each (step fs) l (pass_of ws fs))) (part-value none)) ∙ v.state fs h;
-            wrote = subst (λ (i : ℕ). Wrote (words_in section (all_from k₀ c₀ ws₀ fs)) a₀ at₀ a i) (sym e)
-                (leaves_none (v.leaves fs h)
+            wrote = leaves_none (v.leaves fs h)
                 (ap (λ (l : List A). words_in section (each (step fs) l (pass_of ws fs))) (part-value none)
-                ∙ ap (gather place_words) (none_in section (pass_of ws fs))));
+                ∙ ap (gather place_words) (none_in section (pass_of ws fs)));
           };
           kept = v.kept;
-          after = d ∙ sym (part_next none) ∙ v.next;
-          few = omega (arith, v.few, e, d);
+          after = sym (part_next none) ∙ v.next;
+          few = v.few;
+          long = v.long;
           same = v.same;
         }
 
@@ -156,7 +164,7 @@ module _ {A : Type 0} (f : Standing A) (Below : List InnerFunction → A → Typ
   abbrev EveryOf : List InnerFunction → List A → Type 0
   EveryOf fs = Every (Below fs)
 
-  pub listed_passable : {lists ws : List ℕ} {at : ℕ} → Passable (listed f) EveryOf sheet lists ws c at → Passable (several l.count f) EveryOf sheet lists ws l.first at
+  pub listed_passable : {lists ws : List ℕ} {o : Writer ℕ} → Passable (listed f) EveryOf sheet lists ws c o → Passable (several l.count f) EveryOf sheet lists ws l.first o
   listed_passable p = record {
     functions = p.functions;
     ready = record { known = p.ready.known; below = subst (λ (q : Part (List A)). EveryOf p.functions q.what) (list_is f sheet c h) p.ready.below };
@@ -164,16 +172,17 @@ module _ {A : Type 0} (f : Standing A) (Below : List InnerFunction → A → Typ
     room = omega (arith, p.room, h.first);
   }
 
-  pub listed_passed : {lists ws a : List ℕ} {at : ℕ} {ws' a' : List ℕ} {r : Copied} → Passed (several l.count f) EveryOf (λ (fs : List InnerFunction). each (step fs)) section sheet lists l.first ws a at ws' a' r
-      → Passed (listed f) EveryOf (λ (fs : List InnerFunction). each (step fs)) section sheet lists c ws a at ws' a' r
-  listed_passed {ws = ws} {a} {at} {ws'} {a'} {r} p =
+  pub listed_passed : {lists ws ws' : List ℕ} {o o' : Writer ℕ} {r : Position} → Passed (several l.count f) EveryOf (λ (fs : List InnerFunction). each (step fs)) section sheet lists l.first ws o ws' o' r
+      → Passed (listed f) EveryOf (λ (fs : List InnerFunction). each (step fs)) section sheet lists c ws o ws' o' r
+  listed_passed {ws = ws} {ws'} {o} {o'} p =
       let e = list_is f sheet c h in
       record {
         steps = λ fs q.
-            subst (λ (y : Part (List A)). Steps (each (step fs) y.what) section fs ws a at ws' a' r.at) (sym e)
+            subst (λ (y : Part (List A)). Steps (each (step fs) y.what) section fs ws o ws' o') (sym e)
             (p.steps fs (record { known = q.known; below = subst (λ (y : Part (List A)). EveryOf fs y.what) e q.below }));
         kept = p.kept;
         after = p.after ∙ sym (ap (λ (y : Part (List A)). y.next) e);
         few = omega (arith, p.few, h.first);
+        long = p.long;
         same = p.same;
       }

@@ -25,10 +25,11 @@ use Rattle.hir.specs.declared.at.Terminal.{Terminal}
 use Rattle.hir.specs.declared.at.Terminal.TheVariants.{Other, Return, MaybeThrow}
 use Rattle.hir.proofs.Widths.{several_wide, terminal_rises, return_rises}
 use Rattle.hir.proofs.Several.{list_is, several-length}
-use Rattle.writing.specs.Wrote.{Wrote, farthest}
-use Rattle.writing.proofs.Writing.{wrote_none, wrote_as}
+use Rattle.writing.specs.declared.Writer.{Writer}
+use Rattle.writing.specs.Wrote.{Writes, farthest}
+use Rattle.writing.proofs.Writing.{writes_none, writes_as}
 use Rattle.copies.proofs.Passing.{other_past}
-use Rattle.operands.specs.declared.given.Given.TheVariants.{Marked}
+use Rattle.std.specs.Prelude.{Some}
 use Rattle.operands.specs.Given.{given_to, last_place, last_places}
 use Rattle.operands.specs.Phis.{PlacesPut}
 use Rattle.operands.proofs.Putting.{places_length, last_places_lem}
@@ -45,7 +46,7 @@ module _ (ws : List ℕ) (c : Position) {t : Terminal} (h : TerminalAt ws c t) w
     pub other_room : (at : ℕ) → (terminal_from ws c).next ≤ length ws → at + length ws ≤ farthest + c → at + place_width * l.count ≤ farthest
     other_room at i r = omega (arith, other_past ws c h e, is_other.1.first, i, r)
 
-    other_places : (fe : Bool) → map (given_to (Marked Read)) (last_places place_width ws l).what ≡ terminal_places fe (terminal_from ws c).what
+    other_places : (fe : Bool) → map (given_to (Some Read)) (last_places place_width ws l).what ≡ terminal_places fe (terminal_from ws c).what
     unfolding terminal_from terminal_of terminal_places
     other_places fe =
         let first : (d : Position) → with_effect read_effect (last_place place_width ws d) ≡ with_effect read_effect (place_at ws d) =
@@ -53,15 +54,15 @@ module _ (ws : List ℕ) (c : Position) {t : Terminal} (h : TerminalAt ws c t) w
         rw is_other.0 (last_places_lem place_width place_at (with_effect read_effect) (with_effect read_effect) ws first l.count l.first
         ∙ ap (λ (p : Part (List Place)). map (with_effect read_effect) p.what) (sym (list_is (wide place_width place_at) ws (c + 2) is_other.1)))
 
-    pub other_put : (fe : Bool) {a a' : List ℕ} {at r : ℕ} → Wrote (gather place_words (map (given_to (Marked Read)) (last_places place_width ws l).what)) a at a' r
-        → PlacesPut (terminal_places fe (terminal_from ws c).what) c (terminal_from ws c).next a at a' r
+    pub other_put : (fe : Bool) {o o' : Writer ℕ} → Writes (gather place_words (map (given_to (Some Read)) (last_places place_width ws l).what)) o o'
+        → PlacesPut (terminal_places fe (terminal_from ws c).what) c (terminal_from ws c).next o o'
     other_put fe w = record {
-      wrote = wrote_as w (ap (gather place_words) (other_places fe));
+      wrote = writes_as w (ap (gather place_words) (other_places fe));
       few = omega (
         arith,
-        w.next,
-        places_length (map (given_to (Marked Read)) (last_places place_width ws l).what),
-        length-map (last_places place_width ws l).what (given_to (Marked Read)),
+        w.wrote.next,
+        places_length (map (given_to (Some Read)) (last_places place_width ws l).what),
+        length-map (last_places place_width ws l).what (given_to (Some Read)),
         several-length (wide place_width (last_place place_width)) ws l.count l.first,
         other_past ws c h e,
         is_other.1.first,
@@ -83,10 +84,10 @@ module _ (ws : List ℕ) (c : Position) {t : Terminal} (h : TerminalAt ws c t) w
         rw is_return.0 (ap (λ (q : Place). q ∷ []) (g ∙ ap (λ (k : ℕ). with_effect k (place_is v)) f ∙ ap (with_effect (pick fe read_effect freeze_effect)) is_return.1.0))
 
     pub return_put : (fe : Bool) (m : Effect) (p : Hir) → effect_number m ≡ pick fe read_effect freeze_effect → place_is p ≡ with_effect (effect_number m) (place_is v)
-        → {a a' : List ℕ} {at r : ℕ} → Wrote (place_words (place_is p)) a at a' r → PlacesPut (terminal_places fe (terminal_from ws c).what) c (terminal_from ws c).next a at a' r
+        → {o o' : Writer ℕ} → Writes (place_words (place_is p)) o o' → PlacesPut (terminal_places fe (terminal_from ws c).what) c (terminal_from ws c).next o o'
     return_put fe m p f g w = record {
-      wrote = wrote_as w (ap (gather place_words) (value_places fe m p f g));
-      few = omega (arith, w.next, return_rises ws c is_return.0);
+      wrote = writes_as w (ap (gather place_words) (value_places fe m p f g));
+      few = omega (arith, w.wrote.next, return_rises ws c is_return.0);
     }
 
   -- ---- neither
@@ -100,8 +101,8 @@ module _ (ws : List ℕ) (c : Position) {t : Terminal} (h : TerminalAt ws c t) w
         go (suc zero) i = absurd (omega (arith, i))
         go (suc (suc k)) i = refl
 
-    pub throw_put : (fe : Bool) (a : List ℕ) (at : ℕ) → PlacesPut (terminal_places fe (terminal_from ws c).what) c (terminal_from ws c).next a at a at
-    throw_put fe a at = record {
-      wrote = wrote_as (wrote_none a at) (ap (gather place_words) (no_places fe));
+    pub throw_put : (fe : Bool) (o : Writer ℕ) → PlacesPut (terminal_places fe (terminal_from ws c).what) c (terminal_from ws c).next o o
+    throw_put fe o = record {
+      wrote = writes_as (writes_none o) (ap (gather place_words) (no_places fe));
       few = omega (arith, terminal_rises ws c);
     }

@@ -16,7 +16,7 @@ use Rattle.hir.proofs.Several.{several_next, several_none, list_is}
 use Rattle.workspace.specs.Layout.{STARTS, PASSED}
 use Rattle.workspace.specs.Rows.{Kept}
 use Rattle.workspace.proofs.Parts.{kept_then}
-use Rattle.copies.specs.declared.Copied.{Copied}
+use Rattle.writing.specs.declared.Writer.{Writer}
 use Rattle.copies.proofs.Blocks.{instruction_follows, instructions_inside, phis_inside, block-ends}
 use Rattle.operands.specs.declared.Section.{Section}
 use Rattle.operands.specs.Phis.{PhisBelow}
@@ -83,8 +83,8 @@ module _ (sheet : List ℕ) {lists : List ℕ} (c : Position) where
     pub terminal_ready : {ws₁ : List ℕ} → Kept STARTS PASSED ws ws₁ → (j : Position) → Ready terminal_from AnyTerminal sheet lists ws₁ j fs
     terminal_ready k j = record { known = known_kept k h.known; below = tt }
 
-  module _ {ws : List ℕ} {at : ℕ} (h : Passable block_from BlockOf sheet lists ws c at) where
-    pub phis_passable : Passable phis_from PhisBelow sheet lists ws (c + 1) at
+  module _ {ws : List ℕ} {out : Writer ℕ} (h : Passable block_from BlockOf sheet lists ws c out) where
+    pub phis_passable : Passable phis_from PhisBelow sheet lists ws (c + 1) out
     phis_passable = record {
       functions = h.functions;
       ready = phis_ready h.ready;
@@ -93,8 +93,8 @@ module _ (sheet : List ℕ) {lists : List ℕ} (c : Position) where
     }
 
   -- the phis were passed over, then the instructions, then the terminal
-  module _ (section : Section) (o : ℕ) {ws a : List ℕ} {at : ℕ} {ws₁ a₁ : List ℕ} {p : Copied} (ps : Passed phis_from PhisBelow (λ (fs : List InnerFunction). phis o) section sheet lists (c + 1) ws a at ws₁ a₁ p) where
-    pub instructions_passable : Passable block_from BlockOf sheet lists ws c at → Passable instructions_from InstructionsBelow sheet lists ws₁ p.next p.at
+  module _ (section : Section) (o : ℕ) {ws ws₁ : List ℕ} {out out₁ : Writer ℕ} {i : Position} (ps : Passed phis_from PhisBelow (λ (fs : List InnerFunction). phis o) section sheet lists (c + 1) ws out ws₁ out₁ i) where
+    pub instructions_passable : Passable block_from BlockOf sheet lists ws c out → Passable instructions_from InstructionsBelow sheet lists ws₁ i out₁
     instructions_passable h = record {
       functions = h.functions;
       ready = instructions_ready h.ready ps.kept ps.after;
@@ -102,39 +102,40 @@ module _ (sheet : List ℕ) {lists : List ℕ} (c : Position) where
       room = omega (arith, h.room, ps.few);
     }
 
-    module _ {ws₂ a₂ : List ℕ} {i : Copied}
-        (is : Passed instructions_from InstructionsBelow (λ (fs : List InnerFunction). each (instruction fs)) section sheet lists p.next ws₁ a₁ p.at ws₂ a₂ i) where
+    module _ {ws₂ : List ℕ} {out₂ : Writer ℕ} {j : Position}
+        (is : Passed instructions_from InstructionsBelow (λ (fs : List InnerFunction). each (instruction fs)) section sheet lists i ws₁ out₁ ws₂ out₂ j) where
       both_kept : Kept STARTS PASSED ws ws₂
       both_kept = kept_then STARTS PASSED ps.kept is.kept (omega arith) (omega arith) (omega arith) (omega arith)
 
-      pub terminal_passable : Passable block_from BlockOf sheet lists ws c at → Passable terminal_from AnyTerminal sheet lists ws₂ i.next i.at
+      pub terminal_passable : Passable block_from BlockOf sheet lists ws c out → Passable terminal_from AnyTerminal sheet lists ws₂ j out₂
       terminal_passable h = record {
         functions = h.functions;
-        ready = terminal_ready h.ready both_kept i.next;
+        ready = terminal_ready h.ready both_kept j;
         inside = omega (arith, block-ends sheet c ps.after is.after, h.inside);
         room = omega (arith, h.room, ps.few, is.few);
       }
 
-      pub block_passed : (e : Bool) {d : Position} → d ≡ (phis_from sheet (c + 1)).next → o ≡ order_behind sheet (instructions_from sheet d) → {a₃ : List ℕ} {r : Copied}
-          → Passed terminal_from AnyTerminal (λ (fs : List InnerFunction). terminal e) section sheet lists i.next ws₂ a₂ i.at ws₂ a₃ r → Passed block_from BlockOf (block e) section sheet lists c ws a at ws₂ a₃ r
+      pub block_passed : (e : Bool) {d : Position} → d ≡ (phis_from sheet (c + 1)).next → o ≡ order_behind sheet (instructions_from sheet d) → {out₃ : Writer ℕ} {r : Position}
+          → Passed terminal_from AnyTerminal (λ (fs : List InnerFunction). terminal e) section sheet lists j ws₂ out₂ ws₂ out₃ r → Passed block_from BlockOf (block e) section sheet lists c ws out ws₂ out₃ r
       unfolding block block_from
-      block_passed e {d} f g {a₃} {r} ts =
+      block_passed e {d} f g {out₃} ts =
           let first : Position = (phis_from sheet (c + 1)).next in
           let last : Position = (instructions_from sheet first).next in
-          let ends : i.next ≡ last = is.after ∙ ap (λ (x : Position). (instructions_from sheet x).next) ps.after in
+          let ends : j ≡ last = is.after ∙ ap (λ (x : Position). (instructions_from sheet x).next) ps.after in
           let order : o ≡ order_behind sheet (instructions_from sheet first) = g ∙ ap (λ (x : Position). order_behind sheet (instructions_from sheet x)) f in
           record {
             steps = λ fs h.
-                let one = subst (λ (x : ℕ). Steps (phis x (phis_from sheet (c + 1)).what) section fs ws a at ws₁ a₁ p.at) order (ps.steps fs (phis_ready h)) in
+                let one = subst (λ (x : ℕ). Steps (phis x (phis_from sheet (c + 1)).what) section fs ws out ws₁ out₁) order (ps.steps fs (phis_ready h)) in
                 let two =
-                subst (λ (x : Position). Steps (each (instruction fs) (instructions_from sheet x).what) section fs ws₁ a₁ p.at ws₂ a₂ i.at) ps.after
+                subst (λ (x : Position). Steps (each (instruction fs) (instructions_from sheet x).what) section fs ws₁ out₁ ws₂ out₂) ps.after
                 (is.steps fs (instructions_ready h ps.kept ps.after)) in
                 let three =
-                subst (λ (x : Position). Steps (terminal e (terminal_from sheet x).what) section fs ws₂ a₂ i.at ws₂ a₃ r.at) ends (ts.steps fs (terminal_ready h both_kept i.next)) in
+                subst (λ (x : Position). Steps (terminal e (terminal_from sheet x).what) section fs ws₂ out₂ ws₂ out₃) ends (ts.steps fs (terminal_ready h both_kept j)) in
                 steps_then (terminal_adds section e (terminal_from sheet last).what)
                 (steps_then (each_adds section (instruction fs) (instruction_adds section fs) (instructions_from sheet first).what) one two) three;
             kept = both_kept;
             after = ts.after ∙ block-ends sheet c ps.after is.after;
             few = omega (arith, ps.few, is.few, ts.few, ts.after);
+            long = ts.long ∙ is.long ∙ ps.long;
             same = ts.same ∙ is.same ∙ ps.same;
           }

@@ -8,7 +8,8 @@ use Rattle.model.specs.Marks.{Mark, with_mark}
 use Rattle.model.specs.Answer.{place_words}
 use Rattle.workspace.specs.Layout.{CONTEXTS, PASSED}
 use Rattle.workspace.specs.Rows.{Kept}
-use Rattle.writing.specs.Wrote.{Wrote}
+use Rattle.writing.specs.declared.Writer.{Writer}
+use Rattle.writing.specs.Wrote.{Writes}
 use Rattle.operands.specs.Contexts.{contexts_of}
 use Rattle.operands.specs.Known.{Known}
 
@@ -18,11 +19,13 @@ pub record Marking (ms : List Mark) (k : ℕ) (lists ws ws' : List ℕ) : Type 0
   pub kept : Kept CONTEXTS PASSED ws ws'
 
 -- the context places of inner function k were written
-pub record ContextPut (k : ℕ) (lists ws answer : List ℕ) (at : ℕ) (answer' : List ℕ) (r : ℕ) : Type 0 where
-  pub wrote : (fs : List InnerFunction) → Known lists ws fs → k < length fs → Wrote (gather place_words (get_or (contexts_of ws fs) k [])) answer at answer' r
-  pub few : r ≤ at + place_width * most_inner_context
+pub record ContextPut (k : ℕ) (lists ws : List ℕ) (o o' : Writer ℕ) : Type 0 where
+  pub wrote : (fs : List InnerFunction) → Known lists ws fs → k < length fs → Writes (gather place_words (get_or (contexts_of ws fs) k [])) o o'
+  pub few : o'.at ≤ o.at + place_width * most_inner_context
+  pub same : o'.buffer.ghost_name ≡ o.buffer.ghost_name
 
 -- those of all `count` inner functions
-pub record ContextsPut (count : ℕ) (lists ws answer : List ℕ) (at : ℕ) (answer' : List ℕ) (r : ℕ) : Type 0 where
-  pub wrote : (fs : List InnerFunction) → Known lists ws fs → count ≡ length fs → Wrote (gather place_words (gather (λ (l : List Place). l) (contexts_of ws fs))) answer at answer' r
-  pub few : r ≤ at + place_width * most_inner_context * count
+pub record ContextsPut (count : ℕ) (lists ws : List ℕ) (o o' : Writer ℕ) : Type 0 where
+  pub wrote : (fs : List InnerFunction) → Known lists ws fs → count ≡ length fs → Writes (gather place_words (gather (λ (l : List Place). l) (contexts_of ws fs))) o o'
+  pub few : o'.at ≤ o.at + place_width * most_inner_context * count
+  pub same : o'.buffer.ghost_name ≡ o.buffer.ghost_name

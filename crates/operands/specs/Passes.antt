@@ -10,8 +10,8 @@ use Rattle.model.specs.Answer.{place_words}
 use Rattle.hir.specs.Words.{Standing}
 use Rattle.workspace.specs.Layout.{STARTS, PASSED}
 use Rattle.workspace.specs.Rows.{Kept}
-use Rattle.writing.specs.Wrote.{Wrote, farthest}
-use Rattle.copies.specs.declared.Copied.{Copied}
+use Rattle.writing.specs.declared.Writer.{Writer}
+use Rattle.writing.specs.Wrote.{Writes, farthest}
 use Rattle.operands.specs.declared.Section.{Section}
 use Rattle.operands.specs.declared.Section.TheVariants.{Phis, Instructions, Terminals}
 use Rattle.operands.specs.Ranges.{ranges_of}
@@ -38,24 +38,25 @@ pub record Ready {A : Type 0} (f : Standing A) (Below : List InnerFunction → A
   pub below : Below fs (f sheet c).what
 
 -- it stands in the sheet, and there is room to count on
-pub record Passable {A : Type 0} (f : Standing A) (Below : List InnerFunction → A → Type 0) (sheet lists ws : List ℕ) (c : Position) (at : ℕ) : Type 0 where
+pub record Passable {A : Type 0} (f : Standing A) (Below : List InnerFunction → A → Type 0) (sheet lists ws : List ℕ) (c : Position) (o : Writer ℕ) : Type 0 where
   pub functions : List InnerFunction
   pub ready : Ready f Below sheet lists ws c functions
   pub inside : (f sheet c).next ≤ length sheet
-  pub room : at + length sheet ≤ farthest + c
+  pub room : o.at + length sheet ≤ farthest + c
 
 -- a step of the definition's pass was taken
-pub record Steps (step : Pass → Pass) (section : Section) (fs : List InnerFunction) (ws answer : List ℕ) (at : ℕ) (ws' answer' : List ℕ) (at' : ℕ) : Type 0 where
+pub record Steps (step : Pass → Pass) (section : Section) (fs : List InnerFunction) (ws : List ℕ) (o : Writer ℕ) (ws' : List ℕ) (o' : Writer ℕ) : Type 0 where
   pub pass : pass_of ws' fs ≡ forget (step (pass_of ws fs))
-  pub wrote : Wrote (gather place_words (places_in section (step (pass_of ws fs)))) answer at answer' at'
+  pub wrote : Writes (gather place_words (places_in section (step (pass_of ws fs)))) o o'
 
--- the part at c was passed over
-pub record Passed {A : Type 0} (f : Standing A) (Below : List InnerFunction → A → Type 0) (step : List InnerFunction → A → Pass → Pass) (section : Section) (sheet lists : List ℕ) (c : Position) (ws answer : List ℕ) (at : ℕ) (ws' answer' : List ℕ) (r : Copied) : Type 0 where
-  pub steps : (fs : List InnerFunction) → Ready f Below sheet lists ws c fs → Steps (step fs (f sheet c).what) section fs ws answer at ws' answer' r.at
+-- the part at c was passed over, up to r
+pub record Passed {A : Type 0} (f : Standing A) (Below : List InnerFunction → A → Type 0) (step : List InnerFunction → A → Pass → Pass) (section : Section) (sheet lists : List ℕ) (c : Position) (ws : List ℕ) (o : Writer ℕ) (ws' : List ℕ) (o' : Writer ℕ) (r : Position) : Type 0 where
+  pub steps : (fs : List InnerFunction) → Ready f Below sheet lists ws c fs → Steps (step fs (f sheet c).what) section fs ws o ws' o'
   pub kept : Kept STARTS PASSED ws ws'
-  pub after : r.next ≡ (f sheet c).next
-  pub few : r.at + c ≤ at + r.next
-  pub same : length answer' ≡ length answer
+  pub after : r ≡ (f sheet c).next
+  pub few : o'.at + c ≤ o.at + r
+  pub long : length o'.buffer.now ≡ length o.buffer.now
+  pub same : o'.buffer.ghost_name ≡ o.buffer.ghost_name
 
 -- nothing is asked of a terminal
 abbrev pub AnyTerminal : List InnerFunction → Terminal → Type 0

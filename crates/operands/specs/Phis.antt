@@ -8,7 +8,8 @@ use Rattle.model.specs.Ranges.{PhiBelow}
 use Rattle.model.specs.Answer.{place_words}
 use Rattle.hir.specs.Words.{Part, several, phi_from}
 use Rattle.hir.specs.declared.at.List.{List as Listed}
-use Rattle.writing.specs.Wrote.{Wrote}
+use Rattle.writing.specs.declared.Writer.{Writer}
+use Rattle.writing.specs.Wrote.{Writes}
 
 -- a phi's identifier
 abbrev pub phi_identifier : Phi → IdentifierId
@@ -23,6 +24,6 @@ abbrev pub PhisBelow : List InnerFunction → List Phi → Type 0
 PhisBelow fs = Every (PhiBelow most_identifiers)
 
 -- the places ps of the phis that stand from c up to d were written, no more words than were read
-pub record PlacesPut (ps : List Place) (c d : Position) (answer : List ℕ) (at : ℕ) (answer' : List ℕ) (r : ℕ) : Type 0 where
-  pub wrote : Wrote (gather place_words ps) answer at answer' r
-  pub few : r + c ≤ at + d
+pub record PlacesPut (ps : List Place) (c d : Position) (o o' : Writer ℕ) : Type 0 where
+  pub wrote : Writes (gather place_words ps) o o'
+  pub few : o'.at + c ≤ o.at + d

@@ -9,7 +9,8 @@ use Rattle.model.specs.Operands.{ends_before, after_pass}
 use Rattle.model.specs.Answer.{answer, operand_words, place_words, section}
 use Rattle.workspace.specs.Layout.{LEAST, END, SEEN, STARTS, PASSED}
 use Rattle.workspace.specs.Rows.{Kept}
-use Rattle.writing.specs.Wrote.{Wrote}
+use Rattle.writing.specs.declared.Writer.{Writer}
+use Rattle.writing.specs.Wrote.{Writes}
 use Rattle.copies.specs.Functions.{Functions}
 use Rattle.dataflow.specs.declared.function.HirFunction.{HirFunction}
 use Rattle.dataflow.specs.Function.{Describes}
@@ -36,28 +37,31 @@ abbrev pub most_section : ℕ
 most_section = 1 + most_sheet
 
 -- the section was written, and the words have what the pass leaves
-pub record SectionPut (which : Section) (sheet lists : List ℕ) (f : HirFunction) (ws ans : List ℕ) (at : ℕ) (ws' ans' : List ℕ) (r : ℕ) : Type 0 where
-  pub wrote : (s : Sheet) → Passing s sheet lists ws f → Wrote (section place_words (places_in which (after_pass s))) ans at ans' r
+pub record SectionPut (which : Section) (sheet lists : List ℕ) (f : HirFunction) (ws : List ℕ) (o : Writer ℕ) (ws' : List ℕ) (o' : Writer ℕ) : Type 0 where
+  pub wrote : (s : Sheet) → Passing s sheet lists ws f → Writes (section place_words (places_in which (after_pass s))) o o'
   pub pass : (s : Sheet) → Passing s sheet lists ws f → pass_of ws' s.functions ≡ forget (after_pass s)
   pub kept : Kept STARTS PASSED ws ws'
-  pub few : r ≤ at + most_section
+  pub few : o'.at ≤ o.at + most_section
+  pub same : o'.buffer.ghost_name ≡ o.buffer.ghost_name
 
 -- the words of the section of inner contexts
 abbrev pub most_inner : ℕ
 most_inner = 1 + place_width * most_inner_context * most_functions
 
 -- it was written
-pub record InnerPut (count : ℕ) (lists ws ans : List ℕ) (at : ℕ) (ans' : List ℕ) (r : ℕ) : Type 0 where
-  pub wrote : (fs : List InnerFunction) → Known lists ws fs → count ≡ length fs → Wrote (section place_words (gather (λ (l : List Place). l) (contexts_of ws fs))) ans at ans' r
-  pub few : r ≤ at + most_inner
+pub record InnerPut (count : ℕ) (lists ws : List ℕ) (o o' : Writer ℕ) : Type 0 where
+  pub wrote : (fs : List InnerFunction) → Known lists ws fs → count ≡ length fs → Writes (section place_words (gather (λ (l : List Place). l) (contexts_of ws fs))) o o'
+  pub few : o'.at ≤ o.at + most_inner
+  pub same : o'.buffer.ghost_name ≡ o.buffer.ghost_name
 
 -- the words of the four sections
 abbrev pub most_operand_words : ℕ
 most_operand_words = 3 * most_section + most_inner
 
 -- the four sections were written, and the ranges in the words are those after the pass
-pub record OperandsPut (sheet lists : List ℕ) (f : HirFunction) (ws ans : List ℕ) (at : ℕ) (ws' ans' : List ℕ) (r : ℕ) : Type 0 where
-  pub wrote : (s : Sheet) → Passing s sheet lists ws f → Wrote (operand_words (answer s)) ans at ans' r
+pub record OperandsPut (sheet lists : List ℕ) (f : HirFunction) (ws : List ℕ) (o : Writer ℕ) (ws' : List ℕ) (o' : Writer ℕ) : Type 0 where
+  pub wrote : (s : Sheet) → Passing s sheet lists ws f → Writes (operand_words (answer s)) o o'
   pub ranges : (s : Sheet) → Passing s sheet lists ws f → ranges_of ws' ≡ (after_pass s).ranges
   pub kept : Kept STARTS PASSED ws ws'
-  pub few : r ≤ at + most_operand_words
+  pub few : o'.at ≤ o.at + most_operand_words
+  pub same : o'.buffer.ghost_name ≡ o.buffer.ghost_name

@@ -1,13 +1,12 @@
 // What the pass begins on: the sheet's starts, the ends after the real walks, and no mark.
 ghost use Rattle.std.specs.Prelude.{◌≡◌, map, ◌≤◌, length};
-ghost use Rattle.std.proofs.Math.Seq.{slice};
 ghost use Rattle.std.proofs.lemmas.List.Edits.{sets};
 ghost use Rattle.model.specs.Limits.{most_identifiers};
 ghost use Rattle.workspace.specs.Layout.{LEAST, END, SEEN, STARTS, ENDS};
 ghost use Rattle.operands.specs.Begun.{identifiers_in, start_of, Begun};
 
 use hir::at::{IDENTIFIER_WIDTH, List, identifier_at};
-use workspace::{CONTEXTS, END, ENDS, IDENTIFIERS, PASSED, STARTS, clear};
+use workspace::{CONTEXTS, END, ENDS, IDENTIFIERS, PASSED, SEEN, STARTS, clear};
 
 // Stores the starts of the identifiers.
 fn read_starts(sheet: &[u32], list: List, ws: &mut [u32])
@@ -15,27 +14,10 @@ fn read_starts(sheet: &[u32], list: List, ws: &mut [u32])
     requires count_le_most_identifiers { (list.count ≤ most_identifiers) × (LEAST ≤ length ws.old) }
     ensures { ws.new ≡ sets ws.old STARTS (map start_of (identifiers_in sheet.now list).what) }
 {
-    let mut left = list.count;
     let mut next = list.first;
-    let mut to = STARTS;
-    while 0 < left {
-        let i = identifier_at(sheet, next);
-        ws[to] = i.mutable_range.start.0;
+    for to in STARTS..STARTS + list.count as usize {
+        ws[to] = identifier_at(sheet, next).mutable_range.start.0;
         next += IDENTIFIER_WIDTH;
-        to += 1;
-        left -= 1;
-    }
-}
-
-// Copies the ends after the real walks.
-fn copy_ends(ws: &mut [u32])
-    requires { LEAST ≤ length ws.old }
-    ensures { ws.new ≡ sets ws.old ENDS (slice END SEEN ws.old) }
-{
-    let mut x = 0;
-    while x < IDENTIFIERS {
-        ws[ENDS + x] = ws[END + x];
-        x += 1;
     }
 }
 
@@ -47,6 +29,6 @@ pub fn begin(sheet: &[u32], identifiers: List, ws: &mut [u32])
 {
     clear(ws, STARTS, IDENTIFIERS);
     read_starts(sheet, identifiers, ws);
-    copy_ends(ws);
+    ws.copy_within(END..SEEN, ENDS);
     clear(ws, CONTEXTS, PASSED - CONTEXTS);
 }

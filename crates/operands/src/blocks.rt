@@ -10,10 +10,10 @@ use crate::Section;
 use crate::instruction::pass_instructions;
 use crate::phis::pass_phis;
 use crate::terminals::pass_terminal;
-use copies::Copied;
 use copies::past::past_phis;
 use hir::EvaluationOrder;
-use hir::at::{list_at, order_at};
+use hir::at::{List, list_at, order_at};
+use writing::Writer;
 
 // The block's first order: its first instruction's, else its terminal's. The instructions stand at `from`.
 fn first_order(sheet: &[u32], from: usize) -> EvaluationOrder
@@ -27,7 +27,7 @@ fn first_order(sheet: &[u32], from: usize) -> EvaluationOrder
     order_at(sheet, list.first)
 }
 
-// A block: phis, instructions, terminal.
+// A block: phis, instructions, terminal; the position after it.
 fn pass_block(
     sheet: &[u32],
     lists: &[u32],
@@ -35,42 +35,34 @@ fn pass_block(
     expression: bool,
     section: Section,
     ws: &mut [u32],
-    answer: &mut [u32],
-    at: usize,
-) -> Copied
-    requires { Passable block_from BlockOf sheet.now lists.now ws.old from at }
-    ensures { Passed block_from BlockOf (block expression) section sheet.now lists.now from ws.old answer.old at ws.new answer.new result }
+    out: &mut Writer<'_, u32>,
+) -> usize
+    requires { Passable block_from BlockOf sheet.now lists.now ws.old from out.old }
+    ensures { Passed block_from BlockOf (block expression) section sheet.now lists.now from ws.old out.old ws.new out.new result }
 {
     let inside = past_phis(sheet, from + 1);
     let order = first_order(sheet, inside);
-    let p = pass_phis(sheet, from + 1, order, section, ws, answer, at);
-    let i = pass_instructions(sheet, lists, p.next, section, ws, answer, p.at);
-    pass_terminal(sheet, i.next, expression, section, ws, answer, i.at)
+    let instructions = pass_phis(sheet, from + 1, order, section, ws, out);
+    let terminal = pass_instructions(sheet, lists, instructions, section, ws, out);
+    pass_terminal(sheet, terminal, expression, section, ws, out)
 }
 
-// `count` blocks.
+// Some blocks; the position after them.
 pub fn pass_blocks(
     sheet: &[u32],
     lists: &[u32],
-    from: usize,
-    count: u32,
+    blocks: List,
     expression: bool,
     section: Section,
     ws: &mut [u32],
-    answer: &mut [u32],
-    at: usize,
-) -> Copied
-    requires { Passable (several count block_from) (λ (fs : InnerFunctions). Every (BlockOf fs)) sheet.now lists.now ws.old from at }
-    ensures { Passed (several count block_from) (λ (fs : InnerFunctions). Every (BlockOf fs)) (λ (fs : InnerFunctions). each (block expression fs)) section sheet.now lists.now from ws.old answer.old at ws.new answer.new result }
+    out: &mut Writer<'_, u32>,
+) -> usize
+    requires { Passable (several blocks.count block_from) (λ (fs : InnerFunctions). Every (BlockOf fs)) sheet.now lists.now ws.old blocks.first out.old }
+    ensures { Passed (several blocks.count block_from) (λ (fs : InnerFunctions). Every (BlockOf fs)) (λ (fs : InnerFunctions). each (block expression fs)) section sheet.now lists.now blocks.first ws.old out.old ws.new out.new result }
 {
-    let mut left = count;
-    let mut next = from;
-    let mut to = at;
-    while 0 < left {
-        let r = pass_block(sheet, lists, next, expression, section, ws, answer, to);
-        to = r.at;
-        next = r.next;
-        left -= 1;
+    let mut next = blocks.first;
+    for _ in 0..blocks.count {
+        next = pass_block(sheet, lists, next, expression, section, ws, out);
     }
-    Copied { at: to, next }
+    next
 }

@@ -14,6 +14,7 @@ use copies::put_place;
 use hir::at::{DIAGNOSTIC_WIDTH, List, PLACE_WIDTH, list_at, place_at};
 use hir::{Effect, EvaluationOrder, FunctionId};
 use workspace::{CONTEXTS, FUNCTIONS};
+use writing::Writer;
 
 // The most context places of an inner function.
 const INNER_CONTEXT: usize = 64;
@@ -27,7 +28,7 @@ pub fn context_of(lists: &[u32], ws: &[u32], function: FunctionId) -> List
     let diagnostics = list_at(lists, start);
     list_at(
         lists,
-        diagnostics.first + DIAGNOSTIC_WIDTH * (diagnostics.count as usize),
+        diagnostics.first + DIAGNOSTIC_WIDTH * diagnostics.count as usize,
     )
 }
 
@@ -46,57 +47,38 @@ pub fn mark_context(
     ensures { Marking (operand_effects (ranges_of ws.old).ends order.0 (effects_in sheet.now effects).what) function.0 lists.now ws.old ws.new }
 {
     let list = context_of(lists, ws, function);
-    let mut left = list.count;
+    let first = CONTEXTS + INNER_CONTEXT * function.0 as usize;
     let mut next = list.first;
-    let mut to = CONTEXTS + INNER_CONTEXT * (function.0 as usize);
-    while 0 < left {
+    for i in 0..list.count as usize {
         let p = place_at(lists, next);
         let mark = mark_of(sheet, effects, ws, order, p.identifier, Effect::Read);
-        ws[to] = mark.number() + 1;
+        ws[first + i] = u32::from(mark) + 1;
         next += PLACE_WIDTH;
-        to += 1;
-        left -= 1;
     }
 }
 
 // The context places of an inner function, with their marks.
-fn put_context(
-    lists: &[u32],
-    ws: &[u32],
-    function: FunctionId,
-    answer: &mut [u32],
-    at: usize,
-) -> usize
+fn put_context(lists: &[u32], ws: &[u32], function: FunctionId, out: &mut Writer<'_, u32>)
     requires known { (fs : InnerFunctions) × (Known lists.now ws.now fs × (function.0 < length fs)) }
-    requires most_inner_context_bound { at + place_width * most_inner_context ≤ farthest }
-    ensures { ContextPut function.0 lists.now ws.now answer.old at answer.new result }
+    requires most_inner_context_bound { out.old.at + place_width * most_inner_context ≤ farthest }
+    ensures { ContextPut function.0 lists.now ws.now out.old out.new }
 {
     let list = context_of(lists, ws, function);
-    let mut left = list.count;
+    let first = CONTEXTS + INNER_CONTEXT * function.0 as usize;
     let mut next = list.first;
-    let mut word = CONTEXTS + INNER_CONTEXT * (function.0 as usize);
-    let mut to = at;
-    while 0 < left {
-        let p = place_at(lists, next);
-        to = put_place(answer, to, give(p, given_by(ws[word])));
+    for i in 0..list.count as usize {
+        put_place(out, give(place_at(lists, next), given_by(ws[first + i])));
         next += PLACE_WIDTH;
-        word += 1;
-        left -= 1;
     }
-    to
 }
 
 // The context places of all inner functions.
-pub fn put_contexts(lists: &[u32], ws: &[u32], count: u32, answer: &mut [u32], at: usize) -> usize
+pub fn put_contexts(lists: &[u32], ws: &[u32], count: u32, out: &mut Writer<'_, u32>)
     requires known { (fs : InnerFunctions) × (Known lists.now ws.now fs × (count ≡ length fs)) }
-    requires most_functions_bound { at + place_width * most_inner_context * most_functions ≤ farthest }
-    ensures { ContextsPut count lists.now ws.now answer.old at answer.new result }
+    requires most_functions_bound { out.old.at + place_width * most_inner_context * most_functions ≤ farthest }
+    ensures { ContextsPut count lists.now ws.now out.old out.new }
 {
-    let mut k: u32 = 0;
-    let mut to = at;
-    while k < count {
-        to = put_context(lists, ws, FunctionId(k), answer, to);
-        k += 1;
+    for k in 0..count {
+        put_context(lists, ws, FunctionId(k), out);
     }
-    to
 }

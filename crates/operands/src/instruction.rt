@@ -6,7 +6,7 @@ ghost use Rattle.model.specs.Answer.{place_words};
 ghost use Rattle.model.specs.Operands.{name_lvalues, instruction_places, instruction};
 ghost use Rattle.hir.specs.Words.{instruction_from, instructions_from};
 ghost use Rattle.workspace.specs.Layout.{LEAST};
-ghost use Rattle.writing.specs.Wrote.{Wrote, farthest};
+ghost use Rattle.writing.specs.Wrote.{Writes, farthest};
 ghost use Rattle.operands.specs.Ranges.{Ranged};
 ghost use Rattle.operands.specs.Known.{InnerFunctions, instruction_is, InstructionIn, InstructionKnown};
 ghost use Rattle.operands.specs.Instruction.{marks_now, of_instructions, BelowOf, ValueMarked, AllStarted, ListedPassed};
@@ -17,9 +17,10 @@ use crate::contexts::{context_of, mark_context};
 use crate::given::with_effect;
 use crate::marks::{mark_of, put_marked};
 use crate::ranges::{name_lvalue, name_lvalues, start_operands, store};
-use copies::{Copied, put_place};
+use copies::put_place;
 use hir::at::{EFFECT_WIDTH, Instruction, instruction_at, list_at};
 use hir::{Effect, InstructionValue};
+use writing::Writer;
 
 // First the lvalues' ranges.
 fn name_all(sheet: &[u32], i: Instruction, ws: &mut [u32])
@@ -31,41 +32,30 @@ fn name_all(sheet: &[u32], i: Instruction, ws: &mut [u32])
 }
 
 // Its places with the marks of its effects: lvalues, else ConditionallyMutate; then operands, else Read.
-fn put_uses(sheet: &[u32], i: Instruction, ws: &[u32], answer: &mut [u32], at: usize) -> usize
+fn put_uses(sheet: &[u32], i: Instruction, ws: &[u32], out: &mut Writer<'_, u32>)
     requires in_bounds { (LEAST ≤ length ws.now) × ((fs : InnerFunctions) × InstructionIn sheet.now fs i) }
-    requires count_bound { at + place_width * (1 + i.value_lvalues.count + i.operands.count) ≤ farthest }
-    ensures { Wrote (gather place_words (instruction_places (marks_now sheet.now ws.now i) (instruction_is sheet.now i))) answer.old at answer.new result }
+    requires count_bound { out.old.at + place_width * (1 + i.value_lvalues.count + i.operands.count) ≤ farthest }
+    ensures { Writes (gather place_words (instruction_places (marks_now sheet.now ws.now i) (instruction_is sheet.now i))) out.old out.new }
 {
-    let lvalue = i.lvalue;
     let mark = mark_of(
         sheet,
         i.effects,
         ws,
         i.order,
-        lvalue.identifier,
+        i.lvalue.identifier,
         Effect::ConditionallyMutate,
     );
-    let a = put_place(answer, at, with_effect(lvalue, mark));
-    let b = put_marked(
+    put_place(out, with_effect(i.lvalue, mark));
+    put_marked(
         sheet,
         i.value_lvalues,
         i.effects,
         ws,
         i.order,
         Effect::ConditionallyMutate,
-        answer,
-        a,
+        out,
     );
-    put_marked(
-        sheet,
-        i.operands,
-        i.effects,
-        ws,
-        i.order,
-        Effect::Read,
-        answer,
-        b,
-    )
+    put_marked(sheet, i.operands, i.effects, ws, i.order, Effect::Read, out);
 }
 
 // The same, where the section is that of instructions.
@@ -74,16 +64,14 @@ fn put_instruction(
     i: Instruction,
     section: Section,
     ws: &[u32],
-    answer: &mut [u32],
-    at: usize,
-) -> usize
+    out: &mut Writer<'_, u32>,
+)
     requires in_bounds { (LEAST ≤ length ws.now) × ((fs : InnerFunctions) × InstructionIn sheet.now fs i) }
-    requires count_bound { at + place_width * (1 + i.value_lvalues.count + i.operands.count) ≤ farthest }
-    ensures { Wrote (gather place_words (of_instructions section (instruction_places (marks_now sheet.now ws.now i) (instruction_is sheet.now i)))) answer.old at answer.new result }
+    requires count_bound { out.old.at + place_width * (1 + i.value_lvalues.count + i.operands.count) ≤ farthest }
+    ensures { Writes (gather place_words (of_instructions section (instruction_places (marks_now sheet.now ws.now i) (instruction_is sheet.now i)))) out.old out.new }
 {
-    match section {
-        Section::Instructions => put_uses(sheet, i, ws, answer, at),
-        _ => at,
+    if section == Section::Instructions {
+        put_uses(sheet, i, ws, out);
     }
 }
 
@@ -92,10 +80,8 @@ fn mark_value(sheet: &[u32], lists: &[u32], i: Instruction, ws: &mut [u32])
     requires { (fs : InnerFunctions) × InstructionKnown sheet.now lists.now ws.old fs i }
     ensures { ValueMarked sheet.now lists.now i ws.old ws.new }
 {
-    let value = i.value;
-    match value {
-        InstructionValue::Function(k) => mark_context(sheet, lists, k, i.effects, ws, i.order),
-        _ => {}
+    if let InstructionValue::Function(k) = i.value {
+        mark_context(sheet, lists, k, i.effects, ws, i.order);
     }
 }
 
@@ -105,8 +91,7 @@ fn start_all(sheet: &[u32], lists: &[u32], i: Instruction, ws: &mut [u32])
     ensures { AllStarted sheet.now lists.now i ws.old ws.new }
 {
     start_operands(sheet, i.operands, ws, i.order);
-    let value = i.value;
-    match value {
+    match i.value {
         InstructionValue::Plain => {}
         InstructionValue::Function(k) => {
             let context = context_of(lists, ws, k);
@@ -127,52 +112,41 @@ fn pass_listed(sheet: &[u32], lists: &[u32], i: Instruction, ws: &mut [u32])
     }
 }
 
-// An instruction.
+// An instruction; the position after it.
 fn pass_instruction(
     sheet: &[u32],
     lists: &[u32],
     from: usize,
     section: Section,
     ws: &mut [u32],
-    answer: &mut [u32],
-    at: usize,
-) -> Copied
-    requires { Passable instruction_from BelowOf sheet.now lists.now ws.old from at }
-    ensures { Passed instruction_from BelowOf instruction section sheet.now lists.now from ws.old answer.old at ws.new answer.new result }
+    out: &mut Writer<'_, u32>,
+) -> usize
+    requires { Passable instruction_from BelowOf sheet.now lists.now ws.old from out.old }
+    ensures { Passed instruction_from BelowOf instruction section sheet.now lists.now from ws.old out.old ws.new out.new result }
 {
     let i = instruction_at(sheet, from);
     name_all(sheet, i, ws);
-    let to = put_instruction(sheet, i, section, ws, answer, at);
+    put_instruction(sheet, i, section, ws, out);
     pass_listed(sheet, lists, i, ws);
-    let effects = i.effects;
-    Copied {
-        at: to,
-        next: effects.first + EFFECT_WIDTH * (effects.count as usize),
-    }
+    i.effects.first + EFFECT_WIDTH * i.effects.count as usize
 }
 
-// A block's instructions.
+// A block's instructions; the position after them.
 pub fn pass_instructions(
     sheet: &[u32],
     lists: &[u32],
     from: usize,
     section: Section,
     ws: &mut [u32],
-    answer: &mut [u32],
-    at: usize,
-) -> Copied
-    requires { Passable instructions_from (λ (fs : InnerFunctions). Every (BelowOf fs)) sheet.now lists.now ws.old from at }
-    ensures { Passed instructions_from (λ (fs : InnerFunctions). Every (BelowOf fs)) (λ (fs : InnerFunctions). each (instruction fs)) section sheet.now lists.now from ws.old answer.old at ws.new answer.new result }
+    out: &mut Writer<'_, u32>,
+) -> usize
+    requires { Passable instructions_from (λ (fs : InnerFunctions). Every (BelowOf fs)) sheet.now lists.now ws.old from out.old }
+    ensures { Passed instructions_from (λ (fs : InnerFunctions). Every (BelowOf fs)) (λ (fs : InnerFunctions). each (instruction fs)) section sheet.now lists.now from ws.old out.old ws.new out.new result }
 {
     let list = list_at(sheet, from);
-    let mut left = list.count;
     let mut next = list.first;
-    let mut to = at;
-    while 0 < left {
-        let r = pass_instruction(sheet, lists, next, section, ws, answer, to);
-        to = r.at;
-        next = r.next;
-        left -= 1;
+    for _ in 0..list.count {
+        next = pass_instruction(sheet, lists, next, section, ws, out);
     }
-    Copied { at: to, next }
+    next
 }

@@ -11,7 +11,7 @@ ghost use Rattle.operands.specs.Whole.{Passing, most_section, SectionPut, most_i
 
 use dataflow::function::HirFunction;
 use hir::at::PLACE_WIDTH;
-use writing::{patch, put};
+use writing::Writer;
 
 pub mod begin;
 pub mod blocks;
@@ -27,7 +27,7 @@ mod terminals;
 pub const RANGE_WIDTH: usize = 2;
 
 // Which places are written.
-#[derive(Clone, Copy)]
+#[derive(Clone, Copy, Debug, PartialEq, Eq)]
 pub enum Section {
     Phis,
     Instructions,
@@ -41,41 +41,39 @@ fn put_section(
     f: HirFunction,
     section: Section,
     ws: &mut [u32],
-    answer: &mut [u32],
-    at: usize,
-) -> usize
+    out: &mut Writer<'_, u32>,
+)
     requires limited { Limited f × ((s : Sheet) × Passing s sheet.now lists.now ws.old f) }
-    requires most_section_bound { at + most_section ≤ farthest }
-    ensures { SectionPut section sheet.now lists.now f ws.old answer.old at ws.new answer.new result }
+    requires most_section_bound { out.old.at + most_section ≤ farthest }
+    ensures { SectionPut section sheet.now lists.now f ws.old out.old ws.new out.new }
 {
     begin::begin(sheet, f.identifiers, ws);
-    let start = put(answer, at, 0);
-    let blocks = f.blocks;
-    let r = blocks::pass_blocks(
+    let count = out.at;
+    out.put(0);
+    let start = out.at;
+    blocks::pass_blocks(
         sheet,
         lists,
-        blocks.first,
-        blocks.count,
+        f.blocks,
         f.function_expression,
         section,
         ws,
-        answer,
-        start,
+        out,
     );
-    patch(answer, at, ((r.at - start) / PLACE_WIDTH) as u32);
-    r.at
+    out.patch(count, ((out.at - start) / PLACE_WIDTH) as u32);
 }
 
 // The section of inner contexts.
-fn put_inner(lists: &[u32], functions: u32, ws: &[u32], answer: &mut [u32], at: usize) -> usize
+fn put_inner(lists: &[u32], functions: u32, ws: &[u32], out: &mut Writer<'_, u32>)
     requires known { (fs : InnerFunctions) × (Known lists.now ws.now fs × (functions ≡ length fs)) }
-    requires most_inner_bound { at + most_inner ≤ farthest }
-    ensures { InnerPut functions lists.now ws.now answer.old at answer.new result }
+    requires most_inner_bound { out.old.at + most_inner ≤ farthest }
+    ensures { InnerPut functions lists.now ws.now out.old out.new }
 {
-    let start = put(answer, at, 0);
-    let to = contexts::put_contexts(lists, ws, functions, answer, start);
-    patch(answer, at, ((to - start) / PLACE_WIDTH) as u32);
-    to
+    let count = out.at;
+    out.put(0);
+    let start = out.at;
+    contexts::put_contexts(lists, ws, functions, out);
+    out.patch(count, ((out.at - start) / PLACE_WIDTH) as u32);
 }
 
 // The four sections of places: phis, instructions, terminals, inner; the context places of inner functions stand in `lists`. The ranges after the pass are left in the workspace.
@@ -84,15 +82,14 @@ pub fn put_operands(
     lists: &[u32],
     f: HirFunction,
     ws: &mut [u32],
-    answer: &mut [u32],
-    at: usize,
-) -> usize
+    out: &mut Writer<'_, u32>,
+)
     requires limited { Limited f × ((s : Sheet) × Passing s sheet.now lists.now ws.old f) }
-    requires most_operand_words_bound { at + most_operand_words ≤ farthest }
-    ensures { OperandsPut sheet.now lists.now f ws.old answer.old at ws.new answer.new result }
+    requires most_operand_words_bound { out.old.at + most_operand_words ≤ farthest }
+    ensures { OperandsPut sheet.now lists.now f ws.old out.old ws.new out.new }
 {
-    let a = put_section(sheet, lists, f, Section::Phis, ws, answer, at);
-    let b = put_section(sheet, lists, f, Section::Instructions, ws, answer, a);
-    let c = put_section(sheet, lists, f, Section::Terminals, ws, answer, b);
-    put_inner(lists, f.m, ws, answer, c)
+    put_section(sheet, lists, f, Section::Phis, ws, out);
+    put_section(sheet, lists, f, Section::Instructions, ws, out);
+    put_section(sheet, lists, f, Section::Terminals, ws, out);
+    put_inner(lists, f.m, ws, out);
 }

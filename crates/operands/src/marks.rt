@@ -7,7 +7,7 @@ ghost use Rattle.model.specs.Marks.{capture_or_read, flow_marks, mark, marks_of,
 ghost use Rattle.hir.specs.Numbers.{effect_number};
 ghost use Rattle.hir.specs.Says.{effect_is};
 ghost use Rattle.workspace.specs.Layout.{LEAST};
-ghost use Rattle.writing.specs.Wrote.{Wrote, farthest};
+ghost use Rattle.writing.specs.Wrote.{Writes, farthest};
 ghost use Rattle.operands.specs.Ranges.{ranges_of};
 ghost use Rattle.operands.specs.Known.{places_at, effects_in, IntoBelow};
 
@@ -16,14 +16,14 @@ use crate::ranges::end_of;
 use copies::put_place;
 use hir::at::{EFFECT_WIDTH, List, PLACE_WIDTH, effect_at, place_at};
 use hir::{AliasingEffect, Effect, EffectKind, EvaluationOrder, IdentifierId};
+use writing::Writer;
 
 // Capture if the end is above the order, else Read.
 pub fn capture_or_read(ws: &[u32], x: IdentifierId, order: EvaluationOrder) -> Effect
     requires { (x.0 < most_identifiers) × (LEAST ≤ length ws.now) }
     ensures { effect_number result ≡ capture_or_read (get_or (ranges_of ws.now).ends x.0 0) order.0 }
 {
-    let end = end_of(ws, x);
-    if order.0 < end.0 {
+    if order < end_of(ws, x) {
         return Effect::Capture;
     }
     Effect::Read
@@ -40,13 +40,11 @@ fn mark_flow(
     requires { (e.second.identifier.0 < most_identifiers) × (LEAST ≤ length ws.now) }
     ensures { effect_number result ≡ mark_of (flow_marks (ranges_of ws.now).ends order.0 (effect_is e) []) x.0 (effect_number before) }
 {
-    let from = e.first.identifier;
-    let into = e.second.identifier;
-    if x.0 == into.0 {
+    if x == e.second.identifier {
         return Effect::Store;
     }
-    if x.0 == from.0 {
-        return capture_or_read(ws, into, order);
+    if x == e.first.identifier {
+        return capture_or_read(ws, e.second.identifier, order);
     }
     before
 }
@@ -55,8 +53,7 @@ fn mark_flow(
 fn mark_place(e: AliasingEffect, x: IdentifierId, given: Effect, before: Effect) -> Effect
     ensures { effect_number result ≡ mark_of (mark (effect_is e).first (effect_number given) []) x.0 (effect_number before) }
 {
-    let place = e.first.identifier;
-    if x.0 == place.0 {
+    if x == e.first.identifier {
         return given;
     }
     before
@@ -73,23 +70,19 @@ fn mark_by(
     requires { IntoBelow (effect_is e) × (LEAST ≤ length ws.now) }
     ensures { effect_number result ≡ mark_of (marks_of (effect_is e).kind (ranges_of ws.now).ends order.0 (effect_is e) []) x.0 (effect_number before) }
 {
-    let kind = e.kind;
-    match kind {
+    match e.kind {
         EffectKind::Freeze => mark_place(e, x, Effect::Freeze, before),
         EffectKind::Mutate => mark_place(e, x, Effect::Store, before),
-        EffectKind::MutateConditionally => mark_place(e, x, Effect::ConditionallyMutate, before),
-        EffectKind::MutateTransitive => mark_place(e, x, Effect::ConditionallyMutate, before),
-        EffectKind::MutateTransitiveConditionally => mark_place(
-            e,
-            x,
-            Effect::ConditionallyMutate,
-            before,
-        ),
-        EffectKind::Capture => mark_flow(e, ws, order, x, before),
-        EffectKind::Alias => mark_flow(e, ws, order, x, before),
-        EffectKind::MaybeAlias => mark_flow(e, ws, order, x, before),
-        EffectKind::Assign => mark_flow(e, ws, order, x, before),
-        EffectKind::CreateFrom => mark_flow(e, ws, order, x, before),
+        EffectKind::MutateConditionally
+        | EffectKind::MutateTransitive
+        | EffectKind::MutateTransitiveConditionally => {
+            mark_place(e, x, Effect::ConditionallyMutate, before)
+        }
+        EffectKind::Capture
+        | EffectKind::Alias
+        | EffectKind::MaybeAlias
+        | EffectKind::Assign
+        | EffectKind::CreateFrom => mark_flow(e, ws, order, x, before),
         _ => before,
     }
 }
@@ -107,14 +100,11 @@ pub fn mark_of(
     requires every { Every IntoBelow (effects_in sheet.now list).what × (LEAST ≤ length ws.now) }
     ensures { effect_number result ≡ mark_of (operand_effects (ranges_of ws.now).ends order.0 (effects_in sheet.now list).what) x.0 (effect_number without) }
 {
-    let mut left = list.count;
     let mut next = list.first;
     let mut mark = without;
-    while 0 < left {
-        let e = effect_at(sheet, next);
-        mark = mark_by(e, ws, order, x, mark);
+    for _ in 0..list.count {
+        mark = mark_by(effect_at(sheet, next), ws, order, x, mark);
         next += EFFECT_WIDTH;
-        left -= 1;
     }
     mark
 }
@@ -127,24 +117,19 @@ pub fn put_marked(
     ws: &[u32],
     order: EvaluationOrder,
     without: Effect,
-    answer: &mut [u32],
-    at: usize,
-) -> usize
+    out: &mut Writer<'_, u32>,
+)
     requires list_in_bounds { (places_at sheet.now list).next ≤ length sheet.now }
     requires effects_in_bounds { (effects_in sheet.now effects).next ≤ length sheet.now }
     requires every { Every IntoBelow (effects_in sheet.now effects).what × (LEAST ≤ length ws.now) }
-    requires count_bound { at + place_width * list.count ≤ farthest }
-    ensures { Wrote (gather place_words (map (with_mark (operand_effects (ranges_of ws.now).ends order.0 (effects_in sheet.now effects).what) (effect_number without)) (places_at sheet.now list).what)) answer.old at answer.new result }
+    requires count_bound { out.old.at + place_width * list.count ≤ farthest }
+    ensures { Writes (gather place_words (map (with_mark (operand_effects (ranges_of ws.now).ends order.0 (effects_in sheet.now effects).what) (effect_number without)) (places_at sheet.now list).what)) out.old out.new }
 {
-    let mut left = list.count;
     let mut next = list.first;
-    let mut to = at;
-    while 0 < left {
+    for _ in 0..list.count {
         let p = place_at(sheet, next);
         let mark = mark_of(sheet, effects, ws, order, p.identifier, without);
-        to = put_place(answer, to, with_effect(p, mark));
+        put_place(out, with_effect(p, mark));
         next += PLACE_WIDTH;
-        left -= 1;
     }
-    to
 }

@@ -7,7 +7,7 @@ ghost use Rattle.model.specs.Answer.{place_words};
 ghost use Rattle.model.specs.Operands.{phis_marked, phi_starts, phis};
 ghost use Rattle.hir.specs.Words.{several, phi_from, phis_from};
 ghost use Rattle.workspace.specs.Layout.{LEAST};
-ghost use Rattle.writing.specs.Wrote.{Wrote, farthest};
+ghost use Rattle.writing.specs.Wrote.{Writes, farthest};
 ghost use Rattle.operands.specs.Ranges.{ranges_of, Ranged};
 ghost use Rattle.operands.specs.Given.{given_phi};
 ghost use Rattle.operands.specs.Phis.{phi_identifier, phis_in, PhisBelow, PlacesPut};
@@ -15,47 +15,45 @@ ghost use Rattle.operands.specs.Known.{InnerFunctions, Lists};
 ghost use Rattle.operands.specs.Passes.{Passable, Passed};
 
 use crate::Section;
-use crate::given::{Given, give, put_places};
+use crate::given::{give, put_places};
 use crate::marks::capture_or_read;
 use crate::ranges::start_if;
 use copies::past::past_phi;
-use copies::{Copied, put_place};
+use copies::put_place;
 use hir::at::{List, OPERAND_WIDTH, list_at, phi_at};
 use hir::{Effect, EvaluationOrder, IdentifierId};
+use writing::Writer;
 
 // Whether one of `count` phis from `first` on has this identifier.
 fn named(sheet: &[u32], first: usize, count: u32, x: IdentifierId) -> bool
     requires { (several count phi_from sheet.now first).next ≤ length sheet.now }
     ensures { result ≡ among x.0 (map phi_identifier (several count phi_from sheet.now first).what) }
 {
-    let mut left = count;
     let mut next = first;
-    let mut found = false;
-    while 0 < left {
-        let phi = phi_at(sheet, next);
-        found = found | (phi.place.identifier.0 == x.0);
+    for _ in 0..count {
+        if phi_at(sheet, next).place.identifier == x {
+            return true;
+        }
         next = past_phi(sheet, next);
-        left -= 1;
     }
-    found
+    false
 }
 
 // A phi's place and its operands.
 fn put_phi(
     sheet: &[u32],
     from: usize,
-    place: Given,
-    operands: Given,
-    answer: &mut [u32],
-    at: usize,
-) -> usize
+    place: Option<Effect>,
+    operands: Option<Effect>,
+    out: &mut Writer<'_, u32>,
+)
     requires from_in_bounds { (phi_from sheet.now from).next ≤ length sheet.now }
-    requires sheet_bound { at + length sheet.now ≤ farthest + from }
-    ensures { Wrote (gather place_words (given_phi place operands (phi_from sheet.now from).what)) answer.old at answer.new result }
+    requires sheet_bound { out.old.at + length sheet.now ≤ farthest + from }
+    ensures { Writes (gather place_words (given_phi place operands (phi_from sheet.now from).what)) out.old out.new }
 {
     let phi = phi_at(sheet, from);
-    let to = put_place(answer, at, give(phi.place, place));
-    put_places(sheet, phi.operands, OPERAND_WIDTH, operands, answer, to)
+    put_place(out, give(phi.place, place));
+    put_places(sheet, phi.operands, OPERAND_WIDTH, operands, out);
 }
 
 // The phis' places: of those with one identifier only the first is marked, as the original finds them by identifier.
@@ -64,37 +62,24 @@ fn put_phis(
     list: List,
     ws: &[u32],
     order: EvaluationOrder,
-    answer: &mut [u32],
-    at: usize,
-) -> usize
+    out: &mut Writer<'_, u32>,
+)
     requires list_in_bounds { (phis_in sheet.now list).next ≤ length sheet.now }
     requires every { Every (PhiBelow most_identifiers) (phis_in sheet.now list).what × (LEAST ≤ length ws.now) }
-    requires sheet_bound { at + length sheet.now ≤ farthest + list.first }
-    ensures { PlacesPut (phis_marked (ranges_of ws.now) order.0 [] (phis_in sheet.now list).what) list.first (phis_in sheet.now list).next answer.old at answer.new result }
+    requires sheet_bound { out.old.at + length sheet.now ≤ farthest + list.first }
+    ensures { PlacesPut (phis_marked (ranges_of ws.now) order.0 [] (phis_in sheet.now list).what) list.first (phis_in sheet.now list).next out.old out.new }
 {
-    let mut done: u32 = 0;
     let mut next = list.first;
-    let mut to = at;
-    while done < list.count {
-        let phi = phi_at(sheet, next);
-        let x = phi.place.identifier;
+    for done in 0..list.count {
+        let x = phi_at(sheet, next).place.identifier;
         if named(sheet, list.first, done, x) {
-            to = put_phi(sheet, next, Given::Kept, Given::Kept, answer, to);
+            put_phi(sheet, next, None, None, out);
         } else {
             let effect = capture_or_read(ws, x, order);
-            to = put_phi(
-                sheet,
-                next,
-                Given::Marked(Effect::Store),
-                Given::Marked(effect),
-                answer,
-                to,
-            );
+            put_phi(sheet, next, Some(Effect::Store), Some(effect), out);
         }
         next = past_phi(sheet, next);
-        done += 1;
     }
-    to
 }
 
 // The phis' starts, one below the block's first order; the position after the phis.
@@ -103,39 +88,30 @@ fn start_phis(sheet: &[u32], list: List, ws: &mut [u32], order: EvaluationOrder)
     requires every { Every (PhiBelow most_identifiers) (phis_in sheet.now list).what × (LEAST ≤ length ws.old) }
     ensures { Ranged (phi_starts order.0 (phis_in sheet.now list).what) ws.old ws.new × (result ≡ (phis_in sheet.now list).next) }
 {
-    let mut before = order.0;
-    if 0 < before {
-        before -= 1;
-    }
-    let mut left = list.count;
+    let before = EvaluationOrder(order.0.saturating_sub(1));
     let mut next = list.first;
-    while 0 < left {
-        let phi = phi_at(sheet, next);
-        start_if(ws, phi.place, order, EvaluationOrder(before));
+    for _ in 0..list.count {
+        start_if(ws, phi_at(sheet, next).place, order, before);
         next = past_phi(sheet, next);
-        left -= 1;
     }
     next
 }
 
-// A block's phis, by the ends as they stand when the pass comes to it.
+// A block's phis, by the ends as they stand when the pass comes to it; the position after them.
 pub fn pass_phis(
     sheet: &[u32],
     from: usize,
     order: EvaluationOrder,
     section: Section,
     ws: &mut [u32],
-    answer: &mut [u32],
-    at: usize,
-) -> Copied
-    requires { (lists : Lists) × Passable phis_from PhisBelow sheet.now lists ws.old from at }
-    ensures { (lists : Lists) → Passed phis_from PhisBelow (λ (fs : InnerFunctions). phis order.0) section sheet.now lists from ws.old answer.old at ws.new answer.new result }
+    out: &mut Writer<'_, u32>,
+) -> usize
+    requires { (lists : Lists) × Passable phis_from PhisBelow sheet.now lists ws.old from out.old }
+    ensures { (lists : Lists) → Passed phis_from PhisBelow (λ (fs : InnerFunctions). phis order.0) section sheet.now lists from ws.old out.old ws.new out.new result }
 {
     let list = list_at(sheet, from);
-    let to = match section {
-        Section::Phis => put_phis(sheet, list, ws, order, answer, at),
-        _ => at,
-    };
-    let next = start_phis(sheet, list, ws, order);
-    Copied { at: to, next }
+    if section == Section::Phis {
+        put_phis(sheet, list, ws, order, out);
+    }
+    start_phis(sheet, list, ws, order)
 }

@@ -8,14 +8,14 @@ ghost use Rattle.model.specs.Answer.{range_words, section};
 ghost use Rattle.model.specs.Operands.{or_if_unset, start_if, name_lvalue, store_value};
 ghost use Rattle.hir.specs.Says.{place_is};
 ghost use Rattle.workspace.specs.Layout.{LEAST};
-ghost use Rattle.writing.specs.Wrote.{Wrote, farthest};
+ghost use Rattle.writing.specs.Wrote.{Writes, farthest};
 ghost use Rattle.operands.specs.Ranges.{ranges_of, Ranged, first_ranges, most_ranges};
 ghost use Rattle.operands.specs.Known.{places_at, PlacesIn};
 
 use hir::at::{List, PLACE_WIDTH, place_at};
 use hir::{EvaluationOrder, IdentifierId, Place};
 use workspace::{ENDS, STARTS};
-use writing::put;
+use writing::Writer;
 
 // The end of an identifier's range.
 pub fn end_of(ws: &[u32], x: IdentifierId) -> EvaluationOrder
@@ -30,8 +30,7 @@ fn set_unset(ws: &mut [u32], at: usize, order: u32)
     requires { at < length ws.old }
     ensures { ws.new ≡ set ws.old at (or_if_unset (get_or ws.old at 0) order) }
 {
-    let now = EvaluationOrder(ws[at]);
-    if now.is_unset() {
+    if EvaluationOrder(ws[at]).is_unset() {
         ws[at] = order;
     }
 }
@@ -41,10 +40,8 @@ pub fn start_if(ws: &mut [u32], p: Place, order: EvaluationOrder, start: Evaluat
     requires { PlaceBelow most_identifiers (place_is p) × (LEAST ≤ length ws.old) }
     ensures { Ranged (start_if order.0 start.0 (place_is p)) ws.old ws.new }
 {
-    let x = p.identifier;
-    let end = end_of(ws, x);
-    if order.0 < end.0 {
-        set_unset(ws, STARTS + x.0 as usize, start.0);
+    if order < end_of(ws, p.identifier) {
+        set_unset(ws, STARTS + p.identifier.0 as usize, start.0);
     }
 }
 
@@ -64,13 +61,10 @@ pub fn name_lvalues(sheet: &[u32], list: List, ws: &mut [u32], order: Evaluation
     requires in_bounds { (LEAST ≤ length ws.old) × (order.0 ≤ most_order) }
     ensures { Ranged (each (name_lvalue order.0) (places_at sheet.now list).what) ws.old ws.new }
 {
-    let mut left = list.count;
     let mut next = list.first;
-    while 0 < left {
-        let p = place_at(sheet, next);
-        name_lvalue(ws, p, order);
+    for _ in 0..list.count {
+        name_lvalue(ws, place_at(sheet, next), order);
         next += PLACE_WIDTH;
-        left -= 1;
     }
 }
 
@@ -80,30 +74,24 @@ pub fn start_operands(sheet: &[u32], list: List, ws: &mut [u32], order: Evaluati
     requires in_bounds { LEAST ≤ length ws.old }
     ensures { Ranged (each (start_if order.0 order.0) (places_at sheet.now list).what) ws.old ws.new }
 {
-    let mut left = list.count;
     let mut next = list.first;
-    while 0 < left {
-        let p = place_at(sheet, next);
-        start_if(ws, p, order, order);
+    for _ in 0..list.count {
+        start_if(ws, place_at(sheet, next), order, order);
         next += PLACE_WIDTH;
-        left -= 1;
     }
 }
 
 // The section of ranges.
-pub fn put_ranges(ws: &[u32], count: u32, answer: &mut [u32], at: usize) -> usize
+pub fn put_ranges(ws: &[u32], count: u32, out: &mut Writer<'_, u32>)
     requires count_le_most_identifiers { (count ≤ most_identifiers) × (LEAST ≤ length ws.now) }
-    requires most_ranges_bound { at + most_ranges ≤ farthest }
-    ensures { Wrote (section range_words (first_ranges count (ranges_of ws.now))) answer.old at answer.new result }
+    requires most_ranges_bound { out.old.at + most_ranges ≤ farthest }
+    ensures { Writes (section range_words (first_ranges count (ranges_of ws.now))) out.old out.new }
 {
-    let mut to = put(answer, at, count);
-    let mut x = 0;
-    while x < (count as usize) {
-        to = put(answer, to, ws[STARTS + x]);
-        to = put(answer, to, ws[ENDS + x]);
-        x += 1;
+    out.put(count);
+    for x in 0..count as usize {
+        out.put(ws[STARTS + x]);
+        out.put(ws[ENDS + x]);
     }
-    to
 }
 
 // StoreContext: the end of what is stored, where it is not above the order.
@@ -111,8 +99,7 @@ pub fn store(ws: &mut [u32], x: IdentifierId, order: EvaluationOrder)
     requires { (x.0 < most_identifiers) × ((LEAST ≤ length ws.old) × (order.0 ≤ most_order)) }
     ensures { Ranged (store_value order.0 (StoreContext x.0)) ws.old ws.new }
 {
-    let end = end_of(ws, x);
-    if end.0 <= order.0 {
+    if end_of(ws, x) <= order {
         ws[ENDS + x.0 as usize] = order.0 + 1;
     }
 }

@@ -11,11 +11,12 @@ ghost use Rattle.operands.specs.Known.{InnerFunctions, Lists};
 ghost use Rattle.operands.specs.Passes.{AnyTerminal, Passable, Passed};
 
 use crate::Section;
-use crate::given::{Given, put_places, with_effect};
+use crate::given::{put_places, with_effect};
 use copies::past::past_terminal;
-use copies::{Copied, put_place};
+use copies::put_place;
 use hir::Effect;
 use hir::at::{PLACE_WIDTH, Terminal, terminal_at};
+use writing::Writer;
 
 // The effect of Return's value.
 fn returned(expression: bool) -> Effect
@@ -28,52 +29,34 @@ fn returned(expression: bool) -> Effect
 }
 
 // Its places: Return's value, or its operands, which are Read.
-fn put_terminal(
-    sheet: &[u32],
-    from: usize,
-    expression: bool,
-    answer: &mut [u32],
-    at: usize,
-) -> usize
+fn put_terminal(sheet: &[u32], from: usize, expression: bool, out: &mut Writer<'_, u32>)
     requires from_in_bounds { (terminal_from sheet.now from).next ≤ length sheet.now }
-    requires sheet_bound { at + length sheet.now ≤ farthest + from }
-    ensures { PlacesPut (terminal_places expression (terminal_from sheet.now from).what) from (terminal_from sheet.now from).next answer.old at answer.new result }
+    requires sheet_bound { out.old.at + length sheet.now ≤ farthest + from }
+    ensures { PlacesPut (terminal_places expression (terminal_from sheet.now from).what) from (terminal_from sheet.now from).next out.old out.new }
 {
     match terminal_at(sheet, from) {
-        Terminal::Other(operands) => put_places(
-            sheet,
-            operands,
-            PLACE_WIDTH,
-            Given::Marked(Effect::Read),
-            answer,
-            at,
-        ),
-        Terminal::Return(value, _) => put_place(
-            answer,
-            at,
-            with_effect(value, returned(expression)),
-        ),
-        Terminal::MaybeThrow(_) => at,
+        Terminal::Other(operands) => {
+            put_places(sheet, operands, PLACE_WIDTH, Some(Effect::Read), out)
+        }
+        Terminal::Return(value, _) => put_place(out, with_effect(value, returned(expression))),
+        Terminal::MaybeThrow(_) => {}
     }
 }
 
-// A terminal.
+// A terminal; the position after it.
 pub fn pass_terminal(
     sheet: &[u32],
     from: usize,
     expression: bool,
     section: Section,
     ws: &[u32],
-    answer: &mut [u32],
-    at: usize,
-) -> Copied
-    requires { (lists : Lists) × Passable terminal_from AnyTerminal sheet.now lists ws.now from at }
-    ensures { (lists : Lists) → Passed terminal_from AnyTerminal (λ (fs : InnerFunctions). terminal expression) section sheet.now lists from ws.now answer.old at ws.now answer.new result }
+    out: &mut Writer<'_, u32>,
+) -> usize
+    requires { (lists : Lists) × Passable terminal_from AnyTerminal sheet.now lists ws.now from out.old }
+    ensures { (lists : Lists) → Passed terminal_from AnyTerminal (λ (fs : InnerFunctions). terminal expression) section sheet.now lists from ws.now out.old ws.now out.new result }
 {
-    let to = match section {
-        Section::Terminals => put_terminal(sheet, from, expression, answer, at),
-        _ => at,
-    };
-    let next = past_terminal(sheet, from);
-    Copied { at: to, next }
+    if section == Section::Terminals {
+        put_terminal(sheet, from, expression, out);
+    }
+    past_terminal(sheet, from)
 }

@@ -1,40 +1,28 @@
+use Prim.Native.Nat.{◌+◌, ◌-◌}
 use native.Mathlib.Omega.{arith}
-use mathlib.Core.Path.{refl, ap}
+use mathlib.Core.Path.{◌≡◌, refl, ap}
 use Rattle.model.specs.Limits.{identifier_width}
-use Rattle.hir.specs.Words.{wide, identifier_at}
+use Rattle.hir.specs.Words.{identifier_at}
 use Rattle.hir.proofs.Widths.{wide_rises}
+use Rattle.workspace.specs.Layout.{STARTS}
 use Rattle.operands.specs.Begun.{start_of}
-use Rattle.dataflow.proofs.Storing.{storing-start, storing_inside, storing_turn, storing_done}
+use Rattle.dataflow.proofs.Storing.{storing_inside, storing_turn, storing_done}
 use Rattle.operands.proofs.begin.read_starts.Goals as goal
 
-pub loop-left-init : goal.loop-left-init
-loop-left-init c = storing-start (wide identifier_width identifier_at) start_of _ _ _ _ _
-
-pub identifier_at-i-requires : goal.identifier_at-i-requires
-identifier_at-i-requires c =
-    storing_inside c.loop-left.invariant (wide_rises identifier_width identifier_at) c.loop-left-test.true c.requires.list_in_bounds
-
-pub offset_bounds-ws-to : goal.offset_bounds-ws-to
-offset_bounds-ws-to c =
-    omega (arith, c.loop-left.invariant.number, c.loop-left-test.true, c.requires.count_le_most_identifiers.0)
-
-pub bounds-ws-to : goal.bounds-ws-to
-bounds-ws-to c =
-    omega (arith, c.loop-left.invariant.number, c.loop-left.invariant.same, c.loop-left-test.true, c.requires.count_le_most_identifiers.0, c.requires.count_le_most_identifiers.1)
+pub identifier_at-requires : goal.identifier_at-requires
+identifier_at-requires c =
+    storing_inside c.loop-to.invariant (wide_rises identifier_width identifier_at) (omega arith) c.requires.list_in_bounds
 
 pub overflow_add-next : goal.overflow_add-next
 overflow_add-next c =
-    omega (arith, storing_inside c.loop-left.invariant (wide_rises identifier_width identifier_at) c.loop-left-test.true c.requires.list_in_bounds)
+    omega (arith, storing_inside c.loop-to.invariant (wide_rises identifier_width identifier_at) (omega arith) c.requires.list_in_bounds)
 
-pub overflow_add-to : goal.overflow_add-to
-overflow_add-to c =
-    omega (arith, c.loop-left.invariant.number, c.loop-left-test.true, c.requires.count_le_most_identifiers.0)
-
-pub loop-left-preserved : goal.loop-left-preserved
-loop-left-preserved c = storing_turn c.loop-left.invariant c.loop-left-test.true (ap start_of c.identifier_at-i.ensures) refl
-
-pub shape_of-ws : goal.shape_of-ws
-shape_of-ws c = c.loop-left.invariant.same
+pub loop-to-preserved : goal.loop-to-preserved
+loop-to-preserved c =
+    let to = c.loop-to.to in
+    let end = STARTS + c.args.list.count in
+    let k : end - (to + 1) ≡ end - to - 1 = omega arith in
+    rw k (storing_turn c.loop-to.invariant (omega arith) (ap start_of c.identifier_at.ensures) refl)
 
 pub returns : goal.returns
-returns c = (storing_done c.loop-left.invariant c.loop-left-test.false).words
+returns c = (storing_done c.loop-to.invariant (omega arith)).words

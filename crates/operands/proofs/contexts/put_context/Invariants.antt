@@ -1,8 +1,5 @@
 use Rattle.operands.proofs.InnerPut.{Putting}
 use Rattle.operands.proofs.contexts.put_context.Given as goal
 
-abbrev pub invariant-loop-left : goal.invariant-loop-left
-invariant-loop-left l = Putting l.lists l.ws l.initial.left l.initial.next l.initial.word l.initial.answer l.at l.left l.next l.word l.answer l.to
-
-abbrev pub decreases-loop-left : goal.decreases-loop-left
-decreases-loop-left l = l.left
+abbrev pub invariant-loop-i : goal.invariant-loop-i
+invariant-loop-i l = Putting l.lists l.ws l.i-end l.initial.next l.first l.initial.out l.i l.next l.out

@@ -12,8 +12,8 @@ pub name_all-requires : goal.name_all-requires
 name_all-requires c =
     (c.requires.ready.known.size, (c.requires.functions, instruction_in c.instruction_at-i.ensures c.requires.inside c.requires.ready.below))
 
-pub put_instruction-to-requires : goal.put_instruction-to-requires
-put_instruction-to-requires c =
+pub put_instruction-requires : goal.put_instruction-requires
+put_instruction-requires c =
     record { in_bounds = (omega (arith, c.name_all.ensures.kept.same, c.requires.ready.known.size), (c.requires.functions, instruction_in c.instruction_at-i.ensures c.requires.inside c.requires.ready.below)); count_bound = omega (arith, instruction_few c.instruction_at-i.ensures, c.requires.inside, c.requires.room) }
 
 pub pass_listed-requires : goal.pass_listed-requires
@@ -27,4 +27,4 @@ overflow_add-result c =
 
 pub returns : goal.returns
 returns c =
-    instruction_passed _ c.instruction_at-i.ensures c.requires.inside c.name_all.ensures c.put_instruction-to.ensures c.pass_listed.ensures refl
+    instruction_passed _ c.instruction_at-i.ensures c.requires.inside c.name_all.ensures c.put_instruction.ensures c.pass_listed.ensures refl

@@ -1,5 +1,4 @@
 use native.Mathlib.Omega.{arith}
-use mathlib.Core.Path.{refl}
 use Rattle.model.specs.Operands.{instruction}
 use Rattle.hir.specs.Words.{instruction_from}
 use Rattle.hir.proofs.Widths.{listed_rises}
@@ -13,22 +12,16 @@ pub list_at-list-requires : goal.list_at-list-requires
 list_at-list-requires c =
     omega (arith, listed_rises instruction_from instruction_follows c.args.sheet.now c.args.from, c.requires.inside)
 
-pub loop-left-init : goal.loop-left-init
-loop-left-init c = looping_start _ _ _ _ _ _ _ _ _ _ _
+pub loop-init : goal.loop-init
+loop-init c = looping_start _ _ _ _ _ _ _ _ _ _
 
-pub pass_instruction-r-requires : goal.pass_instruction-r-requires
-pass_instruction-r-requires c =
-    looping_passable _ _ _ _ _ _ c.loop-left.invariant instruction_follows c.loop-left-test.true (listed_passable instruction_from BelowOf instruction c.args.section c.list_at-list.ensures c.requires)
+pub pass_instruction-next-requires : goal.pass_instruction-next-requires
+pass_instruction-next-requires c =
+    looping_passable _ _ _ _ _ _ c.loop.invariant c.loop-test.true instruction_follows (listed_passable instruction_from BelowOf instruction c.args.section c.list_at-list.ensures c.requires)
 
-pub loop-left-preserved : goal.loop-left-preserved
-loop-left-preserved c =
-    looping_turn _ _ _ _ _ _ c.loop-left.invariant (instruction_adds c.args.section) c.loop-left-test.true c.pass_instruction-r.ensures
-
-pub shape_of-ws : goal.shape_of-ws
-shape_of-ws c = c.loop-left.invariant.kept.same
-
-pub shape_of-answer : goal.shape_of-answer
-shape_of-answer c = c.loop-left.invariant.same
+pub loop-preserved : goal.loop-preserved
+loop-preserved c =
+    looping_turn _ _ _ _ _ _ c.loop.invariant c.loop-test.true (instruction_adds c.args.section) c.pass_instruction-next.ensures
 
 pub returns : goal.returns
-returns c = listed_passed _ _ _ _ c.list_at-list.ensures (looping_end _ _ _ _ _ _ c.loop-left.invariant c.loop-left-test.false refl refl)
+returns c = listed_passed _ _ _ _ c.list_at-list.ensures (looping_end _ _ _ _ _ _ c.loop.invariant c.loop-test.false)

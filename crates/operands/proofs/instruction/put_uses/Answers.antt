@@ -14,24 +14,24 @@ pub mark_of-mark-requires : goal.mark_of-mark-requires
 mark_of-mark-requires c =
     record { list_in_bounds = c.requires.in_bounds.1.1.effects; every = (intos_below c.requires.in_bounds.1.1, c.requires.in_bounds.0) }
 
-pub put_place-a-requires : goal.put_place-a-requires
-put_place-a-requires c =
+pub put_place-requires : goal.put_place-requires
+put_place-requires c =
     omega (arith, c.requires.count_bound)
-
-pub put_marked-b-requires : goal.put_marked-b-requires
-put_marked-b-requires c =
-    record { list_in_bounds = c.requires.in_bounds.1.1.value_lvalues; effects_in_bounds = c.requires.in_bounds.1.1.effects; every = (intos_below c.requires.in_bounds.1.1, c.requires.in_bounds.0); count_bound = omega (arith, c.put_place-a.ensures.next, c.requires.count_bound) }
 
 pub put_marked-requires : goal.put_marked-requires
 put_marked-requires c =
+    record { list_in_bounds = c.requires.in_bounds.1.1.value_lvalues; effects_in_bounds = c.requires.in_bounds.1.1.effects; every = (intos_below c.requires.in_bounds.1.1, c.requires.in_bounds.0); count_bound = omega (arith, c.put_place.ensures.wrote.next, c.requires.count_bound) }
+
+pub put_marked-requires-2 : goal.put_marked-requires-2
+put_marked-requires-2 c =
     let a = c.args in
     let marked = with_mark (marks_now a.sheet.now a.ws.now a.i) conditionally_mutate_effect in
-    let lvalues = places_end marked a.sheet.now a.i.value_lvalues c.put_marked-b.ensures in
-    record { list_in_bounds = c.requires.in_bounds.1.1.operands; effects_in_bounds = c.requires.in_bounds.1.1.effects; every = (intos_below c.requires.in_bounds.1.1, c.requires.in_bounds.0); count_bound = omega (arith, c.put_place-a.ensures.next, lvalues, c.requires.count_bound) }
+    let lvalues = places_end marked a.sheet.now a.i.value_lvalues c.put_marked.ensures in
+    record { list_in_bounds = c.requires.in_bounds.1.1.operands; effects_in_bounds = c.requires.in_bounds.1.1.effects; every = (intos_below c.requires.in_bounds.1.1, c.requires.in_bounds.0); count_bound = omega (arith, c.put_place.ensures.wrote.next, lvalues, c.requires.count_bound) }
 
 pub returns : goal.returns
 returns c =
     let a = c.args in
     let ms = marks_now a.sheet.now a.ws.now a.i in
     uses_put ms (place_is a.i.lvalue) (places_at a.sheet.now a.i.value_lvalues).what (places_at a.sheet.now a.i.operands).what
-    c.put_place-a.ensures (with_mark_lem ms conditionally_mutate_effect c.with_effect.ensures c.mark_of-mark.ensures refl) c.put_marked-b.ensures c.put_marked.ensures
+    c.put_place.ensures (with_mark_lem ms conditionally_mutate_effect c.with_effect.ensures c.mark_of-mark.ensures refl) c.put_marked.ensures c.put_marked-2.ensures

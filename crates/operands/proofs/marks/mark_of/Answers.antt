@@ -7,24 +7,24 @@ use Rattle.operands.proofs.Folding.{folding_start, folding_has, folding_inside, 
 use Rattle.operands.proofs.Marked.{marks_all}
 use Rattle.operands.proofs.marks.mark_of.Goals as goal
 
-pub loop-left-init : goal.loop-left-init
-loop-left-init c = folding_start _ _ _ _ _ _ _ c.requires.every.0
+pub loop-init : goal.loop-init
+loop-init c = folding_start _ _ _ _ _ _ _ c.requires.every.0
 
-pub effect_at-e-requires : goal.effect_at-e-requires
-effect_at-e-requires c =
-    folding_inside _ _ _ _ c.loop-left.invariant (wide_rises effect_width effect_at) c.loop-left-test.true c.requires.list_in_bounds
+pub effect_at-requires : goal.effect_at-requires
+effect_at-requires c =
+    folding_inside _ _ _ _ c.loop.invariant (wide_rises effect_width effect_at) c.loop-test.true c.requires.list_in_bounds
 
 pub mark_by-mark-requires : goal.mark_by-mark-requires
 mark_by-mark-requires c =
-    (folding_has _ _ _ _ c.loop-left.invariant c.loop-left-test.true c.effect_at-e.ensures, c.requires.every.1)
+    (folding_has _ _ _ _ c.loop.invariant c.loop-test.true c.effect_at.ensures, c.requires.every.1)
 
 pub overflow_add-next : goal.overflow_add-next
 overflow_add-next c =
-    omega (arith, folding_inside _ _ _ _ c.loop-left.invariant (wide_rises effect_width effect_at) c.loop-left-test.true c.requires.list_in_bounds)
+    omega (arith, folding_inside _ _ _ _ c.loop.invariant (wide_rises effect_width effect_at) c.loop-test.true c.requires.list_in_bounds)
 
-pub loop-left-preserved : goal.loop-left-preserved
-loop-left-preserved c =
-    folding_turn _ _ _ _ c.loop-left.invariant c.loop-left-test.true c.effect_at-e.ensures c.mark_by-mark.ensures
+pub loop-preserved : goal.loop-preserved
+loop-preserved c =
+    folding_turn _ _ _ _ c.loop.invariant c.loop-test.true c.effect_at.ensures c.mark_by-mark.ensures
 
 pub returns : goal.returns
-returns c = folding_end _ _ _ _ c.loop-left.invariant c.loop-left-test.false ∙ sym (marks_all _ _ _ _ _)
+returns c = folding_end _ _ _ _ c.loop.invariant c.loop-test.false ∙ sym (marks_all _ _ _ _ _)

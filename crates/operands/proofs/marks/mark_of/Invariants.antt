@@ -7,8 +7,5 @@ use Rattle.operands.proofs.Folding.{Folding}
 use Rattle.operands.proofs.Marked.{mark_by}
 use Rattle.operands.proofs.marks.mark_of.Given as goal
 
-abbrev pub invariant-loop-left : goal.invariant-loop-left
-invariant-loop-left l = Folding (wide effect_width effect_at) IntoBelow (mark_by (ranges_of l.ws).ends l.order.0 l.x.0) l.sheet l.initial.left l.initial.next (effect_number l.initial.mark) l.left l.next (effect_number l.mark)
-
-abbrev pub decreases-loop-left : goal.decreases-loop-left
-decreases-loop-left l = l.left
+abbrev pub invariant-loop : goal.invariant-loop
+invariant-loop l = Folding (wide effect_width effect_at) IntoBelow (mark_by (ranges_of l.ws).ends l.order.0 l.x.0) l.sheet l.end l.initial.next (effect_number l.initial.mark) l.counter l.next (effect_number l.mark)

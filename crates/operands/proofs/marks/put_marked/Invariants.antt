@@ -7,8 +7,5 @@ use Rattle.operands.specs.Known.{effects_in}
 use Rattle.operands.proofs.Putting.{Putting}
 use Rattle.operands.proofs.marks.put_marked.Given as goal
 
-abbrev pub invariant-loop-left : goal.invariant-loop-left
-invariant-loop-left l = Putting place_width place_at (with_mark (operand_effects (ranges_of l.ws).ends l.order.0 (effects_in l.sheet l.effects).what) (effect_number l.without)) l.sheet l.initial.left l.initial.next l.initial.answer l.at l.left l.next l.answer l.to
-
-abbrev pub decreases-loop-left : goal.decreases-loop-left
-decreases-loop-left l = l.left
+abbrev pub invariant-loop : goal.invariant-loop
+invariant-loop l = Putting place_width place_at (with_mark (operand_effects (ranges_of l.ws).ends l.order.0 (effects_in l.sheet l.effects).what) (effect_number l.without)) l.sheet l.end l.initial.next l.initial.out l.counter l.next l.out

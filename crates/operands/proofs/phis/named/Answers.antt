@@ -1,20 +1,19 @@
-use Rattle.operands.proofs.PhiNames.{naming_start, naming_inside, naming_turn, naming_end, phi_inside}
+use native.Mathlib.Omega.{arith}
+use Rattle.std.proofs.lemmas.Bool.Decides.{nat_tests}
+use Rattle.operands.proofs.PhiNames.{phi_inside, naming_inside, naming_found, naming_turn, naming_end}
 use Rattle.operands.proofs.phis.named.Goals as goal
 
-pub loop-left-init : goal.loop-left-init
-loop-left-init c = naming_start _ _ _ _
+pub phi_at-requires : goal.phi_at-requires
+phi_at-requires c = phi_inside _ _ (naming_inside c.loop.invariant c.loop-test.true c.requires)
 
-pub phi_at-phi-requires : goal.phi_at-phi-requires
-phi_at-phi-requires c =
-    phi_inside _ _ (naming_inside c.loop-left.invariant c.loop-left-test.true c.requires)
+pub returns-then-eq : goal.returns-then-eq
+returns-then-eq c = naming_found c.loop.invariant c.loop-test.true c.phi_at.ensures (grind (arith, nat_tests))
 
 pub past_phi-next-requires : goal.past_phi-next-requires
-past_phi-next-requires c =
-    naming_inside c.loop-left.invariant c.loop-left-test.true c.requires
+past_phi-next-requires c = naming_inside c.loop.invariant c.loop-test.true c.requires
 
-pub loop-left-preserved : goal.loop-left-preserved
-loop-left-preserved c =
-    naming_turn c.loop-left.invariant c.loop-left-test.true c.phi_at-phi.ensures c.past_phi-next.ensures
+pub loop-preserved : goal.loop-preserved
+loop-preserved c = naming_turn c.loop.invariant c.loop-test.true c.phi_at.ensures (grind (arith, nat_tests)) c.past_phi-next.ensures
 
 pub returns : goal.returns
-returns c = naming_end c.loop-left.invariant c.loop-left-test.false
+returns c = naming_end c.loop.invariant c.loop-test.false

@@ -19,4 +19,4 @@ returns-in-Return c =
     return_put _ _ c.terminal_at.ensures c.in-Return.is _ c.returned.result c.with_effect.result c.returned.ensures c.with_effect.ensures c.put_place.ensures
 
 pub returns-in-MaybeThrow : goal.returns-in-MaybeThrow
-returns-in-MaybeThrow c = throw_put _ _ c.terminal_at.ensures c.in-MaybeThrow.is _ _ _
+returns-in-MaybeThrow c = throw_put _ _ c.terminal_at.ensures c.in-MaybeThrow.is _ _
