@@ -7,4 +7,3 @@ use Rattle.files.proofs.load_words.Given as goal
 
 abbrev pub invariant-loop-i : goal.invariant-loop-i
 invariant-loop-i l = (l.i ≤ l.count) × (length l.words ≡ length l.initial.words) × (l.words ≡ take l.i (file_words l.bytes) ++ drop l.i l.initial.words)
-
