@@ -7,7 +7,7 @@ use mathlib.Core.List.{List, [], ◌∷◌, ◌++◌, append-nil, append_assoc}
 use lib.ListN.{length, take, length-append}
 use Rattle.model.specs.Lists.{each}
 use Rattle.model.specs.Sheet.{Place}
-use Rattle.model.specs.Limits.{most_identifiers, most_params, most_context, place_width}
+use Rattle.model.specs.Limits.{most_identifiers, place_width}
 use Rattle.model.specs.Ranges.{PlaceBelow}
 use Rattle.model.specs.Reading.{Position}
 use Rattle.model.specs.Graph.{object, create}
@@ -113,8 +113,9 @@ module _ (sheet : List ℕ) (whole : Part (List Place)) (first₀ : ℕ) (ws₀ 
     pub rest : (ws' : List ℕ) (r : BuiltPart) → PlacesRead (several left one_place sheet c) first ws b ws' r → PlacesRead whole first₀ ws₀ b₀ ws' r
 
 pub placing_start : {sheet : List ℕ} {left : ℕ} {c : Position} {first : ℕ} {ws : List ℕ} {b : Building} → PlacesReady (several left one_place sheet c) first sheet ws b
-    → Placing sheet (several left one_place sheet c) first ws b left c first ws b
-placing_start w = record { same = refl; ready = w; rest = λ ws' r h. h }
+    → {k : ℕ} → k ≡ left → Placing sheet (several left one_place sheet c) first ws b k c first ws b
+placing_start {sheet} {left} {c} {first} {ws} {b} w e =
+    subst (λ (k : ℕ). Placing sheet (several left one_place sheet c) first ws b k c first ws b) (sym e) (record { same = refl; ready = w; rest = λ ws' r h. h })
 
 module _ {sheet : List ℕ} {whole : Part (List Place)} {first₀ : ℕ} {ws₀ : List ℕ} {b₀ : Building} {left : ℕ} {c : Position} {first : ℕ} {ws : List ℕ} {b : Building}
     (v : Placing sheet whole first₀ ws₀ b₀ left c first ws b) where
@@ -137,17 +138,14 @@ module _ {sheet : List ℕ} {whole : Part (List Place)} {first₀ : ℕ} {ws₀ 
     pub place_inside : c + place_width ≤ length sheet
     place_inside = first_inside one_place sheet left c (wide_rises place_width place_at) h v.ready.inside
 
-    pub number_room : first < most_params + most_context
-    number_room = omega (arith, now_ready.room)
-
     module _ {p : Place} (is : p ≡ place_at sheet c) where
       pub place-below : p.identifier < most_identifiers
       place-below = subst (PlaceBelow most_identifiers) (sym is) now_ready.below.0
 
       -- it is stored and gets its node: one less is left
-      pub placing_turn : {ws₁ : List ℕ} → Tracks ws first p ws₁ → {ws₂ : List ℕ} {r : Building} → Steps (changed (create p.identifier object)) 0 0 0 0 ws₁ b ws₂ r
+      one_less : {ws₁ : List ℕ} → Tracks ws first p ws₁ → {ws₂ : List ℕ} {r : Building} → Steps (changed (create p.identifier object)) 0 0 0 0 ws₁ b ws₂ r
           → Placing sheet whole first₀ ws₀ b₀ (left - 1) (c + place_width) (first + 1) ws₂ r
-      placing_turn t {ws₂} {r} s =
+      one_less t {ws₂} {r} s =
           let one : Places (place_at sheet c ∷ []) first ws b ws₂ r = subst (λ (q : Place). Places (q ∷ []) first ws b ws₂ r) is (places_one v.ready.sound t s) in
           record {
             same = one.same ∙ v.same;
@@ -155,3 +153,7 @@ module _ {sheet : List ℕ} {whole : Part (List Place)} {first₀ : ℕ} {ws₀ 
             rest = λ ws' r' g.
                 v.rest ws' r' (subst (λ (q : Part (List Place)). PlacesRead q first ws b ws' r') (sym here) (record { places = places_then one refl g.places; next = g.next }));
           }
+
+      pub placing_turn : {ws₁ : List ℕ} → Tracks ws first p ws₁ → {ws₂ : List ℕ} {r : Building} → Steps (changed (create p.identifier object)) 0 0 0 0 ws₁ b ws₂ r
+          → {k : ℕ} → k ≡ left - 1 → Placing sheet whole first₀ ws₀ b₀ k (c + place_width) (first + 1) ws₂ r
+      placing_turn t {ws₂} {r} s e = subst (λ (k : ℕ). Placing sheet whole first₀ ws₀ b₀ k (c + place_width) (first + 1) ws₂ r) (sym e) (one_less t s)

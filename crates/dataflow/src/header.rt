@@ -19,15 +19,10 @@ fn read_ends(sheet: &[u32], list: List, ws: &mut [u32]) -> usize
     requires count_le_most_identifiers { (list.count ≤ most_identifiers) × (LEAST ≤ length ws.old) }
     ensures { Stores (wide identifier_width identifier_at) end_of list END sheet.now ws.old ws.new result }
 {
-    let mut left = list.count;
     let mut next = list.first;
-    let mut to = END;
-    while 0 < left {
-        let i = identifier_at(sheet, next);
-        ws[to] = i.mutable_range.end.0;
+    for to in END..END + list.count as usize {
+        ws[to] = identifier_at(sheet, next).mutable_range.end.0;
         next += IDENTIFIER_WIDTH;
-        to += 1;
-        left -= 1;
     }
     next
 }
@@ -38,7 +33,7 @@ fn skip_function(sheet: &[u32], at: usize) -> usize
     ensures { result ≡ (function_from sheet.now at).next }
 {
     let diagnostics = list_at(sheet, at);
-    let after = diagnostics.first + DIAGNOSTIC_WIDTH * (diagnostics.count as usize);
+    let after = diagnostics.first + DIAGNOSTIC_WIDTH * diagnostics.count as usize;
     past_places(sheet, list_at(sheet, after))
 }
 
@@ -48,14 +43,10 @@ fn read_functions(sheet: &[u32], list: List, ws: &mut [u32]) -> usize
     requires count_le_most_functions { (list.count ≤ most_functions) × ((LEAST ≤ length ws.old) × (length sheet.now ≤ most_sheet)) }
     ensures { Stores (placed function_from) stands_at list FUNCTIONS sheet.now ws.old ws.new result }
 {
-    let mut left = list.count;
     let mut next = list.first;
-    let mut to = FUNCTIONS;
-    while 0 < left {
+    for to in FUNCTIONS..FUNCTIONS + list.count as usize {
         ws[to] = next as u32;
         next = skip_function(sheet, next);
-        to += 1;
-        left -= 1;
     }
     next
 }
@@ -74,7 +65,7 @@ pub struct Top {
 fn records_errors(flags: Flags) -> bool
     ensures { result ≡ flags.validations && not flags.function_expression }
 {
-    flags.validations & !flags.function_expression
+    flags.validations && !flags.function_expression
 }
 
 // The sections up to the inner functions.
@@ -84,13 +75,12 @@ pub fn read_top(sheet: &[u32], ws: &mut [u32]) -> Top
     ensures { TopRead sheet.now ws.old ws.new result }
 {
     let flags = flags_at(sheet, 0);
-    let errors = records_errors(flags);
     let identifiers = list_at(sheet, FLAGS_WIDTH);
     let after = read_ends(sheet, identifiers, ws);
     let functions = list_at(sheet, after);
     let next = read_functions(sheet, functions, ws);
     Top {
-        errors,
+        errors: records_errors(flags),
         function_expression: flags.function_expression,
         identifiers,
         functions,

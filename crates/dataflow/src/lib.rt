@@ -50,14 +50,12 @@ pub fn build_blocks(
     requires ready { Ready (several count block_from s.now start) (Every BlockInRange) (costs block_cost) s.now ws.old b }
     ensures { Builds (several count block_from s.now start) (each (block_step (place_is returns))) (costs block_cost) s.now ws.old b ws.new result }
 {
-    let mut left = count;
-    let mut next = start;
-    let mut building = b;
-    while 0 < left {
-        let built = build_block(next, s, ws, building, returns);
-        building = built.building;
-        next = built.next;
-        left -= 1;
+    let mut built = Built {
+        building: b,
+        next: start,
+    };
+    for _ in 0..count {
+        built = build_block(built.next, s, ws, built.building, returns);
     }
-    Built { building, next }
+    built
 }

@@ -21,17 +21,13 @@ fn read_places(sheet: &[u32], list: List, first: usize, ws: &mut [u32], b: Build
     requires { PlacesReady (several list.count (wide place_width place_at) sheet.now list.first) first sheet.now ws.old b }
     ensures { PlacesRead (several list.count (wide place_width place_at) sheet.now list.first) first ws.old b ws.new result }
 {
-    let mut left = list.count;
     let mut next = list.first;
-    let mut i = first;
     let mut building = b;
-    while 0 < left {
+    for i in first..first + list.count as usize {
         let p = place_at(sheet, next);
         track(ws, i, p);
         building = building.create(ws, p.identifier, NodeValue::Object);
         next += PLACE_WIDTH;
-        i += 1;
-        left -= 1;
     }
     Built { building, next }
 }
@@ -79,21 +75,19 @@ pub fn read_function(sheet: &[u32], ws: &mut [u32]) -> Read
     let top = read_top(sheet, ws);
     let start = building::start(ws);
     let t = read_tracked(sheet, top.next, ws, start);
-    let identifiers = top.identifiers;
-    let returns = t.returns;
-    let blocks = t.blocks;
-    let building = t.building;
-    let function = HirFunction {
-        errors: top.errors,
-        function_expression: top.function_expression,
-        copies: true,
-        applies: false,
-        identifiers,
-        m: top.functions.count,
-        params: t.params,
-        context: t.context,
-        returns,
-        blocks,
-    };
-    Read { function, building }
+    Read {
+        function: HirFunction {
+            errors: top.errors,
+            function_expression: top.function_expression,
+            copies: true,
+            applies: false,
+            identifiers: top.identifiers,
+            m: top.functions.count,
+            params: t.params,
+            context: t.context,
+            returns: t.returns,
+            blocks: t.blocks,
+        },
+        building: t.building,
+    }
 }

@@ -30,14 +30,12 @@ pub fn build_phis(at: usize, s: &[u32], ws: &mut [u32], b: Building) -> Built
     ensures { Builds (phis_from s.now at) (each phi_node) (costs phi_cost) s.now ws.old b ws.new result }
 {
     let list = list_at(s, at);
-    let mut left = list.count;
-    let mut next = list.first;
-    let mut building = b;
-    while 0 < left {
-        let built = build_phi(next, s, ws, building);
-        building = built.building;
-        next = built.next;
-        left -= 1;
+    let mut built = Built {
+        building: b,
+        next: list.first,
+    };
+    for _ in 0..list.count {
+        built = build_phi(built.next, s, ws, built.building);
     }
-    Built { building, next }
+    built
 }

@@ -1,5 +1,4 @@
 use native.Mathlib.Omega.{arith}
-use mathlib.Core.Path.{◌∙◌}
 use Rattle.hir.specs.Says.{place_is}
 use Rattle.dataflow.proofs.Block.{number_inside, phis_ready, instructions_ready, can_end, terminal_ready, block_builds}
 use Rattle.dataflow.proofs.build_block.Goals as goal
@@ -27,13 +26,6 @@ wake-woken-requires c =
 pub build_terminal-requires : goal.build_terminal-requires
 build_terminal-requires c =
     record { place_below = c.requires.place_below; ready = terminal_ready _ _ c.requires.ready c.build_phis-phis.ensures c.build_instructions-instructions.ensures _ c.number_at-number.ensures c.wake-woken.ensures }
-
-pub shape_of-ws : goal.shape_of-ws
-shape_of-ws c =
-    c.build_terminal.ensures.spends.same
-    ∙ c.wake-woken.ensures.same
-    ∙ c.build_instructions-instructions.ensures.spends.same
-    ∙ c.build_phis-phis.ensures.spends.same
 
 pub returns : goal.returns
 returns c =

@@ -24,4 +24,4 @@ read_functions-next-requires c =
 
 pub returns : goal.returns
 returns c =
-    top_read c.requires.accepted c.list_at-identifiers.ensures c.read_ends-after.ensures c.list_at-functions.ensures c.flags_at-flags.ensures c.records_errors-errors.ensures c.read_functions-next.ensures
+    top_read c.requires.accepted c.list_at-identifiers.ensures c.read_ends-after.ensures c.list_at-functions.ensures c.flags_at-flags.ensures c.records_errors.ensures c.read_functions-next.ensures

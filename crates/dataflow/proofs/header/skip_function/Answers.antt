@@ -7,10 +7,6 @@ use Rattle.dataflow.proofs.header.skip_function.Goals as goal
 pub list_at-diagnostics-requires : goal.list_at-diagnostics-requires
 list_at-diagnostics-requires c = omega (arith, function_rises c.args.sheet.now c.args.at, c.requires)
 
-pub overflow_add-after : goal.overflow_add-after
-overflow_add-after c =
-    omega (arith, context_begin c.args.sheet.now c.args.at c.list_at-diagnostics.ensures, c.requires)
-
 pub list_at-requires : goal.list_at-requires
 list_at-requires c =
     omega (arith, context_begin c.args.sheet.now c.args.at c.list_at-diagnostics.ensures, c.requires)

@@ -1,6 +1,4 @@
-use mathlib.Core.List.{[]}
 use native.Mathlib.Omega.{arith}
-use mathlib.Core.Path.{◌∙◌}
 use Rattle.dataflow.proofs.Tracking.{tracks_sound}
 use Rattle.dataflow.proofs.Before.{params_begin, params_ready, context_begin, context_ready, few_places, blocks_begin, returns_below, tracked-read}
 use Rattle.dataflow.proofs.parameters.read_tracked.Goals as goal
@@ -51,13 +49,6 @@ overflow_add-c-3 c =
 pub list_at-blocks-requires : goal.list_at-blocks-requires
 list_at-blocks-requires c =
     blocks_begin c.requires.accepted c.requires.at_value c.list_at-params.ensures c.requires.sound c.read_places-p.ensures c.list_at-context.ensures c.read_places-c.ensures
-
-pub shape_of-ws : goal.shape_of-ws
-shape_of-ws c =
-    (c.create-building.ensures []).same
-    ∙ c.track.ensures.kept.same
-    ∙ c.read_places-c.ensures.places.same
-    ∙ c.read_places-p.ensures.places.same
 
 pub returns : goal.returns
 returns c =

@@ -14,10 +14,6 @@ pub overflow_add-result : goal.overflow_add-result
 overflow_add-result c =
     omega (arith, next_inside c.args.s.now c.args.at c.requires c.phi_at.ensures)
 
-pub shape_of-ws : goal.shape_of-ws
-shape_of-ws c =
-    c.phi-building.ensures.same
-
 pub returns : goal.returns
 returns c =
     phi_builds _ _ c.requires c.phi_at.ensures c.phi-building.ensures
