@@ -3,7 +3,7 @@ use Prim.Native.Nat.{ℕ, suc, ◌+◌, ◌≤◌, ◌<◌}
 use native.Mathlib.Omega.{arith}
 use native.Mathlib.Numerals.{add-one}
 use mathlib.Core.Bool.{Bool, true, false}
-use mathlib.Core.Path.{◌≡◌, sym, ap, ◌∙◌}
+use mathlib.Core.Path.{◌≡◌, refl, sym, ap, ◌∙◌}
 use mathlib.Core.List.{List}
 use lib.Dec.{ltb, leb}
 use lib.ListN.{get_or, set}
@@ -111,18 +111,18 @@ lvalue_named {ws} p o h e k =
     ranged_as (ranged_then (start-set (λ (w : ℕ). or_if_unset w o) h e) (end_set (λ (w : ℕ). or_if_unset w (o + 1)) h k))
     (ap (λ (v : ℕ). ranges (set_unset x o r.starts) (set_unset x v r.ends)) (add-one o))
 
-pub store-taken : {ws ws' : List ℕ} (x o : ℕ) {e : ℕ} → x < most_identifiers → e ≡ get_or (ranges_of ws).ends x 0 → e ≤ o → ws' ≡ set ws (ENDS + x) (o + 1) → Ranged (store_value o (StoreContext x)) ws ws'
+pub store_taken : (ws : List ℕ) (x o : ℕ) {e : ℕ} → x < most_identifiers → e ≡ get_or (ranges_of ws).ends x 0 → e ≤ o → Ranged (store_value o (StoreContext x)) ws (set ws (ENDS + x) (o + 1))
 unfolding store_value
-store-taken {ws} x o {e} h n t k =
+store_taken ws x o {e} h n t =
     let r : Ranges = ranges_of ws in
     let test : true ≡ leb (get_or r.ends x 0) o = sym (le-leb e o t) ∙ ap (λ (w : ℕ). leb w o) n in
-    ranged_as (end_set (λ (w : ℕ). o + 1) h k)
+    ranged_as (end_set (λ (w : ℕ). o + 1) h refl)
     (ap (λ (v : ℕ). ranges r.starts (set r.ends x v)) (add-one o)
     ∙ ap (λ (b : Bool). ranges r.starts (set r.ends x (pick b (suc o) (get_or r.ends x 0)))) test)
 
-pub store-left : {ws : List ℕ} (x o : ℕ) {e : ℕ} → e ≡ get_or (ranges_of ws).ends x 0 → o < e → Ranged (store_value o (StoreContext x)) ws ws
+pub store_left : {ws : List ℕ} (x o : ℕ) {e : ℕ} → e ≡ get_or (ranges_of ws).ends x 0 → o < e → Ranged (store_value o (StoreContext x)) ws ws
 unfolding store_value
-store-left {ws} x o {e} n t =
+store_left {ws} x o {e} n t =
     let r : Ranges = ranges_of ws in
     let test : leb (get_or r.ends x 0) o ≡ false = sym (ap (λ (w : ℕ). leb w o) n) ∙ lt-leb e o t in
     ranged_none
