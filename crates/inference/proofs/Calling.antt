@@ -20,11 +20,10 @@ use Rattle.reading.specs.Whole.{refusal as no_sheet}
 use Rattle.reading.proofs.Accepted.{accepted_sheet, refused_sheet}
 use Rattle.reading.proofs.CopiedLaws.{accepted_copies}
 use Rattle.reading.proofs.ApplyLaws.{accepted_applies}
-use Rattle.building.specs.declared.Building.{Building}
-use Rattle.dataflow.specs.declared.function.HirFunction.{HirFunction}
 use Rattle.workspace.specs.Sort.{cleared_from}
 use Rattle.writing.proofs.Ending.{room, too_long}
 use Rattle.std.specs.Prelude.{Result, Ok, Err}
+use Rattle.std.specs.Result.{IsErrAnd}
 use Rattle.hir.specs.declared.refusal.Refusal.{Refusal}
 use Rattle.hir.specs.declared.refusal.Refusal.TheVariants.{ShortWorkspace}
 use Rattle.hir.specs.Refusals.{refusal_number}
@@ -81,9 +80,14 @@ module _ (sheet ws : List ℕ) where
     unfolding admit
     enough = sym (rw (le-ltb (length ws) least_workspace h))
 
-    pub reading_refused : {k : Refusal} → judgement_of (read sheet) ≡ no_sheet (refusal_number k) → Prepares (admit sheet (length ws)) sheet ws ws (Err k)
+    reading_refused : {k : Refusal} → judgement_of (read sheet) ≡ no_sheet (refusal_number k) → Prepares (admit sheet (length ws)) sheet ws ws (Err k)
     unfolding holds
     reading_refused {k} e = refuses (sym (ap holds (refused_sheet sheet (refusal_number k) e)) ∙ enough)
+
+    -- the refusal that `?` hands on
+    pub reading_left : {r : Result Read Refusal} (k : Refusal) → IsErrAnd r (λ (y : Refusal). y ≡ k) → no_sheet (refusal_number k) ≡ judgement_of (read sheet) → Prepares (admit sheet (length ws)) sheet ws ws r
+    reading_left {r = Ok x} k e q = absurd e
+    reading_left {r = Err y} k e q = reading_refused {k = y} (sym (ap (λ (z : Refusal). no_sheet (refusal_number z)) e ∙ q))
 
     pub reading_prepares : {ws' : List ℕ} {r : Result Read Refusal} → Prepares (holds (read sheet)) sheet ws ws' r → Prepares (admit sheet (length ws)) sheet ws ws' r
     reading_prepares p = prepares_as p enough

@@ -2,13 +2,13 @@
 use Prim.Native.Nat.{ℕ, ◌+◌, ◌*◌, ◌<◌}
 use native.Mathlib.Omega.{arith}
 use mathlib.Core.Path.{◌≡◌, refl, sym, subst, ap, ◌∙◌}
-use mathlib.Core.List.{List}
+use mathlib.Core.List.{List, ◌++◌}
 use lib.ListN.{length, get_or}
 use lib.Seq.{ext_get_or, slice_empty}
 use Rattle.model.specs.Sheet.{Sheet}
 use Rattle.model.specs.State.{State}
 use Rattle.model.specs.Operands.{Ranges, ends_before, after_pass}
-use Rattle.model.specs.Answer.{ranges_after, range_words, section, answer, answer_words}
+use Rattle.model.specs.Answer.{ranges_after, range_words, section, answer, answer_words, middle_words, operand_words}
 use Rattle.model.specs.SecondProperty.{no_range}
 use Rattle.model.proofs.SecondProperty.{range_at_lem, after_starts, after-ends, answer_ranges}
 use Rattle.model.proofs.Quiet.{final_ends}
@@ -102,7 +102,7 @@ module _ {ws ws' : List ℕ} (k : Kept STARTS PASSED ws ws') where
       }
 
 -- ---- after the middle
-module _ {sheet lists ws : List ℕ} {f : HirFunction} {b : Building} {a a₁ : Writer ℕ} {behind : ℕ} {ws₁ : List ℕ} (mid : MiddlePut sheet lists ws f b (moved a behind) ws₁ a₁) where
+module _ {sheet lists ws : List ℕ} {f : HirFunction} {b : Building} {o a₁ : Writer ℕ} {ws₁ : List ℕ} (mid : MiddlePut sheet lists ws f b o ws₁ a₁) where
   -- the pass can run
   pub passing : {s : Sheet} → Prepared s sheet lists ws f b → Passing s sheet lists ws₁ f
   unfolding state_of ends_before
@@ -114,13 +114,13 @@ module _ {sheet lists ws : List ℕ} {f : HirFunction} {b : Building} {a a₁ : 
   }
 
   -- the whole answer: ranges before the sections that stand already
-  pub answer_put : Limited f → behind ≡ a.at + (1 + range_width * f.identifiers.count) → {ws₂ : List ℕ} {a₂ : Writer ℕ} → PassedPut sheet lists f ws₁ a.at a₁ ws₂ a₂ → AnswerPut sheet lists ws f b a ws₂ a₂
+  pub answer_put : (a : Writer ℕ) {behind : ℕ} → o ≡ moved a behind → Limited f → behind ≡ a.at + (1 + range_width * f.identifiers.count) → {ws₂ : List ℕ} {a₂ : Writer ℕ} → PassedPut sheet lists f ws₁ a.at a₁ ws₂ a₂ → AnswerPut sheet lists ws f b a ws₂ a₂
   unfolding answer_words
-  answer_put l e o = record {
+  answer_put a {behind} from l e p₁ = record {
     wrote = λ s p.
         let n : behind ≡ a.at + length (section range_words (answer s).ranges) = omega (arith, e, ranges_words s, p.describes.n) in
-        subst (Writes (answer_words (answer s)) a) (sym o.end) (writes_before (writes_then (mid.wrote s p) (o.operands s (passing p))) n (o.ranges s (passing p)));
-    left = λ s p. left_kept o.kept (mid.left s p);
-    walkable = walkable_kept o.kept mid.walkable;
-    few = omega (arith, e, l.n, mid.few, o.few);
+        subst (Writes (answer_words (answer s)) a) (sym p₁.end) (writes_before (subst (λ (w : Writer ℕ). Writes (middle_words (answer s) ++ operand_words (answer s)) w p₁.between) from (writes_then (mid.wrote s p) (p₁.operands s (passing p)))) n (p₁.ranges s (passing p)));
+    left = λ s p. left_kept p₁.kept (mid.left s p);
+    walkable = walkable_kept p₁.kept mid.walkable;
+    few = omega (arith, e, l.n, mid.few, p₁.few, ap (λ (w : Writer ℕ). w.at) from);
   }

@@ -22,4 +22,4 @@ returns-in-Err c = call_refused _ _ _ _ c.prepare.ensures c.in-Err.is c.refuse.e
 
 pub returns-else-answer-length : goal.returns-else-answer-length
 returns-else-answer-length c =
-    call-answered _ _ _ _ c.prepare.ensures c.in-Ok.is c.if-function.false c.new-out.ensures.at_start c.new-out.ensures.items c.put_answer.ensures (search rules) c.if-answer-length.false refl c.clear_from.ensures c.clear_from-2.ensures
+    call-answered _ _ _ _ c.prepare.ensures c.in-Ok.is c.if-function.false c.new-out.ensures.at_start c.new-out.ensures.items c.put_answer.ensures (search rules) c.if-answer-length.false refl c.clear_from.ensures c.clear_from-in-Ok.ensures

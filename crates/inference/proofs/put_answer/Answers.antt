@@ -15,4 +15,4 @@ pub shape_of-ws : goal.shape_of-ws
 shape_of-ws c = c.put_passed.ensures.kept.same ∙ c.put_middle.ensures.walkable.same
 
 pub returns : goal.returns
-returns c = answer_put c.put_middle.ensures c.requires.prepared.1.limited refl c.put_passed.ensures
+returns c = answer_put c.put_middle.ensures c.args.out.now refl c.requires.prepared.1.limited refl c.put_passed.ensures

@@ -1,10 +1,8 @@
-use Prim.Native.Nat.{◌+◌, ◌-◌}
 use native.Mathlib.Omega.{arith}
-use mathlib.Core.Path.{◌≡◌, refl, ap}
+use mathlib.Core.Path.{refl, ap}
 use Rattle.model.specs.Limits.{identifier_width}
 use Rattle.hir.specs.Words.{identifier_at}
 use Rattle.hir.proofs.Widths.{wide_rises}
-use Rattle.workspace.specs.Layout.{STARTS}
 use Rattle.operands.specs.Begun.{start_of}
 use Rattle.dataflow.proofs.Storing.{storing_inside, storing_turn, storing_done}
 use Rattle.operands.proofs.begin.read_starts.Goals as goal
@@ -18,11 +16,7 @@ overflow_add-next c =
     omega (arith, storing_inside c.loop-to.invariant (wide_rises identifier_width identifier_at) (omega arith) c.requires.list_in_bounds)
 
 pub loop-to-preserved : goal.loop-to-preserved
-loop-to-preserved c =
-    let to = c.loop-to.to in
-    let end = STARTS + c.args.list.count in
-    let k : end - (to + 1) ≡ end - to - 1 = omega arith in
-    rw k (storing_turn c.loop-to.invariant (omega arith) (ap start_of c.identifier_at.ensures) refl)
+loop-to-preserved c = storing_turn c.loop-to.invariant (omega arith) (ap start_of c.identifier_at.ensures) refl (omega arith)
 
 pub returns : goal.returns
 returns c = (storing_done c.loop-to.invariant (omega arith)).words
