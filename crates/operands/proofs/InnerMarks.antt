@@ -26,8 +26,8 @@ use Rattle.hir.proofs.Widths.{wide_rises}
 use Rattle.hir.proofs.Several.{several_next, several_none}
 use Rattle.workspace.specs.Layout.{STARTS, ENDS, CONTEXTS, PASSED}
 use Rattle.workspace.specs.Rows.{Kept}
-use Rattle.workspace.proofs.Parts.{slice_take, take-word, drop-word, take_sets, drop_sets, kept_none, kept_set}
-use Rattle.dataflow.proofs.Storing.{Storing, storing-start, storing_inside, storing_turn, storing_done}
+use Rattle.workspace.proofs.Parts.{slice_take, take-word, drop-word, take_sets, drop_sets, kept_set}
+use Rattle.dataflow.proofs.Storing.{Storing, storing_inside, storing_turn, storing_done}
 use Rattle.operands.specs.Given.{word_gives}
 use Rattle.operands.specs.Ranges.{ranges_of}
 use Rattle.operands.specs.Contexts.{places_from, context_at, contexts_of}
@@ -166,16 +166,6 @@ pub record Setting (ms : List Mark) (lists ws₀ : List ℕ) (n : ℕ) (c₀ : P
   pub storing : Storing (wide place_width place_at) (mark_word ms) lists n c₀ w ws₀ (n - i) c (w + i) ws
   pub small : Every (Small ms) (places_of lists (n - i) c) → Every (Small ms) (places_of lists n c₀)
   pub kept : Kept CONTEXTS PASSED ws₀ ws
-
-pub setting_start : (ms : List Mark) (lists ws : List ℕ) (n : ℕ) (c : Position) (w : ℕ) → Setting ms lists ws n c w ws 0 c
-setting_start ms lists ws n c w =
-    let z : n - 0 ≡ n = omega arith in
-    let y : w + 0 ≡ w = omega arith in
-    record {
-      storing = rw (z, y) (storing-start (wide place_width place_at) (mark_word ms) lists n c w ws);
-      small = rw z (λ s. s);
-      kept = kept_none CONTEXTS PASSED ws;
-    }
 
 module _ {ms : List Mark} {lists ws₀ : List ℕ} {n : ℕ} {c₀ : Position} {w : ℕ} {ws : List ℕ} {i : ℕ} {c : Position} (v : Setting ms lists ws₀ n c₀ w ws i c) where
   -- the place that is next stands in the lists, if all do

@@ -2,20 +2,17 @@
 use Prim.Native.Nat.{ℕ, ◌+◌, ◌*◌, ◌<◌}
 use native.Mathlib.Omega.{arith}
 use mathlib.Core.Bool.{Bool, true, false, true≢false}
-use mathlib.Core.Logic.{inl, inr}
-use mathlib.Core.Path.{◌≡◌, refl, sym, ap, subst, ◌∙◌}
+use mathlib.Core.Path.{◌≡◌, sym, ap, subst, ◌∙◌}
 use mathlib.Core.List.{List, [], ◌∷◌, ◌++◌, map, append-nil}
 use lib.ListN.{length, get_or, length-map}
-use types.Run.{OneOf}
 use denote.Enum.Bare.{sameb}
-use denote.Enum.Declared.{tag_of}
 use Rattle.model.specs.Limits.{most_identifiers, place_width}
 use Rattle.model.specs.Lists.{gather, each}
 use Rattle.model.specs.Sheet.{EvaluationOrder, InnerFunction, no_function, Place, StoreContext as IsStoreContext}
 use Rattle.model.specs.Ranges.{ValueBelow}
 use Rattle.model.specs.Traits.{read_effect, conditionally_mutate_effect}
 use Rattle.model.specs.Marks.{Mark, with_mark}
-use Rattle.model.specs.Operands.{Ranges, start_if, store_value, context_of, context_marked}
+use Rattle.model.specs.Operands.{Ranges, start_if, store_value, context_of}
 use Rattle.model.specs.Answer.{place_words}
 use Rattle.model.proofs.Gathers.{gather_append}
 use Rattle.model.proofs.PassRanges.{each_append}
@@ -27,7 +24,6 @@ use Rattle.hir.specs.declared.InstructionValue.{InstructionValue}
 use Rattle.hir.specs.declared.InstructionValue.TheVariants.{Plain, Function, StoreContext}
 use Rattle.hir.specs.declared.at.List.{List as Listed}
 use Rattle.hir.specs.declared.at.Instruction.{Instruction}
-use Rattle.hir.specs.contracts.InstructionValue.{the_type}
 use Rattle.hir.proofs.Several.{several-length}
 use Rattle.workspace.specs.Layout.{STARTS, CONTEXTS, PASSED}
 use Rattle.workspace.specs.Rows.{Kept}
@@ -39,10 +35,8 @@ use Rattle.operands.specs.declared.Section.{Section}
 use Rattle.operands.specs.declared.Section.TheVariants.{Phis, Instructions, Terminals}
 use Rattle.operands.specs.contracts.Section.{the_type as the-section}
 use Rattle.operands.specs.Ranges.{ranges_of, Ranged}
-use Rattle.operands.specs.Contexts.{contexts_of}
 use Rattle.operands.specs.Known.{places_at, PlacesIn, Known, InstructionIn, ContextOf}
-use Rattle.operands.specs.Marking.{Marking}
-use Rattle.operands.specs.Instruction.{marks_now, of_instructions, ValueMarked, AllStarted}
+use Rattle.operands.specs.Instruction.{of_instructions, AllStarted}
 use Rattle.operands.proofs.Inner.{context_below_lem}
 use Rattle.operands.proofs.Putting.{places_length}
 use Rattle.operands.proofs.RangeWords.{ranged_then}
@@ -91,22 +85,6 @@ module _ {sheet : List ℕ} {fs : List InnerFunction} {i : Instruction} (k : Ins
   -- what it stores has a word
   pub store_known : {x : IdentifierId} → i.value ≡ StoreContext x → x.0 < most_identifiers
   store_known e = subst (λ (v : InstructionValue). ValueBelow most_identifiers (length fs) (value_is v)) e k.below.value
-
--- ---- the context places of the inner function
-idle_value : (v : InstructionValue) → OneOf (0 ∷ 2 ∷ []) (tag_of the_type v) → (ms : List Mark) (cs : List (List Place)) → cs ≡ context_marked ms (value_is v) cs
-idle_value Plain k ms cs = refl
-idle_value (Function f) k ms cs = absurd (elim k [ inl x ↦ omega (arith, x) | inr x ↦ omega (arith, x) ])
-idle_value (StoreContext x) k ms cs = refl
-
-module _ {sheet lists ws : List ℕ} {i : Instruction} where
-  pub function-marked : {ws' : List ℕ} {f : FunctionId} → i.value ≡ Function f → Marking (marks_now sheet ws i) f.0 lists ws ws' → ValueMarked sheet lists i ws ws'
-  function-marked e m = record {
-    contexts = λ fs k. m.contexts fs k.known (function_known k.parts e) ∙ ap (λ (v : InstructionValue). context_marked (marks_now sheet ws i) (value_is v) (contexts_of ws fs)) (sym e);
-    kept = m.kept;
-  }
-
-  pub others_marked : OneOf (0 ∷ 2 ∷ []) (tag_of the_type i.value) → ValueMarked sheet lists i ws ws
-  others_marked h = record { contexts = λ fs k. idle_value i.value h (marks_now sheet ws i) (contexts_of ws fs); kept = kept_none CONTEXTS PASSED ws }
 
 -- the list of context places can be passed over
 pub context_in : {lists ws : List ℕ} {fs : List InnerFunction} {k : ℕ} {l : Listed} → Known lists ws fs → k < length fs → ContextOf lists ws k l → PlacesIn lists l
