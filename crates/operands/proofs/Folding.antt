@@ -1,7 +1,7 @@
 -- A loop over parts that stand one after another: what the parts from here make of what there is, all parts made from the start.
 use Prim.Native.Nat.{ℕ, ◌+◌, ◌-◌, ◌≤◌, ◌<◌}
 use native.Mathlib.Omega.{arith}
-use mathlib.Core.Path.{◌≡◌, refl, sym, ap, subst, ◌∙◌}
+use mathlib.Core.Path.{◌≡◌, sym, ap, subst, ◌∙◌}
 use mathlib.Core.List.{List}
 use lib.ListN.{length}
 use Rattle.model.specs.Lists.{each, Every}
@@ -16,9 +16,6 @@ module _ {A B : Type 0} (f : Standing A) (P : A → Type 0) (g : A → B → B) 
     pub same : each g (several (n - i) f sheet c).what b ≡ each g (several n f sheet c₀).what b₀
     pub next : (several (n - i) f sheet c).next ≡ (several n f sheet c₀).next
     pub every : Every P (several (n - i) f sheet c).what
-
-  pub folding_start : (n : ℕ) (c : Position) (b : B) → Every P (several n f sheet c).what → Folding n c b 0 c b
-  folding_start n c b h = let z : n - 0 ≡ n = omega arith in record { same = rw z refl; next = rw z refl; every = rw z h }
 
   module _ {n : ℕ} {c₀ : Position} {b₀ : B} {i : ℕ} {c : Position} {b : B} (v : Folding n c₀ b₀ i c b) where
     -- the part that is next has the property

@@ -6,7 +6,7 @@ use mathlib.Core.Path.{◌≡◌, refl, sym, ap, ◌∙◌}
 use mathlib.Core.List.{List, [], ◌∷◌}
 use lib.ListN.{length, get_or, drop, drop_of_length-le}
 use lib.Seq.{drop-cons}
-use Rattle.model.specs.Limits.{most_inner_context, most_functions, place_width}
+use Rattle.model.specs.Limits.{most_inner_context, place_width}
 use Rattle.model.specs.Lists.{gather}
 use Rattle.model.specs.Sheet.{InnerFunction, Place}
 use Rattle.model.specs.Reading.{Position}
@@ -94,9 +94,6 @@ pub record PuttingAll (lists ws : List ℕ) (count : ℕ) (o₀ : Writer ℕ) (k
   pub same : o.buffer.ghost_name ≡ o₀.buffer.ghost_name
   pub most : k ≤ count
 
-pub all_start : (lists ws : List ℕ) (count : ℕ) (o : Writer ℕ) → PuttingAll lists ws count o 0 o
-all_start lists ws count o = record { leaves = λ fs g e. leaves_all (gather place_words (gather (λ (l : List Place). l) (contexts_of ws fs))) o; few = omega arith; same = refl; most = omega arith }
-
 module _ {lists ws : List ℕ} {count : ℕ} {o₀ : Writer ℕ} {k : ℕ} {o : Writer ℕ} (v : PuttingAll lists ws count o₀ k o) where
   pub all_turn : k < count → {o' : Writer ℕ} → ContextPut k lists ws o o' → PuttingAll lists ws count o₀ (k + 1) o'
   all_turn z p = record {
@@ -109,10 +106,6 @@ module _ {lists ws : List ℕ} {count : ℕ} {o₀ : Writer ℕ} {k : ℕ} {o : 
     same = p.same ∙ v.same;
     most = omega (arith, z);
   }
-
-  -- there is room for those of one function more
-  pub all_room : k < count → count ≤ most_functions → {most : ℕ} → o₀.at + place_width * most_inner_context * most_functions ≤ most → o.at + place_width * most_inner_context ≤ most
-  all_room z c h = omega (arith, v.few, z, c, h)
 
   pub all_end : count ≤ k → ContextsPut count lists ws o₀ o
   all_end z = record {

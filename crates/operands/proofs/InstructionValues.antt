@@ -1,48 +1,36 @@
 -- What an instruction does by its value: the context places that it marks, the starts that it sets, and its store; and the words of its places.
 use Prim.Native.Nat.{ℕ, ◌+◌, ◌*◌, ◌<◌}
 use native.Mathlib.Omega.{arith}
-use mathlib.Core.Bool.{Bool, true, false, true≢false}
-use mathlib.Core.Logic.{inl, inr}
-use mathlib.Core.Path.{◌≡◌, refl, sym, ap, subst, ◌∙◌}
+use mathlib.Core.Path.{◌≡◌, sym, ap, subst, ◌∙◌}
 use mathlib.Core.List.{List, [], ◌∷◌, ◌++◌, map, append-nil}
 use lib.ListN.{length, get_or, length-map}
-use types.Run.{OneOf}
-use denote.Enum.Bare.{sameb}
-use denote.Enum.Declared.{tag_of}
 use Rattle.model.specs.Limits.{most_identifiers, place_width}
 use Rattle.model.specs.Lists.{gather, each}
-use Rattle.model.specs.Sheet.{EvaluationOrder, InnerFunction, no_function, Place, StoreContext as IsStoreContext}
+use Rattle.model.specs.Sheet.{EvaluationOrder, InnerFunction, no_function, Place}
 use Rattle.model.specs.Ranges.{ValueBelow}
 use Rattle.model.specs.Traits.{read_effect, conditionally_mutate_effect}
 use Rattle.model.specs.Marks.{Mark, with_mark}
-use Rattle.model.specs.Operands.{Ranges, start_if, store_value, context_of, context_marked}
+use Rattle.model.specs.Operands.{Ranges, start_if, store_value, context_of}
 use Rattle.model.specs.Answer.{place_words}
 use Rattle.model.proofs.Gathers.{gather_append}
 use Rattle.model.proofs.PassRanges.{each_append}
 use Rattle.hir.specs.Says.{value_is}
 use Rattle.hir.specs.Words.{wide, place_at}
 use Rattle.hir.specs.declared.FunctionId.{FunctionId}
-use Rattle.hir.specs.declared.IdentifierId.{IdentifierId}
 use Rattle.hir.specs.declared.InstructionValue.{InstructionValue}
-use Rattle.hir.specs.declared.InstructionValue.TheVariants.{Plain, Function, StoreContext}
+use Rattle.hir.specs.declared.InstructionValue.TheVariants.{Plain, Function}
 use Rattle.hir.specs.declared.at.List.{List as Listed}
 use Rattle.hir.specs.declared.at.Instruction.{Instruction}
-use Rattle.hir.specs.contracts.InstructionValue.{the_type}
 use Rattle.hir.proofs.Several.{several-length}
 use Rattle.workspace.specs.Layout.{STARTS, CONTEXTS, PASSED}
 use Rattle.workspace.specs.Rows.{Kept}
 use Rattle.workspace.proofs.Parts.{kept_none, kept_then}
 use Rattle.writing.specs.declared.Writer.{Writer}
 use Rattle.writing.specs.Wrote.{Writes}
-use Rattle.writing.proofs.Writing.{writes_none, writes_as, writes_then}
-use Rattle.operands.specs.declared.Section.{Section}
-use Rattle.operands.specs.declared.Section.TheVariants.{Phis, Instructions, Terminals}
-use Rattle.operands.specs.contracts.Section.{the_type as the-section}
+use Rattle.writing.proofs.Writing.{writes_as, writes_then}
 use Rattle.operands.specs.Ranges.{ranges_of, Ranged}
-use Rattle.operands.specs.Contexts.{contexts_of}
 use Rattle.operands.specs.Known.{places_at, PlacesIn, Known, InstructionIn, ContextOf}
-use Rattle.operands.specs.Marking.{Marking}
-use Rattle.operands.specs.Instruction.{marks_now, of_instructions, ValueMarked, AllStarted}
+use Rattle.operands.specs.Instruction.{AllStarted}
 use Rattle.operands.proofs.Inner.{context_below_lem}
 use Rattle.operands.proofs.Putting.{places_length}
 use Rattle.operands.proofs.RangeWords.{ranged_then}
@@ -70,43 +58,11 @@ uses_put ms x ls ps h e g k =
     writes_as (writes_then (writes_then (writes_as h (ap place_words e)) g) k)
     (sym (gather_append place_words (map (with_mark ms conditionally_mutate_effect) (x ∷ ls)) (map (with_mark ms read_effect) ps)))
 
--- where the section is that of instructions
-pub instructions_put : (s : Section) (ps : List Place) {o o' : Writer ℕ} {b : Bool} → b ≡ sameb the-section s Instructions → b ≡ true → Writes (gather place_words ps) o o' → Writes (gather place_words (of_instructions s ps)) o o'
-instructions_put Phis ps e h w = absurd (true≢false (sym h ∙ e))
-instructions_put Instructions ps e h w = w
-instructions_put Terminals ps e h w = absurd (true≢false (sym h ∙ e))
-
--- the other sections write nothing
-pub instructions_idle : (s : Section) (ps : List Place) (o : Writer ℕ) {b : Bool} → b ≡ sameb the-section s Instructions → b ≡ false → Writes (gather place_words (of_instructions s ps)) o o
-instructions_idle Phis ps o e h = writes_none o
-instructions_idle Instructions ps o e h = absurd (true≢false (sym e ∙ h))
-instructions_idle Terminals ps o e h = writes_none o
-
 -- ---- its value
 module _ {sheet : List ℕ} {fs : List InnerFunction} {i : Instruction} (k : InstructionIn sheet fs i) where
   -- the inner function that it makes is one of these
   pub function_known : {f : FunctionId} → i.value ≡ Function f → f.0 < length fs
   function_known e = subst (λ (v : InstructionValue). ValueBelow most_identifiers (length fs) (value_is v)) e k.below.value
-
-  -- what it stores has a word
-  pub store_known : {x : IdentifierId} → i.value ≡ StoreContext x → x.0 < most_identifiers
-  store_known e = subst (λ (v : InstructionValue). ValueBelow most_identifiers (length fs) (value_is v)) e k.below.value
-
--- ---- the context places of the inner function
-idle_value : (v : InstructionValue) → OneOf (0 ∷ 2 ∷ []) (tag_of the_type v) → (ms : List Mark) (cs : List (List Place)) → cs ≡ context_marked ms (value_is v) cs
-idle_value Plain k ms cs = refl
-idle_value (Function f) k ms cs = absurd (elim k [ inl x ↦ omega (arith, x) | inr x ↦ omega (arith, x) ])
-idle_value (StoreContext x) k ms cs = refl
-
-module _ {sheet lists ws : List ℕ} {i : Instruction} where
-  pub function-marked : {ws' : List ℕ} {f : FunctionId} → i.value ≡ Function f → Marking (marks_now sheet ws i) f.0 lists ws ws' → ValueMarked sheet lists i ws ws'
-  function-marked e m = record {
-    contexts = λ fs k. m.contexts fs k.known (function_known k.parts e) ∙ ap (λ (v : InstructionValue). context_marked (marks_now sheet ws i) (value_is v) (contexts_of ws fs)) (sym e);
-    kept = m.kept;
-  }
-
-  pub others_marked : OneOf (0 ∷ 2 ∷ []) (tag_of the_type i.value) → ValueMarked sheet lists i ws ws
-  others_marked h = record { contexts = λ fs k. idle_value i.value h (marks_now sheet ws i) (contexts_of ws fs); kept = kept_none CONTEXTS PASSED ws }
 
 -- the list of context places can be passed over
 pub context_in : {lists ws : List ℕ} {fs : List InnerFunction} {k : ℕ} {l : Listed} → Known lists ws fs → k < length fs → ContextOf lists ws k l → PlacesIn lists l
@@ -143,14 +99,5 @@ module _ {sheet lists : List ℕ} {i : Instruction} {ws ws₁ : List ℕ} (h : R
             ∙ ap (λ (l : List Place). starts_of i.order.0 l (starts_of i.order.0 ps (ranges_of ws))) (c.is fs (known_kept (kept_ranges h.kept) k.known) (function_known k.parts e))
             ∙ sym (each_append (start_if i.order.0 i.order.0) ps (get_or fs f.0 no_function).context (ranges_of ws))
             ∙ ap (last_by fs i.order.0 ps (ranges_of ws)) (sym e);
-        kept = both.kept;
-      }
-
-  pub store_started : {x : IdentifierId} {ws₂ : List ℕ} → i.value ≡ StoreContext x → Ranged (store_value i.order.0 (IsStoreContext x.0)) ws₁ ws₂ → AllStarted sheet lists i ws ws₂
-  store_started {x} e g =
-      let both = ranged_then h g in
-      let ps : List Place = (places_at sheet i.operands).what in
-      record {
-        ranges = λ fs k. both.ranges ∙ ap (store_value i.order.0 (IsStoreContext x.0)) (operands_only i.order.0 ps (ranges_of ws)) ∙ ap (last_by fs i.order.0 ps (ranges_of ws)) (sym e);
         kept = both.kept;
       }

@@ -6,10 +6,9 @@ use mathlib.Core.Bool.{Bool, true, false}
 use mathlib.Core.List.{List, [], ◌∷◌, map}
 use mathlib.Core.Option.{Option}
 use lib.ListN.{length, length-append, length-map}
-use Rattle.model.specs.Limits.{most_identifiers, place_width, effect_width}
-use Rattle.model.specs.Lists.{pick, gather, is_some, Every}
+use Rattle.model.specs.Limits.{place_width, effect_width}
+use Rattle.model.specs.Lists.{pick, gather, is_some}
 use Rattle.model.specs.Sheet.{InnerFunction, Place, EffectList, InstructionValue, Instruction as ModelInstruction, is_listed, list_of}
-use Rattle.model.specs.Ranges.{EffectBelow}
 use Rattle.model.specs.Reading.{Position}
 use Rattle.model.specs.Traits.{read_effect, conditionally_mutate_effect}
 use Rattle.model.specs.Marks.{Mark, operand_effects, with_mark}
@@ -34,7 +33,7 @@ use Rattle.operands.specs.declared.Section.{Section}
 use Rattle.operands.specs.declared.Section.TheVariants.{Phis, Instructions, Terminals}
 use Rattle.operands.specs.Ranges.{ranges_of, Ranged}
 use Rattle.operands.specs.Contexts.{contexts_of}
-use Rattle.operands.specs.Known.{places_at, effects_in, IntoBelow, PlacesIn, instruction_is, InstructionIn, InstructionKnown}
+use Rattle.operands.specs.Known.{places_at, effects_in, instruction_is, InstructionIn, InstructionKnown}
 use Rattle.operands.specs.Instruction.{BelowOf, marks_now, of_instructions, ValueMarked, last_ranges, AllStarted, ListedPassed}
 use Rattle.operands.specs.Passes.{pass_of, forget, places_in, Ready, Steps, Passed}
 use Rattle.operands.proofs.Stepping.{known_kept}
@@ -108,21 +107,6 @@ module _ {sheet : List ℕ} {c : Position} {i : Instruction} (a : InstructionAt 
     pub instruction_known : {lists ws ws' : List ℕ} → Kept STARTS PASSED ws ws' → Ready instruction_from BelowOf sheet lists ws c fs → InstructionKnown sheet lists ws' fs i
     instruction_known k r = record { known = known_kept k r.known; parts = instruction_in r.below }
 
--- ---- what an instruction's parts need
-module _ {sheet : List ℕ} {fs : List InnerFunction} {i : Instruction} (k : InstructionIn sheet fs i) where
-  pub lvalues_in : PlacesIn sheet i.value_lvalues
-  lvalues_in = record { inside = k.value_lvalues; below = k.below.value_lvalues }
-
-  pub operands_in : PlacesIn sheet i.operands
-  operands_in = record { inside = k.operands; below = k.below.operands }
-
-  pub intos_below : Every IntoBelow (effects_in sheet i.effects).what
-  intos_below = go (effects_in sheet i.effects).what (subst (Every (EffectBelow most_identifiers (length fs))) k.present k.below.effects)
-    where
-      go : (l : EffectList) → Every (EffectBelow most_identifiers (length fs)) l → Every IntoBelow l
-      go [] h = tt
-      go (e ∷ l) h = (h.0.1, go l h.1)
-
 pub instruction_known_kept : {sheet lists ws ws' : List ℕ} {fs : List InnerFunction} {i : Instruction} → Kept STARTS PASSED ws ws' → InstructionKnown sheet lists ws fs i → InstructionKnown sheet lists ws' fs i
 instruction_known_kept k h = record { known = known_kept k h.known; parts = h.parts }
 
@@ -141,14 +125,6 @@ listed_passed {sheet} {lists} {i} {ws} {ws₁} {ws₂} e marked started = record
   where
     known_then : {fs : List InnerFunction} → InstructionKnown sheet lists ws fs i → InstructionKnown sheet lists ws₁ fs i
     known_then = instruction_known_kept (kept_then STARTS PASSED (kept_none STARTS PASSED ws) marked.kept (omega arith) (omega arith) (omega arith) (omega arith))
-
--- without one: nothing more
-pub absent_passed : {sheet lists : List ℕ} {i : Instruction} (ws : List ℕ) → i.listed ≡ false → ListedPassed sheet lists i ws ws
-absent_passed {sheet} {i = i} ws e = record {
-  contexts = λ fs known. sym (ap (λ (b : Bool). pick b (context_marked (marks_now sheet ws i) (value_is i.value) (contexts_of ws fs)) (contexts_of ws fs)) e);
-  ranges = λ fs known. sym (ap (λ (b : Bool). pick b (last_ranges fs sheet i (ranges_of ws)) (ranges_of ws)) e);
-  kept = kept_none STARTS PASSED ws;
-}
 
 -- whether the list is there
 listed_present : (b : Bool) (l : EffectList) → is_some (listed_if b l) ≡ b

@@ -21,7 +21,6 @@ use Rattle.hir.proofs.Several.{list_is, list_inside}
 use Rattle.workspace.specs.Layout.{STARTS, PASSED}
 use Rattle.workspace.proofs.Parts.{kept_none, kept_then}
 use Rattle.writing.specs.declared.Writer.{Writer}
-use Rattle.writing.specs.Wrote.{farthest}
 use Rattle.writing.proofs.Writing.{writes_none, writes_as, writes_long}
 use Rattle.copies.proofs.Passing.{phi_follows}
 use Rattle.operands.specs.declared.Section.{Section}
@@ -98,9 +97,6 @@ module _ {sheet : List ℕ} {c : Position} {l : Listed} (h : ListAt sheet c l) w
 
     pub phis-below : Every (PhiBelow most_identifiers) (phis_in sheet l).what
     phis-below = subst (λ (q : Part (List Phi)). Every (PhiBelow most_identifiers) q.what) (sym list_phis) p.ready.below
-
-    pub phis_room : o.at + length sheet ≤ farthest + l.first
-    phis_room = omega (arith, p.room, h.first)
 
   -- they were
   pub phis_passed : (s : Section) (o : EvaluationOrder) {lists : List ℕ} (ws ws' : List ℕ) {out out' : Writer ℕ} {d : Position}

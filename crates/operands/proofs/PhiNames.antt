@@ -53,9 +53,6 @@ module _ (ws : List ℕ) (x : ℕ) where
     pub is : among x (names (n - i) c) ≡ among x (names n c₀)
     pub next : (several (n - i) phi_from ws c).next ≡ (several n phi_from ws c₀).next
 
-  pub naming_start : (n : ℕ) (c : Position) → Naming n c 0 c
-  naming_start n c = let z : n - 0 ≡ n = omega arith in record { is = rw z refl; next = rw z refl }
-
 module _ {ws : List ℕ} {x n : ℕ} {c₀ : Position} {i : ℕ} {c : Position} (v : Naming ws x n c₀ i c) where
   pub naming_inside : i < n → (several n phi_from ws c₀).next ≤ length ws → (phi_from ws c).next ≤ length ws
   naming_inside h k = first_inside phi_from ws (n - i) c phi_follows (omega arith) (omega (arith, v.next, k))

@@ -5,7 +5,6 @@ use mathlib.Core.Path.{◌≡◌, refl, sym, ap, subst, ◌∙◌}
 use mathlib.Core.List.{List}
 use lib.ListN.{length}
 use Rattle.model.specs.Limits.{most_identifiers}
-use Rattle.model.specs.Lists.{Every}
 use Rattle.model.specs.Sheet.{EvaluationOrder, Place, Phi}
 use Rattle.model.specs.Reading.{Position}
 use Rattle.model.specs.Ranges.{PlaceBelow, PhiBelow}
@@ -18,7 +17,7 @@ use Rattle.hir.proofs.Several.{several_none}
 use Rattle.copies.proofs.Passing.{phi_follows}
 use Rattle.operands.specs.Ranges.{Ranged}
 use Rattle.operands.proofs.PhiNames.{phi-place, phi-identifier}
-use Rattle.operands.proofs.RangeLoops.{Ranging, ranging_start, ranging_inside, ranging_below, ranging_turn, ranging_end}
+use Rattle.operands.proofs.RangeLoops.{Ranging, ranging_inside, ranging_below, ranging_turn, ranging_end}
 
 -- a phi's start
 abbrev start_phi : EvaluationOrder → Phi → Ranges → Ranges
@@ -28,9 +27,6 @@ start_phi o p = start_if o (o - 1) p.place
 pub record Starting (sheet : List ℕ) (o s : EvaluationOrder) (n : ℕ) (c₀ : Position) (ws₀ : List ℕ) (i : ℕ) (c : Position) (ws : List ℕ) : Type 0 where
   pub ranging : Ranging phi_from (PhiBelow most_identifiers) (start_phi o) sheet n c₀ ws₀ i c ws
   pub start : s ≡ o - 1
-
-pub starting : (sheet : List ℕ) (o s n : ℕ) (c : Position) (ws : List ℕ) → Every (PhiBelow most_identifiers) (several n phi_from sheet c).what → s ≡ o - 1 → Starting sheet o s n c ws 0 c ws
-starting sheet o s n c ws b e = record { ranging = ranging_start phi_from (PhiBelow most_identifiers) (start_phi o) sheet n c ws b; start = e }
 
 module _ {sheet : List ℕ} {o s n : ℕ} {c₀ : Position} {ws₀ : List ℕ} {i : ℕ} {c : Position} {ws : List ℕ} (v : Starting sheet o s n c₀ ws₀ i c ws) where
   pub starting_inside : i < n → (several n phi_from sheet c₀).next ≤ length sheet → (phi_from sheet c).next ≤ length sheet

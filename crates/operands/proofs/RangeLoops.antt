@@ -1,7 +1,7 @@
 -- A loop over parts of the sheet that works on the ranges in the words: what is left to do from here makes what was to do from the start.
 use Prim.Native.Nat.{ℕ, ◌+◌, ◌-◌, ◌≤◌, ◌<◌}
 use native.Mathlib.Omega.{arith}
-use mathlib.Core.Path.{◌≡◌, refl, sym, ap, subst, ◌∙◌}
+use mathlib.Core.Path.{◌≡◌, sym, ap, subst, ◌∙◌}
 use mathlib.Core.List.{List, ◌∷◌}
 use lib.ListN.{length}
 use Rattle.model.specs.Limits.{most_identifiers, place_width}
@@ -15,7 +15,7 @@ use Rattle.hir.proofs.Widths.{Rises}
 use Rattle.hir.proofs.Several.{several_next, first_inside, several_none}
 use Rattle.workspace.specs.Layout.{STARTS, CONTEXTS}
 use Rattle.workspace.specs.Rows.{Kept}
-use Rattle.workspace.proofs.Parts.{kept_none, kept_then}
+use Rattle.workspace.proofs.Parts.{kept_then}
 use Rattle.operands.specs.Ranges.{ranges_of, Ranged}
 
 -- ---- n parts from c₀ on, each of them Below, of which i are done; the next stands at c
@@ -25,9 +25,6 @@ module _ {A : Type 0} (f : Standing A) (Below : A → Type 0) (step : A → Rang
     pub next : (several (n - i) f sheet c).next ≡ (several n f sheet c₀).next
     pub below : Every Below (several (n - i) f sheet c).what
     pub kept : Kept STARTS CONTEXTS ws₀ ws
-
-  pub ranging_start : (n : ℕ) (c : Position) (ws : List ℕ) → Every Below (several n f sheet c).what → Ranging n c ws 0 c ws
-  ranging_start n c ws b = let z : n - 0 ≡ n = omega arith in record { ranges = rw z refl; next = rw z refl; below = rw z b; kept = kept_none STARTS CONTEXTS ws }
 
 module _ {A : Type 0} {f : Standing A} {Below : A → Type 0} {step : A → Ranges → Ranges} {sheet : List ℕ} {n : ℕ} {c₀ : Position} {ws₀ : List ℕ} {i : ℕ} {c : Position} {ws : List ℕ}
     (v : Ranging f Below step sheet n c₀ ws₀ i c ws) where

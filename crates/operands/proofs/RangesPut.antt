@@ -12,7 +12,7 @@ use Rattle.workspace.proofs.Tables.{tab-length}
 use Rattle.writing.specs.declared.Writer.{Writer}
 use Rattle.writing.specs.Wrote.{Writes}
 use Rattle.writing.proofs.Writing.{writes_then, writes_as}
-use Rattle.copies.proofs.Loops.{Leaves, leaves_all, table_turn, table_end}
+use Rattle.copies.proofs.Loops.{Leaves, table_turn, table_end}
 use Rattle.operands.specs.Ranges.{ranges_of, range_at, first_ranges, range_width}
 use Rattle.operands.proofs.RangeWords.{start_at, end_at_lem}
 
@@ -21,9 +21,6 @@ module _ (count : ℕ) (ws : List ℕ) where
   pub record RangesLeft (o₀ : Writer ℕ) (x : ℕ) (o : Writer ℕ) : Type 0 where
     pub leaves : Leaves (gather range_words (first_ranges count (ranges_of ws))) (gather range_words (drop x (first_ranges count (ranges_of ws)))) o₀ o
     pub number : o.at ≡ o₀.at + range_width * x
-
-  pub ranges_start : (o : Writer ℕ) → RangesLeft o 0 o
-  ranges_start o = record { leaves = leaves_all (gather range_words (first_ranges count (ranges_of ws))) o; number = omega arith }
 
   module _ {o₀ : Writer ℕ} {x : ℕ} {o : Writer ℕ} (v : RangesLeft o₀ x o) where
     pub ranges_turn : count ≤ most_identifiers → x < count → {o' o'' : Writer ℕ} → Writes (get_or ws (STARTS + x) 0 ∷ []) o o' → Writes (get_or ws (ENDS + x) 0 ∷ []) o' o'' → RangesLeft o₀ (x + 1) o''

@@ -1,7 +1,7 @@
 -- Steps of the pass one after another, and a loop of them: what is left to do from here makes what was to be done from the start.
 use Prim.Native.Nat.{ℕ, ◌+◌, ◌-◌, ◌≤◌, ◌<◌}
 use native.Mathlib.Omega.{arith}
-use mathlib.Core.Path.{◌≡◌, refl, sym, ap, subst, ◌∙◌}
+use mathlib.Core.Path.{◌≡◌, sym, ap, subst, ◌∙◌}
 use mathlib.Core.List.{List, ◌∷◌, ◌++◌}
 use lib.ListN.{length}
 use Rattle.model.specs.Lists.{gather, each, Every}
@@ -18,11 +18,11 @@ use Rattle.hir.proofs.Widths.{Rises}
 use Rattle.hir.proofs.Several.{several_next, several_none, first_inside, list_is}
 use Rattle.workspace.specs.Layout.{STARTS, PASSED, FUNCTIONS}
 use Rattle.workspace.specs.Rows.{Kept}
-use Rattle.workspace.proofs.Parts.{kept_none, kept_then, drop-word}
+use Rattle.workspace.proofs.Parts.{kept_then, drop-word}
 use Rattle.writing.specs.declared.Writer.{Writer}
 use Rattle.writing.proofs.Writing.{writes_as, writes_then}
 use Rattle.copies.proofs.Errors.{functions_kept}
-use Rattle.copies.proofs.Loops.{Leaves, leaves_all, leaves_then, leaves_none}
+use Rattle.copies.proofs.Loops.{Leaves, leaves_then, leaves_none}
 use Rattle.operands.specs.declared.Section.{Section}
 use Rattle.operands.specs.Known.{Known}
 use Rattle.operands.specs.Passes.{pass_of, forget, places_in, Ready, Passable, Steps, Passed}
@@ -73,20 +73,6 @@ module _ {A : Type 0} (f : Standing A) (Below : List InnerFunction → A → Typ
     pub few : o.at + c₀ ≤ o₀.at + c
     pub long : length o.buffer.now ≡ length o₀.buffer.now
     pub same : o.buffer.ghost_name ≡ o₀.buffer.ghost_name
-
-  pub looping_start : (n : ℕ) (c : Position) (ws : List ℕ) (o : Writer ℕ) → Looping n c ws o 0 c ws o
-  looping_start n c ws o =
-      let z : n - 0 ≡ n = omega arith in
-      record {
-        ready = rw z (λ fs h. h);
-        state = rw z (λ fs h. refl);
-        leaves = rw z (λ fs h. leaves_all (words_in section (all_from n c ws fs)) o);
-        kept = kept_none STARTS PASSED ws;
-        next = rw z refl;
-        few = omega arith;
-        long = refl;
-        same = refl;
-      }
 
   module _ {n : ℕ} {c₀ : Position} {ws₀ : List ℕ} {o₀ : Writer ℕ} {i : ℕ} {c : Position} {ws : List ℕ} {o : Writer ℕ} (v : Looping n c₀ ws₀ o₀ i c ws o) where
     module _ (z : i < n) where

@@ -52,9 +52,6 @@ module _ {lists ws : List ℕ} {count : ℕ} {o o₁ o₂ : Writer ℕ} (put : W
     pub inner_few : o₂.at ≤ o.at + most_inner
     inner_few = omega (arith, put.wrote.next, contexts.few, some.1.0.count, some.1.1)
 
-    pub inner_rises : o₁.at ≤ o₂.at
-    inner_rises = omega (arith, (contexts.wrote some.0 some.1.0 some.1.1).wrote.next)
-
     pub inner_put : {o₃ : Writer ℕ} → Patches o.at ((o₂.at - o₁.at) / place_width) o₂ o₃ → InnerPut count lists ws o o₃
     inner_put e = record {
       wrote = λ fs k n. places_patched (gather (λ (l : List Place). l) (contexts_of ws fs)) put (contexts.wrote fs k n) e;

@@ -1,10 +1,7 @@
 use Rattle.copies.proofs.Blocks.{block_follows}
 use Rattle.operands.proofs.Adding.{block_adds}
-use Rattle.operands.proofs.Stepping.{looping_start, looping_passable, looping_turn, looping_end}
+use Rattle.operands.proofs.Stepping.{looping_passable, looping_turn, looping_end}
 use Rattle.operands.proofs.blocks.pass_blocks.Goals as goal
-
-pub loop-init : goal.loop-init
-loop-init c = looping_start _ _ _ _ _ _ _ _ _ _
 
 pub pass_block-next-requires : goal.pass_block-next-requires
 pass_block-next-requires c =

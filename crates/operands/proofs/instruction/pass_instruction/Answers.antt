@@ -1,29 +1,24 @@
 use native.Mathlib.Omega.{arith}
 use mathlib.Core.Path.{refl}
-use Rattle.operands.proofs.Instructions.{instruction_end, instruction_few, instruction_in, instruction_known, instruction_passed}
+use Rattle.operands.proofs.Instructions.{instruction_few, instruction_in, instruction_known, instruction_passed}
 use Rattle.operands.proofs.InstructionValues.{kept_ranges}
 use Rattle.operands.proofs.instruction.pass_instruction.Goals as goal
-
-pub instruction_at-i-requires : goal.instruction_at-i-requires
-instruction_at-i-requires c =
-    c.requires.inside
 
 pub name_all-requires : goal.name_all-requires
 name_all-requires c =
     (c.requires.ready.known.size, (c.requires.functions, instruction_in c.instruction_at-i.ensures c.requires.inside c.requires.ready.below))
 
-pub put_instruction-requires : goal.put_instruction-requires
-put_instruction-requires c =
-    record { in_bounds = (omega (arith, c.name_all.ensures.kept.same, c.requires.ready.known.size), (c.requires.functions, instruction_in c.instruction_at-i.ensures c.requires.inside c.requires.ready.below)); count_bound = omega (arith, instruction_few c.instruction_at-i.ensures, c.requires.inside, c.requires.room) }
+pub put_instruction-requires-clause-in_bounds : goal.put_instruction-requires-clause-in_bounds
+put_instruction-requires-clause-in_bounds c =
+    (omega (arith, c.name_all.ensures.kept.same, c.requires.ready.known.size), (c.requires.functions, instruction_in c.instruction_at-i.ensures c.requires.inside c.requires.ready.below))
+
+pub put_instruction-requires-clause-count_bound : goal.put_instruction-requires-clause-count_bound
+put_instruction-requires-clause-count_bound c =
+    omega (arith, instruction_few c.instruction_at-i.ensures, c.requires.inside, c.requires.room)
 
 pub pass_listed-requires : goal.pass_listed-requires
 pass_listed-requires c =
     (c.requires.functions, instruction_known c.instruction_at-i.ensures c.requires.inside (kept_ranges c.name_all.ensures.kept) c.requires.ready)
-
--- the sheet's length fits: `good`
-pub overflow_add-result : goal.overflow_add-result
-overflow_add-result c =
-    omega (arith, instruction_end c.instruction_at-i.ensures, c.requires.inside, c.well_formed)
 
 pub returns : goal.returns
 returns c =

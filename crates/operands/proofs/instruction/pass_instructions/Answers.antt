@@ -5,15 +5,12 @@ use Rattle.hir.proofs.Widths.{listed_rises}
 use Rattle.copies.proofs.Blocks.{instruction_follows}
 use Rattle.operands.specs.Instruction.{BelowOf}
 use Rattle.operands.proofs.Adding.{instruction_adds}
-use Rattle.operands.proofs.Stepping.{looping_start, looping_passable, looping_turn, looping_end, listed_passable, listed_passed}
+use Rattle.operands.proofs.Stepping.{looping_passable, looping_turn, looping_end, listed_passable, listed_passed}
 use Rattle.operands.proofs.instruction.pass_instructions.Goals as goal
 
 pub list_at-list-requires : goal.list_at-list-requires
 list_at-list-requires c =
     omega (arith, listed_rises instruction_from instruction_follows c.args.sheet.now c.args.from, c.requires.inside)
-
-pub loop-init : goal.loop-init
-loop-init c = looping_start _ _ _ _ _ _ _ _ _ _
 
 pub pass_instruction-next-requires : goal.pass_instruction-next-requires
 pass_instruction-next-requires c =

@@ -1,4 +1,4 @@
-use Rattle.operands.proofs.Instructions.{instruction_known_kept, listed_passed, absent_passed}
+use Rattle.operands.proofs.Instructions.{instruction_known_kept, listed_passed}
 use Rattle.operands.proofs.InstructionValues.{kept_contexts}
 use Rattle.operands.proofs.instruction.pass_listed.Goals as goal
 
@@ -9,6 +9,3 @@ start_all-requires c =
 pub returns-then-i : goal.returns-then-i
 returns-then-i c =
     listed_passed c.if-i.true c.mark_value.ensures c.start_all.ensures
-
-pub returns-else-i : goal.returns-else-i
-returns-else-i c = absent_passed _ c.if-i.false

@@ -6,28 +6,14 @@ use Rattle.hir.specs.Says.{place_is}
 use Rattle.operands.specs.Known.{places_at}
 use Rattle.operands.specs.Instruction.{marks_now}
 use Rattle.operands.proofs.Marked.{with_mark_lem}
-use Rattle.operands.proofs.Instructions.{intos_below}
 use Rattle.operands.proofs.InstructionValues.{places_end, uses_put}
 use Rattle.operands.proofs.instruction.put_uses.Goals as goal
 
-pub mark_of-mark-requires : goal.mark_of-mark-requires
-mark_of-mark-requires c =
-    record { list_in_bounds = c.requires.in_bounds.1.1.effects; every = (intos_below c.requires.in_bounds.1.1, c.requires.in_bounds.0) }
-
-pub put_place-requires : goal.put_place-requires
-put_place-requires c =
-    omega (arith, c.requires.count_bound)
-
-pub put_marked-requires : goal.put_marked-requires
-put_marked-requires c =
-    record { list_in_bounds = c.requires.in_bounds.1.1.value_lvalues; effects_in_bounds = c.requires.in_bounds.1.1.effects; every = (intos_below c.requires.in_bounds.1.1, c.requires.in_bounds.0); count_bound = omega (arith, c.put_place.ensures.wrote.next, c.requires.count_bound) }
-
-pub put_marked-requires-2 : goal.put_marked-requires-2
-put_marked-requires-2 c =
+pub put_marked-requires-2-clause-count_bound : goal.put_marked-requires-2-clause-count_bound
+put_marked-requires-2-clause-count_bound c =
     let a = c.args in
     let marked = with_mark (marks_now a.sheet.now a.ws.now a.i) conditionally_mutate_effect in
-    let lvalues = places_end marked a.sheet.now a.i.value_lvalues c.put_marked.ensures in
-    record { list_in_bounds = c.requires.in_bounds.1.1.operands; effects_in_bounds = c.requires.in_bounds.1.1.effects; every = (intos_below c.requires.in_bounds.1.1, c.requires.in_bounds.0); count_bound = omega (arith, c.put_place.ensures.wrote.next, lvalues, c.requires.count_bound) }
+    omega (arith, c.put_place.ensures.wrote.next, places_end marked a.sheet.now a.i.value_lvalues c.put_marked.ensures, c.requires.count_bound)
 
 pub returns : goal.returns
 returns c =

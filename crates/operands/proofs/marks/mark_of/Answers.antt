@@ -3,12 +3,9 @@ use mathlib.Core.Path.{sym, ◌∙◌}
 use Rattle.model.specs.Limits.{effect_width}
 use Rattle.hir.specs.Words.{effect_at}
 use Rattle.hir.proofs.Widths.{wide_rises}
-use Rattle.operands.proofs.Folding.{folding_start, folding_has, folding_inside, folding_turn, folding_end}
+use Rattle.operands.proofs.Folding.{folding_has, folding_inside, folding_turn, folding_end}
 use Rattle.operands.proofs.Marked.{marks_all}
 use Rattle.operands.proofs.marks.mark_of.Goals as goal
-
-pub loop-init : goal.loop-init
-loop-init c = folding_start _ _ _ _ _ _ _ c.requires.every.0
 
 pub effect_at-requires : goal.effect_at-requires
 effect_at-requires c =

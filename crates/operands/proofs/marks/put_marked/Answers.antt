@@ -11,10 +11,6 @@ pub place_at-p-requires : goal.place_at-p-requires
 place_at-p-requires c =
     putting_inside _ _ _ _ c.loop.invariant c.loop-test.true c.requires.list_in_bounds
 
-pub mark_of-mark-requires : goal.mark_of-mark-requires
-mark_of-mark-requires c =
-    record { list_in_bounds = c.requires.effects_in_bounds; every = c.requires.every }
-
 pub put_place-requires : goal.put_place-requires
 put_place-requires c =
     omega (arith, putting_room _ _ _ _ c.loop.invariant, c.loop-test.true, c.requires.count_bound)
