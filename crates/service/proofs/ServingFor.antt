@@ -7,7 +7,7 @@ use Rattle.model.specs.Load.{load}
 use Rattle.model.specs.Service.{Caller as TheCaller, Served as TheServed, serves, call}
 use Rattle.model.specs.Callers.{ServedFor as TheServedFor, outside, replaces, load_for}
 use Rattle.model.proofs.Callers.{first_11, inside}
-use Rattle.std.specs.Prelude.{Result, Ok, Err}
+use Rattle.std.specs.Prelude.{Result, Err}
 use Rattle.hir.specs.declared.refusal.Refusal.{Refusal}
 use Rattle.hir.specs.declared.refusal.Refusal.TheVariants.{OutsideRecords}
 use Rattle.writing.proofs.Ending.{filled_refused}

@@ -1,4 +1,5 @@
-use Rattle.workspace.proofs.Clearing.{cleared_fill}
+use mathlib.Core.Path.{sym, ◌∙◌}
+use Rattle.workspace.proofs.Clearing.{cleared_all}
 use Rattle.service.proofs.Serving.{told_filled}
 use Rattle.service.proofs.ServingFor.{load-outside, load_inside}
 use Rattle.service.proofs.load_from.Goals as goal
@@ -9,4 +10,4 @@ returns-then-position-callers c =
 
 pub returns : goal.returns
 returns c =
-    load-outside _ _ _ _ _ _ c.if-position-callers.false (cleared_fill _ _ ?) c.from-2.ensures
+    load-outside _ _ _ _ _ _ c.if-position-callers.false (c.fill.ensures.after (λ y e. e) ∙ sym (cleared_all _)) c.from-2.ensures
