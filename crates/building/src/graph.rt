@@ -24,78 +24,63 @@ fn exists(ws: &[u32], x: IdentifierId) -> bool
 }
 
 // Creates the node of x, in place of the one that was there: that one's own words leave the logs. A missing node holds none.
-pub fn create(ws: &mut [u32], h: Held, x: IdentifierId, value: u32) -> Held
-    requires room { Room ws.old h }
+pub fn create(ws: &mut [u32], h: &mut Held, x: IdentifierId, value: u32)
+    requires room { Room ws.old h.old }
     requires x_lt_most_identifiers { (x.0 < most_identifiers) × (MISSING < value) }
-    ensures { Builds (create x.0 (value_of value)) ws.old h ws.new result }
+    ensures { Builds (create x.0 (value_of value)) ws.old h.old ws.new h.new }
 {
-    if !exists(ws, x) {
-        ws[VALUE + x.0 as usize] = value;
-        return h;
+    if exists(ws, x) {
+        h.edges = leave_edges(ws, h.edges, x.0);
+        h.entries = leave(ws, Table::Entries, ENTRIES, h.entries, x.0);
     }
-    let edges = leave_edges(ws, h.edges, x.0);
-    let entries = leave(ws, Table::Entries, ENTRIES, h.entries, x.0);
     ws[VALUE + x.0 as usize] = value;
-    Held {
-        edges,
-        entries,
-        most: h.most,
-    }
 }
 
 // Stores a relation: skipped if either node is missing.
 pub fn store(
     ws: &mut [u32],
-    h: Held,
+    h: &mut Held,
     relation: Relation,
     index: u32,
     from: IdentifierId,
     into: IdentifierId,
-) -> Held
-    requires room { Room ws.old h }
+)
+    requires room { Room ws.old h.old }
     requires from_lt_most_identifiers { (from.0 < most_identifiers) × ((into.0 < most_identifiers) × (index < most_index)) }
-    ensures { Builds (relate (relation_says relation) index from.0 into.0) ws.old h ws.new result }
+    ensures { Builds (relate (relation_says relation) index from.0 into.0) ws.old h.old ws.new h.new }
 {
     if !exists(ws, from) || !exists(ws, into) {
-        return h;
+        return;
     }
     let w = pack(from.0, into.0, relation, index);
-    let g = add_edge(ws, h, w);
-    add_entry(ws, g, w)
+    add_edge(ws, h, w);
+    add_entry(ws, h, w);
 }
 
 // An Assign effect first creates a missing "into".
-pub fn assign(ws: &mut [u32], h: Held, index: u32, from: IdentifierId, into: IdentifierId) -> Held
-    requires room { Room ws.old h }
+pub fn assign(ws: &mut [u32], h: &mut Held, index: u32, from: IdentifierId, into: IdentifierId)
+    requires room { Room ws.old h.old }
     requires from_lt_most_identifiers { (from.0 < most_identifiers) × ((into.0 < most_identifiers) × (index < most_index)) }
-    ensures { Builds (assign_effect index from.0 into.0) ws.old h ws.new result }
+    ensures { Builds (assign_effect index from.0 into.0) ws.old h.old ws.new h.new }
 {
     if !exists(ws, into) {
-        let g = create(ws, h, into, OBJECT);
-        return store(ws, g, Relation::Alias, index, from, into);
+        create(ws, h, into, OBJECT);
     }
-    store(ws, h, Relation::Alias, index, from, into)
+    store(ws, h, Relation::Alias, index, from, into);
 }
 
 // CreateFrom always creates "into"; its entry is stored even if "from" has no node.
-pub fn create_from(
-    ws: &mut [u32],
-    h: Held,
-    index: u32,
-    from: IdentifierId,
-    into: IdentifierId,
-) -> Held
-    requires room { Room ws.old h }
+pub fn create_from(ws: &mut [u32], h: &mut Held, index: u32, from: IdentifierId, into: IdentifierId)
+    requires room { Room ws.old h.old }
     requires from_lt_most_identifiers { (from.0 < most_identifiers) × ((into.0 < most_identifiers) × (index < most_index)) }
-    ensures { Builds (create_from index from.0 into.0) ws.old h ws.new result }
+    ensures { Builds (create_from index from.0 into.0) ws.old h.old ws.new h.new }
 {
-    let g = create(ws, h, into, OBJECT);
+    create(ws, h, into, OBJECT);
     let w = pack(from.0, into.0, Relation::CreatedFrom, index);
-    if !exists(ws, from) {
-        return add_entry(ws, g, w);
+    if exists(ws, from) {
+        add_edge(ws, h, w);
     }
-    let k = add_edge(ws, g, w);
-    add_entry(ws, k, w)
+    add_entry(ws, h, w);
 }
 
 // Lays the two logs out in rows, for the walks.

@@ -87,162 +87,132 @@ impl Building {
     }
 
     // A node for `place`, in place of the one that it had: that one's own relations are dropped.
-    pub fn create(self, ws: &mut [u32], place: IdentifierId, value: NodeValue) -> Building
-        requires sound { Sound ws.old self }
+    pub fn create(&mut self, ws: &mut [u32], place: IdentifierId, value: NodeValue)
+        requires sound { Sound ws.old self.old }
         requires place_lt_most_identifiers { (place.0 < most_identifiers) × FunctionBelow value }
-        ensures { Steps (changed (create place.0 (value_is value))) 0 0 0 0 ws.old self ws.new result }
+        ensures { Steps (changed (create place.0 (value_is value))) 0 0 0 0 ws.old self.old ws.new self.new }
     {
-        Building {
-            held: graph::create(ws, self.held, place, value_word(value)),
-            ..self
-        }
+        graph::create(ws, &mut self.held, place, value_word(value));
     }
 
     // A relation, skipped if either node is missing.
-    fn relate(
-        self,
-        ws: &mut [u32],
-        relation: Relation,
-        from: IdentifierId,
-        into: IdentifierId,
-    ) -> Building
-        requires sound { Sound ws.old self }
-        requires self_bound { (index_of self < most_index) × ((from.0 < most_identifiers) × (into.0 < most_identifiers)) }
-        ensures { Steps (related (λ (i : ℕ). relate (relation_says relation) i from.0 into.0)) 1 0 0 0 ws.old self ws.new result }
+    fn relate(&mut self, ws: &mut [u32], relation: Relation, from: IdentifierId, into: IdentifierId)
+        requires sound { Sound ws.old self.old }
+        requires self_bound { (index_of self.old < most_index) × ((from.0 < most_identifiers) × (into.0 < most_identifiers)) }
+        ensures { Steps (related (λ (i : ℕ). relate (relation_says relation) i from.0 into.0)) 1 0 0 0 ws.old self.old ws.new self.new }
     {
-        Building {
-            held: graph::store(ws, self.held, relation, self.index(), from, into),
-            relations: self.relations + 1,
-            ..self
-        }
+        let index = self.index();
+        graph::store(ws, &mut self.held, relation, index, from, into);
+        self.relations += 1;
     }
 
     // "from" is captured in "into".
-    pub fn capture(self, ws: &mut [u32], from: IdentifierId, into: IdentifierId) -> Building
-        requires sound { Sound ws.old self }
-        requires self_bound { (index_of self < most_index) × ((from.0 < most_identifiers) × (into.0 < most_identifiers)) }
-        ensures { Steps (related (λ (i : ℕ). relate into_captures i from.0 into.0)) 1 0 0 0 ws.old self ws.new result }
+    pub fn capture(&mut self, ws: &mut [u32], from: IdentifierId, into: IdentifierId)
+        requires sound { Sound ws.old self.old }
+        requires self_bound { (index_of self.old < most_index) × ((from.0 < most_identifiers) × (into.0 < most_identifiers)) }
+        ensures { Steps (related (λ (i : ℕ). relate into_captures i from.0 into.0)) 1 0 0 0 ws.old self.old ws.new self.new }
     {
-        self.relate(ws, Relation::Capture, from, into)
+        self.relate(ws, Relation::Capture, from, into);
     }
 
     // "into" is an alias of "from".
-    pub fn assign(self, ws: &mut [u32], from: IdentifierId, into: IdentifierId) -> Building
-        requires sound { Sound ws.old self }
-        requires self_bound { (index_of self < most_index) × ((from.0 < most_identifiers) × (into.0 < most_identifiers)) }
-        ensures { Steps (related (λ (i : ℕ). relate into_aliases i from.0 into.0)) 1 0 0 0 ws.old self ws.new result }
+    pub fn assign(&mut self, ws: &mut [u32], from: IdentifierId, into: IdentifierId)
+        requires sound { Sound ws.old self.old }
+        requires self_bound { (index_of self.old < most_index) × ((from.0 < most_identifiers) × (into.0 < most_identifiers)) }
+        ensures { Steps (related (λ (i : ℕ). relate into_aliases i from.0 into.0)) 1 0 0 0 ws.old self.old ws.new self.new }
     {
-        self.relate(ws, Relation::Alias, from, into)
+        self.relate(ws, Relation::Alias, from, into);
     }
 
     // "into" may be an alias of "from".
-    pub fn maybe_alias(self, ws: &mut [u32], from: IdentifierId, into: IdentifierId) -> Building
-        requires sound { Sound ws.old self }
-        requires self_bound { (index_of self < most_index) × ((from.0 < most_identifiers) × (into.0 < most_identifiers)) }
-        ensures { Steps (related (λ (i : ℕ). relate into_maybe_aliases i from.0 into.0)) 1 0 0 0 ws.old self ws.new result }
+    pub fn maybe_alias(&mut self, ws: &mut [u32], from: IdentifierId, into: IdentifierId)
+        requires sound { Sound ws.old self.old }
+        requires self_bound { (index_of self.old < most_index) × ((from.0 < most_identifiers) × (into.0 < most_identifiers)) }
+        ensures { Steps (related (λ (i : ℕ). relate into_maybe_aliases i from.0 into.0)) 1 0 0 0 ws.old self.old ws.new self.new }
     {
-        self.relate(ws, Relation::MaybeAlias, from, into)
+        self.relate(ws, Relation::MaybeAlias, from, into);
     }
 
     // An Assign effect: as `assign`, but a missing "into" is created first.
-    pub fn assign_effect(self, ws: &mut [u32], from: IdentifierId, into: IdentifierId) -> Building
-        requires sound { Sound ws.old self }
-        requires self_bound { (index_of self < most_index) × ((from.0 < most_identifiers) × (into.0 < most_identifiers)) }
-        ensures { Steps (related (λ (i : ℕ). assign_effect i from.0 into.0)) 1 0 0 0 ws.old self ws.new result }
+    pub fn assign_effect(&mut self, ws: &mut [u32], from: IdentifierId, into: IdentifierId)
+        requires sound { Sound ws.old self.old }
+        requires self_bound { (index_of self.old < most_index) × ((from.0 < most_identifiers) × (into.0 < most_identifiers)) }
+        ensures { Steps (related (λ (i : ℕ). assign_effect i from.0 into.0)) 1 0 0 0 ws.old self.old ws.new self.new }
     {
-        Building {
-            held: graph::assign(ws, self.held, self.index(), from, into),
-            relations: self.relations + 1,
-            ..self
-        }
+        let index = self.index();
+        graph::assign(ws, &mut self.held, index, from, into);
+        self.relations += 1;
     }
 
     // "into" is created from "from", always; its entry is stored even if "from" has no node.
-    pub fn create_from(self, ws: &mut [u32], from: IdentifierId, into: IdentifierId) -> Building
-        requires sound { Sound ws.old self }
-        requires self_bound { (index_of self < most_index) × ((from.0 < most_identifiers) × (into.0 < most_identifiers)) }
-        ensures { Steps (related (λ (i : ℕ). create_from i from.0 into.0)) 1 0 0 0 ws.old self ws.new result }
+    pub fn create_from(&mut self, ws: &mut [u32], from: IdentifierId, into: IdentifierId)
+        requires sound { Sound ws.old self.old }
+        requires self_bound { (index_of self.old < most_index) × ((from.0 < most_identifiers) × (into.0 < most_identifiers)) }
+        ensures { Steps (related (λ (i : ℕ). create_from i from.0 into.0)) 1 0 0 0 ws.old self.old ws.new self.new }
     {
-        Building {
-            held: graph::create_from(ws, self.held, self.index(), from, into),
-            relations: self.relations + 1,
-            ..self
-        }
+        let index = self.index();
+        graph::create_from(ws, &mut self.held, index, from, into);
+        self.relations += 1;
     }
 
     // A phi's operands: those from blocks that have come are stored, the others wait.
-    fn operands(self, s: &[u32], ws: &mut [u32], at: usize, count: u32) -> Building
-        requires sound { Sound ws.old self × Holding s.now ws.old self }
-        requires phi_fits { PhiFits s.now at self × ((count ≡ length (phi_from s.now at).what.operands) × (0 < count)) }
-        ensures { StepsOn s.now (phi_operands (phi_from s.now at).what) count 0 0 0 ws.old self ws.new result }
+    fn operands(&mut self, s: &[u32], ws: &mut [u32], at: usize, count: u32)
+        requires sound { Sound ws.old self.old × Holding s.now ws.old self.old }
+        requires phi_fits { PhiFits s.now at self.old × ((count ≡ length (phi_from s.now at).what.operands) × (0 < count)) }
+        ensures { StepsOn s.now (phi_operands (phi_from s.now at).what) count 0 0 0 ws.old self.old ws.new self.new }
     {
         let index = self.index();
         push_phi(ws, self.phis, at, index);
-        Building {
-            held: store_operands(s, at, index, ws, self.held, 0, self.come),
-            phis: self.phis + 1,
-            relations: self.relations + count as usize,
-            ..self
-        }
+        store_operands(s, at, index, ws, &mut self.held, 0, self.come);
+        self.phis += 1;
+        self.relations += count as usize;
     }
 
     // The phi at `at`: its node, then its operands.
-    pub fn phi(self, s: &[u32], ws: &mut [u32], at: usize) -> Building
-        requires sound { Sound ws.old self × Holding s.now ws.old self }
-        requires phi_fits { PhiFits s.now at self }
-        ensures { StepsOn s.now (phi_node (phi_from s.now at).what) (length (phi_from s.now at).what.operands) 0 0 0 ws.old self ws.new result }
+    pub fn phi(&mut self, s: &[u32], ws: &mut [u32], at: usize)
+        requires sound { Sound ws.old self.old × Holding s.now ws.old self.old }
+        requires phi_fits { PhiFits s.now at self.old }
+        ensures { StepsOn s.now (phi_node (phi_from s.now at).what) (length (phi_from s.now at).what.operands) 0 0 0 ws.old self.old ws.new self.new }
     {
         let phi = phi_at(s, at);
         let count = phi.operands.count;
-        let created = self.create(ws, phi.place.identifier, NodeValue::Phi);
-        if count == 0 {
-            return created;
+        self.create(ws, phi.place.identifier, NodeValue::Phi);
+        if count != 0 {
+            self.operands(s, ws, at, count);
         }
-        created.operands(s, ws, at, count)
     }
 
     // The end of a block, before its terminal: what waits for it is stored, and it has come. A sheet has no block twice; a second one would find that nothing waits.
-    pub fn wake(self, s: &[u32], ws: &mut [u32], block: BlockId) -> Building
-        requires sound { Sound ws.old self × Holding s.now ws.old self }
-        requires come_lt_most_blocks { self.come < most_blocks }
-        ensures { StepsOn s.now (ends block.0) 0 0 0 1 ws.old self ws.new result }
+    pub fn wake(&mut self, s: &[u32], ws: &mut [u32], block: BlockId)
+        requires sound { Sound ws.old self.old × Holding s.now ws.old self.old }
+        requires come_lt_most_blocks { self.old.come < most_blocks }
+        ensures { StepsOn s.now (ends block.0) 0 0 0 1 ws.old self.old ws.new self.new }
     {
         push_block(ws, self.come, block);
-        let come = self.come + 1;
-        if has_come(ws, 0, self.come, block) {
-            return Building { come, ..self };
+        if !has_come(ws, 0, self.come, block) {
+            wake(s, ws, &mut self.held, self.phis, self.come);
         }
-        Building {
-            held: wake(s, ws, self.held, self.phis, self.come),
-            come,
-            ..self
-        }
+        self.come += 1;
     }
 
     // A mutation, to come after building.
-    pub fn push_mutation(self, ws: &mut [u32], m: PendingMutation) -> Building
-        requires sound { Sound ws.old self }
-        requires self_bound { (index_of self < most_index) × ((self.mutations < most_mutations) × (m.identifier.0 < most_identifiers)) }
-        ensures { Steps (mutates m.transitive (kind_says m.kind) (reason_says m.reason) m.order.0 (place_at m.identifier.0 m.span)) 0 1 0 0 ws.old self ws.new result }
+    pub fn push_mutation(&mut self, ws: &mut [u32], m: PendingMutation)
+        requires sound { Sound ws.old self.old }
+        requires self_bound { (index_of self.old < most_index) × ((self.old.mutations < most_mutations) × (m.identifier.0 < most_identifiers)) }
+        ensures { Steps (mutates m.transitive (kind_says m.kind) (reason_says m.reason) m.order.0 (place_at m.identifier.0 m.span)) 0 1 0 0 ws.old self.old ws.new self.new }
     {
         pending::push_mutation(ws, self.mutations, self.index(), m);
-        Building {
-            mutations: self.mutations + 1,
-            ..self
-        }
+        self.mutations += 1;
     }
 
     // A render of `place`, to come after building.
-    pub fn push_render(self, ws: &mut [u32], place: IdentifierId) -> Building
-        requires sound { Sound ws.old self }
-        requires self_bound { (index_of self < most_index) × ((self.renders < most_renders) × (place.0 < most_identifiers)) }
-        ensures { Steps (renders_place (place_at place.0 0)) 0 0 1 0 ws.old self ws.new result }
+    pub fn push_render(&mut self, ws: &mut [u32], place: IdentifierId)
+        requires sound { Sound ws.old self.old }
+        requires self_bound { (index_of self.old < most_index) × ((self.old.renders < most_renders) × (place.0 < most_identifiers)) }
+        ensures { Steps (renders_place (place_at place.0 0)) 0 0 1 0 ws.old self.old ws.new self.new }
     {
         pending::push_render(ws, self.renders, self.index(), place);
-        Building {
-            renders: self.renders + 1,
-            ..self
-        }
+        self.renders += 1;
     }
 
     // The end of building: lays the graph out in rows, for the walks.

@@ -82,51 +82,40 @@ pub fn leave_edges(ws: &mut [u32], n: usize, x: u32) -> usize
 }
 
 // One more would be held than there is room for.
-fn over(h: Held) -> Held
-    ensures { result ≡ held_over h }
+fn over(h: &mut Held)
+    ensures { h.new ≡ held_over h.old }
 {
-    Held {
-        most: MOST_RELATIONS + 1,
-        ..h
-    }
+    h.most = MOST_RELATIONS + 1;
 }
 
 // Stores the edge of a word, whose "from" has a node and is marked.
-pub fn add_edge(ws: &mut [u32], h: Held, w: u32) -> Held
-    requires room { Room ws.old h }
-    requires w_value { has_node (graph_of ws.old h) (w % 512) ≡ true }
-    ensures { Builds (edge_g w) ws.old h ws.new result }
+pub fn add_edge(ws: &mut [u32], h: &mut Held, w: u32)
+    requires room { Room ws.old h.old }
+    requires w_value { has_node (graph_of ws.old h.old) (w % 512) ≡ true }
+    ensures { Builds (edge_g w) ws.old h.old ws.new h.new }
 {
     if MOST_RELATIONS <= h.edges {
         return over(h);
     }
     ws[EDGES + h.edges] = w;
     ws[MARKS + (w % 512) as usize] = 1;
-    let edges = h.edges + 1;
-    Held {
-        edges,
-        most: h.most.max(edges),
-        ..h
-    }
+    h.edges += 1;
+    h.most = h.most.max(h.edges);
 }
 
 // Stores the entry of a word, whose "into" has a node: once for each "from" and list.
-pub fn add_entry(ws: &mut [u32], h: Held, w: u32) -> Held
-    requires room { Room ws.old h }
-    requires w_value { has_node (graph_of ws.old h) (w / 512 % 512) ≡ true }
-    ensures { Builds (entry_g w) ws.old h ws.new result }
+pub fn add_entry(ws: &mut [u32], h: &mut Held, w: u32)
+    requires room { Room ws.old h.old }
+    requires w_value { has_node (graph_of ws.old h.old) (w / 512 % 512) ≡ true }
+    ensures { Builds (entry_g w) ws.old h.old ws.new h.new }
 {
     if has_entry(ws, h.entries, w) {
-        return h;
+        return;
     }
     if MOST_RELATIONS <= h.entries {
         return over(h);
     }
     ws[ENTRIES + h.entries] = w;
-    let entries = h.entries + 1;
-    Held {
-        entries,
-        most: h.most.max(entries),
-        ..h
-    }
+    h.entries += 1;
+    h.most = h.most.max(h.entries);
 }

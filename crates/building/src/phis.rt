@@ -26,21 +26,20 @@ pub fn push_phi(ws: &mut [u32], count: usize, at: usize, index: u32)
 // Stores a phi operand, if its predecessor is one of `count` blocks that came, from number `first` on.
 fn store_operand(
     ws: &mut [u32],
-    h: Held,
+    h: &mut Held,
     o: Operand,
     index: u32,
     into: IdentifierId,
     first: usize,
     count: usize,
-) -> Held
-    requires room { Room ws.old h }
+)
+    requires room { Room ws.old h.old }
     requires identifier_lt_most_identifiers { (o.place.identifier.0 < most_identifiers) × ((into.0 < most_identifiers) × ((index < most_index) × (first + count ≤ most_blocks))) }
-    ensures { Stores (from first count ws.old) (waiting_at into.0 index (operand_is o) ∷ []) ws.old h ws.new result }
+    ensures { Stores (from first count ws.old) (waiting_at into.0 index (operand_is o) ∷ []) ws.old h.old ws.new h.new }
 {
-    if !has_come(ws, first, count, o.predecessor) {
-        return h;
+    if has_come(ws, first, count, o.predecessor) {
+        store(ws, h, Relation::Alias, index, o.place.identifier, into);
     }
-    store(ws, h, Relation::Alias, index, o.place.identifier, into)
 }
 
 // The same with each operand of the phi at `at`; the first one has this index.
@@ -49,36 +48,32 @@ pub fn store_operands(
     at: usize,
     start: u32,
     ws: &mut [u32],
-    h: Held,
+    h: &mut Held,
     first: usize,
     count: usize,
-) -> Held
-    requires room { Room ws.old h }
+)
+    requires room { Room ws.old h.old }
     requires stands { Stands s.now at start × (first + count ≤ most_blocks) }
-    ensures { Stores (from first count ws.old) (operands_from s.now at start) ws.old h ws.new result }
+    ensures { Stores (from first count ws.old) (operands_from s.now at start) ws.old h.old ws.new h.new }
 {
     let phi = phi_at(s, at);
     let into = phi.place.identifier;
     let mut next = phi.operands.first;
-    let mut held = h;
     for index in start..start + phi.operands.count {
-        held = store_operand(ws, held, operand_at(s, next), index, into, first, count);
+        store_operand(ws, h, operand_at(s, next), index, into, first, count);
         next += OPERAND_WIDTH;
     }
-    held
 }
 
 // The same with the operands of every phi so far.
-pub fn wake(s: &[u32], ws: &mut [u32], h: Held, phis: usize, first: usize) -> Held
-    requires room { Room ws.old h }
+pub fn wake(s: &[u32], ws: &mut [u32], h: &mut Held, phis: usize, first: usize)
+    requires room { Room ws.old h.old }
     requires every { Every (Known s.now) (phis_of ws.old phis) × ((phis ≤ most_phis) × (first < most_blocks)) }
-    ensures { Stores (from first 1 ws.old) (gather (operands_of s.now) (phis_of ws.old phis)) ws.old h ws.new result }
+    ensures { Stores (from first 1 ws.old) (gather (operands_of s.now) (phis_of ws.old phis)) ws.old h.old ws.new h.new }
 {
-    let mut held = h;
     for i in 0..phis {
         let w = ws[PHIS + i];
         let at = (w % MOST_SHEET as u32) as usize;
-        held = store_operands(s, at, w / MOST_SHEET as u32, ws, held, first, 1);
+        store_operands(s, at, w / MOST_SHEET as u32, ws, h, first, 1);
     }
-    held
 }

@@ -27,7 +27,6 @@ use Rattle.workspace.specs.Layout.{LEAST, END, FUNCTIONS}
 use Rattle.workspace.specs.Tracked.{most_tracked, Tracks}
 use Rattle.building.specs.declared.Building.{Building}
 use Rattle.building.specs.Built.{Sound, Steps}
-use Rattle.instructions.specs.declared.Built.{Built as BuiltPart}
 use Rattle.dataflow.specs.Accepted.{sections_of, sheet_of, Accepted}
 use Rattle.dataflow.specs.Read.{end_of, stands_at, Stores, TopRead}
 use Rattle.dataflow.specs.Places.{Places, PlacesReady, PlacesRead, TrackedRead}
@@ -115,22 +114,22 @@ module _ {sheet : List ℕ} (a : Accepted sheet) where
         room = omega (arith, a.below.param_count);
       })
 
-      module _ {ws₁ : List ℕ} {r₁ : BuiltPart} (p : PlacesRead (several l.count one_place sheet l.first) 0 ws b ws₁ r₁) where
-        params_end : r₁.next ≡ at.context
+      module _ {ws₁ : List ℕ} {b₁ : Building} {d₁ : Position} (p : PlacesRead (several l.count one_place sheet l.first) 0 ws b ws₁ b₁ d₁) where
+        params_end : d₁ ≡ at.context
         params_end = p.next ∙ list_next one_place params_is h
 
-        pub context_begin : r₁.next + 1 ≤ length sheet
+        pub context_begin : d₁ + 1 ≤ length sheet
         context_begin = omega (arith, params_end, a.inside, behind)
 
-        module _ {m : Listed} (g : ListAt sheet r₁.next m) where
-          context_is : places_from sheet r₁.next ≡ part s.context at.returns
+        module _ {m : Listed} (g : ListAt sheet d₁ m) where
+          context_is : places_from sheet d₁ ≡ part s.context at.returns
           context_is = ap (places_from sheet) params_end ∙ context_are sheet
 
           counts : (l.count ≡ length s.params) × (m.count ≡ length s.context)
           counts = (list_count one_place params_is h, list_count one_place context_is g)
 
-          pub context_ready : PlacesReady (several m.count one_place sheet m.first) l.count sheet ws₁ r₁.building
-          context_ready = subst (λ (q : Part (List Place)). PlacesReady q l.count sheet ws₁ r₁.building) (sym (list_part one_place context_is g)) (record {
+          pub context_ready : PlacesReady (several m.count one_place sheet m.first) l.count sheet ws₁ b₁
+          context_ready = subst (λ (q : Part (List Place)). PlacesReady q l.count sheet ws₁ b₁) (sym (list_part one_place context_is g)) (record {
             sound = p.places.sound;
             inside = omega (arith, a.inside, behind);
             below = known s.context a.below.context;
@@ -140,22 +139,22 @@ module _ {sheet : List ℕ} (a : Accepted sheet) where
           pub few_places : l.count + m.count < most_tracked
           few_places = omega (arith, a.below.param_count, a.below.context_count, counts)
 
-          module _ {ws₂ : List ℕ} {r₂ : BuiltPart} (q : PlacesRead (several m.count one_place sheet m.first) l.count ws₁ r₁.building ws₂ r₂) where
-            context_end : r₂.next ≡ at.returns
+          module _ {ws₂ : List ℕ} {b₂ : Building} {d₂ : Position} (q : PlacesRead (several m.count one_place sheet m.first) l.count ws₁ b₁ ws₂ b₂ d₂) where
+            context_end : d₂ ≡ at.returns
             context_end = q.next ∙ list_next one_place context_is g
 
-            pub blocks_begin : r₂.next + 1 + place_width + 1 ≤ length sheet
+            pub blocks_begin : d₂ + 1 + place_width + 1 ≤ length sheet
             blocks_begin = omega (arith, context_end, a.inside, behind)
 
-            returns_are : {x : Place} → x ≡ place_at sheet (r₂.next + 1) → x ≡ s.returns
+            returns_are : {x : Place} → x ≡ place_at sheet (d₂ + 1) → x ≡ s.returns
             returns_are k = k ∙ ap (λ (c : Position). place_at sheet (c + 1)) context_end ∙ returns_is sheet
 
-            pub returns_below : {x : Place} → x ≡ place_at sheet (r₂.next + 1) → x.identifier < most_identifiers
+            pub returns_below : {x : Place} → x ≡ place_at sheet (d₂ + 1) → x.identifier < most_identifiers
             returns_below k = omega (arith, ap (λ (z : Place). z.identifier) (returns_are k), a.below.returns, a.below.identifiers)
 
-            pub tracked-read : (x : HirPlace) → place_is x ≡ place_at sheet (r₂.next + 1) → {ws₃ : List ℕ} → Tracks ws₂ (l.count + m.count) (place_is x) ws₃
-                → {ws₄ : List ℕ} {r : Building} → Steps (changed (create x.identifier.0 object)) 0 0 0 0 ws₃ r₂.building ws₄ r
-                → {n : Listed} → ListAt sheet (r₂.next + 1 + place_width) n → TrackedRead sheet ws b ws₄ (record { params = l.count; context = m.count; returns = x; blocks = n; building = r })
+            pub tracked-read : (x : HirPlace) → place_is x ≡ place_at sheet (d₂ + 1) → {ws₃ : List ℕ} → Tracks ws₂ (l.count + m.count) (place_is x) ws₃
+                → {ws₄ : List ℕ} {r : Building} → Steps (changed (create x.identifier.0 object)) 0 0 0 0 ws₃ b₂ ws₄ r
+                → {n : Listed} → ListAt sheet (d₂ + 1 + place_width) n → TrackedRead sheet ws b ws₄ r (record { params = l.count; context = m.count; returns = x; blocks = n })
             tracked-read x k t {ws₄} {r} u {n} i =
                 let third = places_one q.places.sound t u in
                 let ps = list_what one_place params_is h in

@@ -16,7 +16,6 @@ use Rattle.hir.specs.Words.{Part, word_at, instruction_from, terminal_from, phis
 use Rattle.hir.proofs.Widths.{Rises, listed_rises, terminal_rises, block_rises}
 use Rattle.building.specs.declared.Building.{Building}
 use Rattle.building.specs.Built.{Sound, Holding, ends}
-use Rattle.instructions.specs.declared.Built.{Built as BuiltPart}
 use Rattle.instructions.specs.Cost.{Cost, sum, costs, kind_cost, instruction_cost, terminal_cost, Fits}
 use Rattle.instructions.specs.Ranges.{InstructionInRange, TerminalInRange}
 use Rattle.instructions.specs.Builds.{SpendsOn, Ready, Builds}
@@ -90,15 +89,15 @@ module _ (s : List ℕ) (c : Position) {ws : List ℕ} {b : Building} (w : Ready
     fits = fits_first (costs phi_cost phis.what) (after_phis here) fits;
   }
 
-  module _ {ws₁ : List ℕ} {r₁ : BuiltPart} (phis_built : Builds phis (each phi_node) (costs phi_cost) s ws b ws₁ r₁) where
-    instructions_are : instructions ≡ instructions_from s r₁.next
+  module _ {ws₁ : List ℕ} {b₁ : Building} {d₁ : Position} (phis_built : Builds phis (each phi_node) (costs phi_cost) s ws b ws₁ b₁ d₁) where
+    instructions_are : instructions ≡ instructions_from s d₁
     instructions_are = ap (instructions_from s) (sym phis_built.next)
 
-    fits_instructions : Fits (after_phis here) r₁.building
+    fits_instructions : Fits (after_phis here) b₁
     fits_instructions = fits_second (costs phi_cost phis.what) (after_phis here) fits phis_built.spends
 
     -- its instructions can be built
-    pub instructions_ready : Ready (instructions_from s r₁.next) (Every InstructionInRange) (costs instruction_cost) s ws₁ r₁.building
+    pub instructions_ready : Ready (instructions_from s d₁) (Every InstructionInRange) (costs instruction_cost) s ws₁ b₁
     instructions_ready = ready_as instructions_are (record {
       sound = phis_built.spends.sound;
       holding = phis_built.spends.holding w.holding;
@@ -107,23 +106,23 @@ module _ (s : List ℕ) (c : Position) {ws : List ℕ} {b : Building} (w : Ready
       fits = fits_first (costs instruction_cost instructions.what) (after_instructions here) fits_instructions;
     })
 
-    module _ {ws₂ : List ℕ} {r₂ : BuiltPart} (built : Builds (instructions_from s r₁.next) (each instruction_step) (costs instruction_cost) s ws₁ r₁.building ws₂ r₂) where
-      instructions_built : Builds instructions (each instruction_step) (costs instruction_cost) s ws₁ r₁.building ws₂ r₂
+    module _ {ws₂ : List ℕ} {b₂ : Building} {d₂ : Position} (built : Builds (instructions_from s d₁) (each instruction_step) (costs instruction_cost) s ws₁ b₁ ws₂ b₂ d₂) where
+      instructions_built : Builds instructions (each instruction_step) (costs instruction_cost) s ws₁ b₁ ws₂ b₂ d₂
       instructions_built = builds_as instructions_are built
 
-      terminal_is : terminal ≡ terminal_from s r₂.next
+      terminal_is : terminal ≡ terminal_from s d₂
       terminal_is = ap (terminal_from s) (sym instructions_built.next)
 
-      fits_end : Fits (after_instructions here) r₂.building
+      fits_end : Fits (after_instructions here) b₂
       fits_end = fits_second (costs instruction_cost instructions.what) (after_instructions here) fits_instructions instructions_built.spends
 
       -- it can end
-      pub can_end : (Sound ws₂ r₂.building × Holding s ws₂ r₂.building) × (r₂.building.come < most_blocks)
+      pub can_end : (Sound ws₂ b₂ × Holding s ws₂ b₂) × (b₂.come < most_blocks)
       can_end = ((built.spends.sound, built.spends.holding (phis_built.spends.holding w.holding)), omega (arith, fits_end.blocks))
 
-      module _ (number : BlockId) (named : number ≡ word_at s c) {ws₃ : List ℕ} {b₃ : Building} (woken : SpendsOn s (ends number) one_block ws₂ r₂.building ws₃ b₃) where
+      module _ (number : BlockId) (named : number ≡ word_at s c) {ws₃ : List ℕ} {b₃ : Building} (woken : SpendsOn s (ends number) one_block ws₂ b₂ ws₃ b₃) where
         -- its terminal can be built
-        pub terminal_ready : Ready (terminal_from s r₂.next) TerminalInRange terminal_cost s ws₃ b₃
+        pub terminal_ready : Ready (terminal_from s d₂) TerminalInRange terminal_cost s ws₃ b₃
         terminal_ready = ready_as terminal_is (record {
           sound = woken.sound;
           holding = woken.holding can_end.0.1;
@@ -133,13 +132,13 @@ module _ (s : List ℕ) (c : Position) {ws : List ℕ} {b : Building} (w : Ready
         })
 
         -- and with it the block is built
-        pub block_builds : (returns : Place) {ws' : List ℕ} {r : BuiltPart} → Builds (terminal_from s r₂.next) (terminal_step returns) terminal_cost s ws₃ b₃ ws' r → Builds (block_from s c) (block_step returns) block_cost s ws b ws' r
+        pub block_builds : (returns : Place) {ws' : List ℕ} {r : Building} {d : Position} → Builds (terminal_from s d₂) (terminal_step returns) terminal_cost s ws₃ b₃ ws' r d → Builds (block_from s c) (block_step returns) block_cost s ws b ws' r d
         unfolding block_from block_step
-        block_builds returns {ws'} {r} h =
+        block_builds returns {ws'} {r} {d} h =
             let o = builds_as terminal_is h in
             let x₃ = spends_then one_block (terminal_cost terminal.what) woken o.spends in
             let x₂ = spends_then (costs instruction_cost instructions.what) (after_instructions here) instructions_built.spends x₃ in
             let x₁ = spends_then (costs phi_cost phis.what) (after_phis here) phis_built.spends x₂ in
-            let x = subst (λ (i : BlockId). SpendsOn s (λ (t : Built). terminal_step returns terminal.what (ends i (each instruction_step instructions.what (each phi_node phis.what t)))) (sum (costs phi_cost phis.what) (after_phis here)) ws b ws' r.building) named x₁ in
+            let x = subst (λ (i : BlockId). SpendsOn s (λ (t : Built). terminal_step returns terminal.what (ends i (each instruction_step instructions.what (each phi_node phis.what t)))) (sum (costs phi_cost phis.what) (after_phis here)) ws b ws' r) named x₁ in
             let y = spends_as (λ (t : Built). ap (λ (z : Built). terminal_step returns terminal.what (wake (word_at s c) z)) (sym (instructions_come (word_at s c) instructions.what (each phi_node phis.what t)))) x in
-            record { spends = subst (λ (k : Cost). SpendsOn s (block_step returns here) k ws b ws' r.building) (sym (block_cost_lem here)) y; next = o.next }
+            record { spends = subst (λ (k : Cost). SpendsOn s (block_step returns here) k ws b ws' r) (sym (block_cost_lem here)) y; next = o.next }

@@ -40,6 +40,6 @@ module _ (s : List ℕ) (c : Position) {ws : List ℕ} {b : Building} (w : Ready
     next_inside = omega (arith, next_is, w.inside)
 
     pub phi_builds : {ws' : List ℕ} {r : Building} → StepsOn s (phi_node (phi_from s c).what) (length (phi_from s c).what.operands) 0 0 0 ws b ws' r
-        → Builds (phi_from s c) phi_node phi_cost s ws b ws' (record { building = r; next = p.operands.first + p.operands.count * operand_width })
+        → Builds (phi_from s c) phi_node phi_cost s ws b ws' r (p.operands.first + p.operands.count * operand_width)
     unfolding phi_cost
     phi_builds x = record { spends = x; next = next_is }

@@ -58,8 +58,8 @@ function_of t u = record {
   blocks = u.blocks;
 }
 
-module _ {sheet : List ℕ} (a : Accepted sheet) {ws ws₁ : List ℕ} {t : Top} (size : LEAST ≤ length ws) (T : TopRead sheet ws ws₁ t) {ws₂ : List ℕ} {b : Building} (start : Starts ws₁ ws₂ b) {ws₃ : List ℕ} {u : Tracked}
-    (U : TrackedRead sheet ws₂ b ws₃ u) where
+module _ {sheet : List ℕ} (a : Accepted sheet) {ws ws₁ : List ℕ} {t : Top} (size : LEAST ≤ length ws) (T : TopRead sheet ws ws₁ t) {ws₂ : List ℕ} {b : Building} (start : Starts ws₁ ws₂ b) {ws₃ : List ℕ} {r : Building} {u : Tracked}
+    (U : TrackedRead sheet ws₂ b ws₃ r u) where
   describes : Describes (sheet_of sheet) sheet (function_of t u)
   describes = record {
     errors = T.errors;
@@ -87,7 +87,7 @@ module _ {sheet : List ℕ} (a : Accepted sheet) {ws ws₁ : List ℕ} {t : Top}
     returns = omega (arith, ap (λ (p : Place). p.identifier) U.returns, a.below.returns, describes.n);
   }
 
-  first : First (sheet_of sheet) ws₃ u.building
+  first : First (sheet_of sheet) ws₃ r
   first = record {
     built = λ z.
         let nodes = ap (each created_for (first_places (sheet_of sheet))) (start.built z) ∙ first_nodes_lem (sheet_of sheet) in
@@ -148,7 +148,7 @@ module _ {sheet : List ℕ} (a : Accepted sheet) {ws ws₁ : List ℕ} {t : Top}
         tracked = ap (tracked_of ws₃) n ∙ U.places.tracked ∙ ap (λ (l : List Place). l ++ first_places (sheet_of sheet)) (none_tracked ws₂);
       }
 
-  pub function-read : FunctionRead sheet ws ws₃ (record { function = function_of t u; building = u.building })
+  pub function-read : FunctionRead sheet ws ws₃ (record { function = function_of t u; building = r })
   function-read = record {
     describes = describes;
     limited = limited;

@@ -12,6 +12,7 @@ use Rattle.model.specs.Graph.{object, create}
 use Rattle.model.specs.Built.{Built, held_in}
 use Rattle.model.specs.Building.{first_places, no_nodes, first_nodes, build}
 use Rattle.model.specs.Building.{block as block_step}
+use Rattle.model.specs.Reading.{Position}
 use Rattle.model.proofs.HeldMore.{create_less}
 use Rattle.model.proofs.Limited.{not-over}
 use Rattle.model.proofs.Counted.{tally_one}
@@ -20,7 +21,6 @@ use Rattle.hir.specs.Words.{several, block_from}
 use Rattle.building.specs.declared.Building.{Building}
 use Rattle.building.specs.Built.{nothing}
 use Rattle.building.proofs.Operands.{built_eq}
-use Rattle.instructions.specs.declared.Built.{Built as BuiltPart}
 use Rattle.instructions.specs.Cost.{costs, Fits}
 use Rattle.instructions.specs.Builds.{SpendsOn, Ready, Builds}
 use Rattle.dataflow.specs.Cost.{block_cost}
@@ -49,12 +49,12 @@ blocks_spent l = tally_one l
 
 module _ {t : Sheet} {sheet : List ℕ} {f : HirFunction} (d : Describes t sheet f) {ws : List ℕ} {b : Building} (first : First t ws b) where
   -- the building of all blocks is that of the sheet
-  pub blocks_whole : {ws' : List ℕ} {r : BuiltPart} → Builds (several f.blocks.count block_from sheet f.blocks.first) (each (block_step (place_is f.returns))) (costs block_cost) sheet ws b ws' r → Whole t sheet ws ws' r.building
+  pub blocks_whole : {ws' : List ℕ} {r : Building} {d : Position} → Builds (several f.blocks.count block_from sheet f.blocks.first) (each (block_step (place_is f.returns))) (costs block_cost) sheet ws b ws' r d → Whole t sheet ws ws' r
   unfolding first_built build
   blocks_whole {ws'} {r} h =
-      let x : SpendsOn sheet (each (block_step t.returns) t.blocks) (costs block_cost t.blocks) ws b ws' r.building =
-      subst (λ (p : Place). SpendsOn sheet (each (block_step p) t.blocks) (costs block_cost t.blocks) ws b ws' r.building) d.returns
-      (subst (λ (l : List Block). SpendsOn sheet (each (block_step (place_is f.returns)) l) (costs block_cost l) ws b ws' r.building) d.blocks h.spends) in
+      let x : SpendsOn sheet (each (block_step t.returns) t.blocks) (costs block_cost t.blocks) ws b ws' r =
+      subst (λ (p : Place). SpendsOn sheet (each (block_step p) t.blocks) (costs block_cost t.blocks) ws b ws' r) d.returns
+      (subst (λ (l : List Block). SpendsOn sheet (each (block_step (place_is f.returns)) l) (costs block_cost l) ws b ws' r) d.blocks h.spends) in
       record {
         built = λ a. x.built a ∙ ap (each (block_step t.returns) t.blocks) (first.built sheet);
         over = λ a. omega (arith, x.over a, ap (λ (c : Built). (each (block_step t.returns) t.blocks c).held) (first.built sheet));

@@ -25,7 +25,6 @@ use Rattle.building.proofs.Stages.{steps_within}
 use Rattle.dataflow.specs.Whole.{created_for}
 use Rattle.workspace.specs.Tracked.{tracked_of, Tracks}
 use Rattle.workspace.proofs.Places.{tracked_kept}
-use Rattle.instructions.specs.declared.Built.{Built as BuiltPart}
 use Rattle.dataflow.specs.Places.{Places, PlacesReady, PlacesRead}
 use Rattle.dataflow.proofs.Staying.{built_stays, holding_stays, sound_stays}
 
@@ -110,19 +109,19 @@ module _ (sheet : List ℕ) (whole : Part (List Place)) (first₀ : ℕ) (ws₀ 
   pub record Placing (left : ℕ) (c : Position) (first : ℕ) (ws : List ℕ) (b : Building) : Type 0 where
     pub same : length ws ≡ length ws₀
     pub ready : PlacesReady (several left one_place sheet c) first sheet ws b
-    pub rest : (ws' : List ℕ) (r : BuiltPart) → PlacesRead (several left one_place sheet c) first ws b ws' r → PlacesRead whole first₀ ws₀ b₀ ws' r
+    pub rest : (ws' : List ℕ) (r : Building) (d : Position) → PlacesRead (several left one_place sheet c) first ws b ws' r d → PlacesRead whole first₀ ws₀ b₀ ws' r d
 
 pub placing_start : {sheet : List ℕ} {left : ℕ} {c : Position} {first : ℕ} {ws : List ℕ} {b : Building} → PlacesReady (several left one_place sheet c) first sheet ws b
     → {k : ℕ} → k ≡ left → Placing sheet (several left one_place sheet c) first ws b k c first ws b
 placing_start {sheet} {left} {c} {first} {ws} {b} w e =
-    subst (λ (k : ℕ). Placing sheet (several left one_place sheet c) first ws b k c first ws b) (sym e) (record { same = refl; ready = w; rest = λ ws' r h. h })
+    subst (λ (k : ℕ). Placing sheet (several left one_place sheet c) first ws b k c first ws b) (sym e) (record { same = refl; ready = w; rest = λ ws' r d h. h })
 
 module _ {sheet : List ℕ} {whole : Part (List Place)} {first₀ : ℕ} {ws₀ : List ℕ} {b₀ : Building} {left : ℕ} {c : Position} {first : ℕ} {ws : List ℕ} {b : Building}
     (v : Placing sheet whole first₀ ws₀ b₀ left c first ws b) where
   -- nothing is left
-  pub placing_done : left ≤ 0 → PlacesRead whole first₀ ws₀ b₀ ws (record { building = b; next = c })
+  pub placing_done : left ≤ 0 → PlacesRead whole first₀ ws₀ b₀ ws b c
   placing_done h =
-      v.rest ws _ (subst (λ (q : Part (List Place)). PlacesRead q first ws b ws (record { building = b; next = c })) (sym (several_none one_place sheet left c h)) (record { places = places_none first ws b v.ready.sound; next = refl }))
+      v.rest ws _ _ (subst (λ (q : Part (List Place)). PlacesRead q first ws b ws b c) (sym (several_none one_place sheet left c h)) (record { places = places_none first ws b v.ready.sound; next = refl }))
 
   module _ (h : 0 < left) where
     abbrev others : Part (List Place)
@@ -150,8 +149,8 @@ module _ {sheet : List ℕ} {whole : Part (List Place)} {first₀ : ℕ} {ws₀ 
           record {
             same = one.same ∙ v.same;
             ready = record { sound = one.sound; inside = now_ready.inside; below = now_ready.below.1; room = omega (arith, now_ready.room) };
-            rest = λ ws' r' g.
-                v.rest ws' r' (subst (λ (q : Part (List Place)). PlacesRead q first ws b ws' r') (sym here) (record { places = places_then one refl g.places; next = g.next }));
+            rest = λ ws' r' d' g.
+                v.rest ws' r' d' (subst (λ (q : Part (List Place)). PlacesRead q first ws b ws' r' d') (sym here) (record { places = places_then one refl g.places; next = g.next }));
           }
 
       pub placing_turn : {ws₁ : List ℕ} → Tracks ws first p ws₁ → {ws₂ : List ℕ} {r : Building} → Steps (changed (create p.identifier object)) 0 0 0 0 ws₁ b ws₂ r

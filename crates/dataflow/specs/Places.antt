@@ -5,6 +5,7 @@ use Rattle.model.specs.Limits.{most_identifiers, most_relations, most_params, mo
 use Rattle.model.specs.Lists.{each, Every}
 use Rattle.model.specs.Sheet.{Place}
 use Rattle.model.specs.Ranges.{PlaceBelow}
+use Rattle.model.specs.Reading.{Position}
 use Rattle.model.specs.Building.{first_places}
 use Rattle.hir.specs.Says.{place_is}
 use Rattle.hir.specs.Words.{Part}
@@ -13,7 +14,6 @@ use Rattle.workspace.specs.Layout.{SEEN, FUNCTIONS, TRACKED}
 use Rattle.workspace.specs.Tracked.{tracked_of}
 use Rattle.building.specs.declared.Building.{Building}
 use Rattle.building.specs.Built.{built_of, Sound, Holding}
-use Rattle.instructions.specs.declared.Built.{Built as BuiltPart}
 use Rattle.dataflow.specs.Whole.{created_for}
 use Rattle.dataflow.specs.Accepted.{sections_of, sheet_of}
 use Rattle.dataflow.specs.declared.parameters.Tracked.{Tracked}
@@ -40,13 +40,13 @@ pub record PlacesReady (part : Part (List Place)) (first : ℕ) (sheet ws : List
   pub room : first + length part.what ≤ most_params + most_context
 
 -- they were, and the reading goes on after them
-pub record PlacesRead (part : Part (List Place)) (first : ℕ) (ws : List ℕ) (b : Building) (ws' : List ℕ) (r : BuiltPart) : Type 0 where
-  pub places : Places part.what first ws b ws' r.building
-  pub next : r.next ≡ part.next
+pub record PlacesRead (part : Part (List Place)) (first : ℕ) (ws : List ℕ) (b : Building) (ws' : List ℕ) (b' : Building) (d : Position) : Type 0 where
+  pub places : Places part.what first ws b ws' b'
+  pub next : d ≡ part.next
 
 -- parameters, context and returns of the sheet, and its blocks
-pub record TrackedRead (sheet ws : List ℕ) (b : Building) (ws' : List ℕ) (t : Tracked) : Type 0 where
-  pub places : Places (first_places (sheet_of sheet)) 0 ws b ws' t.building
+pub record TrackedRead (sheet ws : List ℕ) (b : Building) (ws' : List ℕ) (b' : Building) (t : Tracked) : Type 0 where
+  pub places : Places (first_places (sheet_of sheet)) 0 ws b ws' b'
   pub params : t.params ≡ length (sheet_of sheet).params
   pub context : t.context ≡ length (sheet_of sheet).context
   pub returns : place_is t.returns ≡ (sheet_of sheet).returns

@@ -15,47 +15,43 @@ ghost use Rattle.dataflow.specs.Ranges.{BlockInRange};
 use crate::phis::build_phis;
 use building::Building;
 use hir::Place;
-use hir::at::number_at;
+use hir::at::{List, number_at};
+use instructions::build_instructions;
 use instructions::terminals::build_terminal;
-use instructions::{Built, build_instructions};
 
 pub mod function;
 pub mod header;
 pub mod parameters;
 mod phis;
 
-// A block: its phis, its instructions, what waits for it, its terminal. That it has come is noted with what waits: no instruction asks.
-fn build_block(at: usize, s: &[u32], ws: &mut [u32], b: Building, returns: Place) -> Built
+// A block: its phis, its instructions, what waits for it, its terminal; the position after it. That it has come is noted with what waits: no instruction asks.
+fn build_block(at: usize, s: &[u32], ws: &mut [u32], b: &mut Building, returns: Place) -> usize
     requires place_below { PlaceBelow most_identifiers (place_is returns) }
-    requires ready { Ready (block_from s.now at) BlockInRange block_cost s.now ws.old b }
-    ensures { Builds (block_from s.now at) (block_step (place_is returns)) block_cost s.now ws.old b ws.new result }
+    requires ready { Ready (block_from s.now at) BlockInRange block_cost s.now ws.old b.old }
+    ensures { Builds (block_from s.now at) (block_step (place_is returns)) block_cost s.now ws.old b.old ws.new b.new result }
 {
     let number = number_at(s, at);
-    let phis = build_phis(at + 1, s, ws, b);
-    let instructions = build_instructions(phis.next, s, ws, phis.building);
-    let woken = instructions.building.wake(s, ws, number);
-    build_terminal(instructions.next, s, ws, woken, returns)
+    let next = build_phis(at + 1, s, ws, b);
+    let next = build_instructions(next, s, ws, b);
+    b.wake(s, ws, number);
+    build_terminal(next, s, ws, b, returns)
 }
 
-// `count` blocks.
+// The blocks; the position after them.
 pub fn build_blocks(
-    start: usize,
-    count: u32,
+    blocks: List,
     s: &[u32],
     ws: &mut [u32],
-    b: Building,
+    b: &mut Building,
     returns: Place,
-) -> Built
+) -> usize
     requires place_below { PlaceBelow most_identifiers (place_is returns) }
-    requires ready { Ready (several count block_from s.now start) (Every BlockInRange) (costs block_cost) s.now ws.old b }
-    ensures { Builds (several count block_from s.now start) (each (block_step (place_is returns))) (costs block_cost) s.now ws.old b ws.new result }
+    requires ready { Ready (several blocks.count block_from s.now blocks.first) (Every BlockInRange) (costs block_cost) s.now ws.old b.old }
+    ensures { Builds (several blocks.count block_from s.now blocks.first) (each (block_step (place_is returns))) (costs block_cost) s.now ws.old b.old ws.new b.new result }
 {
-    let mut built = Built {
-        building: b,
-        next: start,
-    };
-    for _ in 0..count {
-        built = build_block(built.next, s, ws, built.building, returns);
+    let mut next = blocks.first;
+    for _ in 0..blocks.count {
+        next = build_block(next, s, ws, b, returns);
     }
-    built
+    next
 }

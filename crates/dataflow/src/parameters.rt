@@ -13,56 +13,52 @@ use crate::header::read_top;
 use building::{Building, NodeValue};
 use hir::Place;
 use hir::at::{List, PLACE_WIDTH, list_at, place_at};
-use instructions::Built;
 use workspace::tracked::track;
 
-// The places of a list, tracked from number `first` on; each gets a node.
-fn read_places(sheet: &[u32], list: List, first: usize, ws: &mut [u32], b: Building) -> Built
-    requires { PlacesReady (several list.count (wide place_width place_at) sheet.now list.first) first sheet.now ws.old b }
-    ensures { PlacesRead (several list.count (wide place_width place_at) sheet.now list.first) first ws.old b ws.new result }
+// The places of a list, tracked from number `first` on; each gets a node. The position after them.
+fn read_places(sheet: &[u32], list: List, first: usize, ws: &mut [u32], b: &mut Building) -> usize
+    requires { PlacesReady (several list.count (wide place_width place_at) sheet.now list.first) first sheet.now ws.old b.old }
+    ensures { PlacesRead (several list.count (wide place_width place_at) sheet.now list.first) first ws.old b.old ws.new b.new result }
 {
     let mut next = list.first;
-    let mut building = b;
     for i in first..first + list.count as usize {
         let p = place_at(sheet, next);
         track(ws, i, p);
-        building = building.create(ws, p.identifier, NodeValue::Object);
+        b.create(ws, p.identifier, NodeValue::Object);
         next += PLACE_WIDTH;
     }
-    Built { building, next }
+    next
 }
 
-// How many parameters and context places there are, returns, the blocks, and the building with the nodes of all of them.
+// How many parameters and context places there are, returns, and the blocks.
 #[derive(Clone, Copy)]
 pub struct Tracked {
     pub params: u32,
     pub context: u32,
     pub returns: Place,
     pub blocks: List,
-    pub building: Building,
 }
 
-// The sections from the parameters, which stand at `at`, up to the blocks.
-fn read_tracked(sheet: &[u32], at: usize, ws: &mut [u32], b: Building) -> Tracked
+// The sections from the parameters, which stand at `at`, up to the blocks; each place gets a node.
+fn read_tracked(sheet: &[u32], at: usize, ws: &mut [u32], b: &mut Building) -> Tracked
     requires accepted { Accepted sheet.now }
     requires at_value { at ≡ (sections_of sheet.now).params }
-    requires sound { Sound ws.old b }
-    ensures { TrackedRead sheet.now ws.old b ws.new result }
+    requires sound { Sound ws.old b.old }
+    ensures { TrackedRead sheet.now ws.old b.old ws.new b.new result }
 {
     let params = list_at(sheet, at);
-    let p = read_places(sheet, params, 0, ws, b);
-    let context = list_at(sheet, p.next);
-    let c = read_places(sheet, context, params.count as usize, ws, p.building);
-    let returns = place_at(sheet, c.next + 1);
+    let after_params = read_places(sheet, params, 0, ws, b);
+    let context = list_at(sheet, after_params);
+    let after = read_places(sheet, context, params.count as usize, ws, b);
+    let returns = place_at(sheet, after + 1);
     track(ws, (params.count + context.count) as usize, returns);
-    let building = c.building.create(ws, returns.identifier, NodeValue::Object);
-    let blocks = list_at(sheet, c.next + 1 + PLACE_WIDTH);
+    b.create(ws, returns.identifier, NodeValue::Object);
+    let blocks = list_at(sheet, after + 1 + PLACE_WIDTH);
     Tracked {
         params: params.count,
         context: context.count,
         returns,
         blocks,
-        building,
     }
 }
 
@@ -73,8 +69,8 @@ pub fn read_function(sheet: &[u32], ws: &mut [u32]) -> Read
     ensures { FunctionRead sheet.now ws.old ws.new result }
 {
     let top = read_top(sheet, ws);
-    let start = building::start(ws);
-    let t = read_tracked(sheet, top.next, ws, start);
+    let mut building = building::start(ws);
+    let t = read_tracked(sheet, top.next, ws, &mut building);
     Read {
         function: HirFunction {
             errors: top.errors,
@@ -88,6 +84,6 @@ pub fn read_function(sheet: &[u32], ws: &mut [u32]) -> Read
             returns: t.returns,
             blocks: t.blocks,
         },
-        building: t.building,
+        building,
     }
 }

@@ -9,33 +9,26 @@ ghost use Rattle.dataflow.specs.Ranges.{PhiInRange};
 
 use building::Building;
 use hir::at::{OPERAND_WIDTH, list_at, phi_at};
-use instructions::Built;
 
-// A phi: its node, then its operands.
-fn build_phi(at: usize, s: &[u32], ws: &mut [u32], b: Building) -> Built
-    requires { Ready (phi_from s.now at) PhiInRange phi_cost s.now ws.old b }
-    ensures { Builds (phi_from s.now at) phi_node phi_cost s.now ws.old b ws.new result }
+// A phi: its node, then its operands; the position after it.
+fn build_phi(at: usize, s: &[u32], ws: &mut [u32], b: &mut Building) -> usize
+    requires { Ready (phi_from s.now at) PhiInRange phi_cost s.now ws.old b.old }
+    ensures { Builds (phi_from s.now at) phi_node phi_cost s.now ws.old b.old ws.new b.new result }
 {
     let operands = phi_at(s, at).operands;
-    let building = b.phi(s, ws, at);
-    Built {
-        building,
-        next: operands.first + operands.count as usize * OPERAND_WIDTH,
-    }
+    b.phi(s, ws, at);
+    operands.first + operands.count as usize * OPERAND_WIDTH
 }
 
-// A block's phis.
-pub fn build_phis(at: usize, s: &[u32], ws: &mut [u32], b: Building) -> Built
-    requires { Ready (phis_from s.now at) (Every PhiInRange) (costs phi_cost) s.now ws.old b }
-    ensures { Builds (phis_from s.now at) (each phi_node) (costs phi_cost) s.now ws.old b ws.new result }
+// A block's phis; the position after them.
+pub fn build_phis(at: usize, s: &[u32], ws: &mut [u32], b: &mut Building) -> usize
+    requires { Ready (phis_from s.now at) (Every PhiInRange) (costs phi_cost) s.now ws.old b.old }
+    ensures { Builds (phis_from s.now at) (each phi_node) (costs phi_cost) s.now ws.old b.old ws.new b.new result }
 {
     let list = list_at(s, at);
-    let mut built = Built {
-        building: b,
-        next: list.first,
-    };
+    let mut next = list.first;
     for _ in 0..list.count {
-        built = build_phi(built.next, s, ws, built.building);
+        next = build_phi(next, s, ws, b);
     }
-    built
+    next
 }

@@ -14,7 +14,6 @@ use Rattle.hir.specs.Parts.{InstructionAt}
 use Rattle.hir.proofs.Absent.{present_list, effects_are_lem}
 use Rattle.hir.proofs.Widths.{Rises, instruction_rises}
 use Rattle.building.specs.declared.Building.{Building}
-use Rattle.instructions.specs.declared.Built.{Built as BuiltPart}
 use Rattle.instructions.specs.Cost.{costs, effect_cost, instruction_cost, Fits}
 use Rattle.instructions.specs.Ranges.{InRange, InstructionInRange}
 use Rattle.instructions.specs.Builds.{effect_step, SpendsOn, Ready, Builds}
@@ -35,12 +34,12 @@ module _ {s : List ℕ} {c : Position} {i : Instruction} (h : InstructionAt s c 
       ready_as (effects_are_lem s (effects_at s c) h.effects)
       (record { sound = w.sound; holding = w.holding; inside = w.inside; range = subst (Every InRange) same w.range; fits = subst (λ (l : EffectList). Fits (costs effect_cost l) b) same w.fits })
 
-  pub instruction_builds : {ws' : List ℕ} {r : BuiltPart} → Builds (several i.effects.count one_effect s i.effects.first) (each (effect_step i.order.0)) (costs effect_cost) s ws b ws' r
-      → Builds (instruction_from s c) instruction_step instruction_cost s ws b ws' r
+  pub instruction_builds : {ws' : List ℕ} {r : Building} {d : Position} → Builds (several i.effects.count one_effect s i.effects.first) (each (effect_step i.order.0)) (costs effect_cost) s ws b ws' r d
+      → Builds (instruction_from s c) instruction_step instruction_cost s ws b ws' r d
   unfolding instruction_from instruction_cost instruction_step
-  instruction_builds {ws'} {r} g =
-      let o = subst (λ (o : EvaluationOrder). Builds (present_from s (effects_at s c)) (each (effect_step o)) (costs effect_cost) s ws b ws' r) h.order (builds_as (effects_are_lem s (effects_at s c) h.effects) g) in
+  instruction_builds {ws'} {r} {d} g =
+      let o = subst (λ (o : EvaluationOrder). Builds (present_from s (effects_at s c)) (each (effect_step o)) (costs effect_cost) s ws b ws' r d) h.order (builds_as (effects_are_lem s (effects_at s c) h.effects) g) in
       record {
-        spends = subst (λ (l : EffectList). SpendsOn s (each (effect_step (word_at s c)) l) (costs effect_cost l) ws b ws' r.building) (sym (present_list s (effects_at s c))) o.spends;
+        spends = subst (λ (l : EffectList). SpendsOn s (each (effect_step (word_at s c)) l) (costs effect_cost l) ws b ws' r) (sym (present_list s (effects_at s c))) o.spends;
         next = o.next;
       }

@@ -24,7 +24,6 @@ use Rattle.hir.specs.Parts.{TerminalAt}
 use Rattle.hir.proofs.Values.{list_end}
 use Rattle.building.specs.declared.Building.{Building}
 use Rattle.building.specs.Built.{index_of}
-use Rattle.instructions.specs.declared.Built.{Built as BuiltPart}
 use Rattle.instructions.specs.Cost.{Cost, relations_only, sum, costs, terminal_effect_cost, terminal_cost, Fits}
 use Rattle.instructions.specs.Ranges.{InRange, TerminalInRange}
 use Rattle.instructions.specs.Builds.{SpendsOn, Spends, and_count, Ready, Builds}
@@ -86,7 +85,7 @@ module _ (s : List ℕ) (c : Position) {ws : List ℕ} {b : Building} (w : Ready
     pub other_inside : l.first + place_width * l.count ≤ length s
     other_inside = omega (arith, list_end s (c + 2) other.1, (ready_as (other_is s c other.0) w).inside)
 
-    pub other_builds : (r : Place) {d : Position} → d ≡ l.first + place_width * l.count → Builds (terminal_from s c) (terminal_step r) terminal_cost s ws b ws (record { building = b; next = d })
+    pub other_builds : (r : Place) {d : Position} → d ≡ l.first + place_width * l.count → Builds (terminal_from s c) (terminal_step r) terminal_cost s ws b ws b d
     unfolding terminal_step terminal_cost
     other_builds r e = builds_as (other_is s c other.0) (record { spends = spends_none w.sound s; next = e ∙ list_end s (c + 2) other.1 })
 
@@ -105,12 +104,12 @@ module _ (s : List ℕ) (c : Position) {ws : List ℕ} {b : Building} (w : Ready
           fits = subst (λ (k : Cost). Fits k b) (throws_cost (word_at s (c + 1)) (effects_from s (c + 2)).what) v.fits;
         })
 
-    pub throw_builds : (r : Place) {ws' : List ℕ} {t : BuiltPart} → Builds (and_count (several l.count one_effect s l.first)) (each terminal_effect) (costs terminal_effect_cost) s ws b ws' t → Builds (terminal_from s c) (terminal_step r) terminal_cost s ws b ws' t
+    pub throw_builds : (r : Place) {ws' : List ℕ} {r' : Building} {d : Position} → Builds (and_count (several l.count one_effect s l.first)) (each terminal_effect) (costs terminal_effect_cost) s ws b ws' r' d → Builds (terminal_from s c) (terminal_step r) terminal_cost s ws b ws' r' d
     unfolding terminal_step
-    throw_builds r {ws'} {t} g =
+    throw_builds r {ws'} {r'} {d} g =
         let o = counted_builds one_effect s (c + 2) throw.1 g in
         let e : EffectList = (effects_from s (c + 2)).what in
-        builds_as (throw_is s c throw.0) (record { spends = subst (λ (k : Cost). SpendsOn s (each terminal_effect e) k ws b ws' t.building) (sym (throws_cost (word_at s (c + 1)) e)) o.spends; next = o.next })
+        builds_as (throw_is s c throw.0) (record { spends = subst (λ (k : Cost). SpendsOn s (each terminal_effect e) k ws b ws' r') (sym (throws_cost (word_at s (c + 1)) e)) o.spends; next = o.next })
 
   module _ {t : CodeTerminal} {v : CodePlace} {l : Listed} (q : t ≡ IsReturn v l) (h : TerminalAt s c t) where
     return : TerminalAt s c (IsReturn v l)
@@ -141,13 +140,13 @@ module _ (s : List ℕ) (c : Position) {ws : List ℕ} {b : Building} (w : Ready
         fits = fits_second (relations_only 1) (costs terminal_effect_cost behind) room (x s);
       })
 
-      pub return_builds : {ws' : List ℕ} {t : BuiltPart} → Builds (and_count (several l.count one_effect s l.first)) (each terminal_effect) (costs terminal_effect_cost) s ws₁ b₁ ws' t → Builds (terminal_from s c) (terminal_step r) terminal_cost s ws b ws' t
+      pub return_builds : {ws' : List ℕ} {r' : Building} {d : Position} → Builds (and_count (several l.count one_effect s l.first)) (each terminal_effect) (costs terminal_effect_cost) s ws₁ b₁ ws' r' d → Builds (terminal_from s c) (terminal_step r) terminal_cost s ws b ws' r' d
       unfolding terminal_step
-      return_builds {ws'} {t} g =
+      return_builds {ws'} {r'} {d} g =
           let o = counted_builds one_effect s (c + 2 + place_width) return.1.1 g in
           let y = subst (λ (p : Place). Spends (between (relate into_aliases) p r) (relations_only 1) ws b ws₁ b₁) return.1.0 x in
           let z = spends_then (relations_only 1) (costs terminal_effect_cost behind) (y s) o.spends in
           builds_as (return_is s c return.0) (record {
-            spends = subst (λ (k : Cost). SpendsOn s (terminal_step r (return_from s c).what) k ws b ws' t.building) (sym (returns_cost (word_at s (c + 1)) (place_at s (c + 2)) behind)) z;
+            spends = subst (λ (k : Cost). SpendsOn s (terminal_step r (return_from s c).what) k ws b ws' r') (sym (returns_cost (word_at s (c + 1)) (place_at s (c + 2)) behind)) z;
             next = o.next;
           })

@@ -1,12 +1,12 @@
 -- What a function promises that builds a part of an accepted sheet: the definition's step of the part that stands there.
 use Rattle.std.specs.Prelude.{ℕ, ◌+◌, ◌≤◌, List, ◌≡◌, length}
 use Rattle.model.specs.Sheet.{EvaluationOrder, Effect}
+use Rattle.model.specs.Reading.{Position}
 use Rattle.model.specs.Built.{Built}
 use Rattle.model.specs.Building.{instruction_effect}
 use Rattle.hir.specs.Words.{Part}
 use Rattle.building.specs.declared.Building.{Building}
 use Rattle.building.specs.Built.{Sound, Holding, StepsOn, Steps}
-use Rattle.instructions.specs.declared.Built.{Built as BuiltPart}
 use Rattle.instructions.specs.Cost.{Cost, Fits}
 
 -- an effect of an instruction with this order
@@ -40,6 +40,6 @@ pub record Ready {A : Type 0} (part : Part A) (in_range : A → Type 0) (cost : 
   pub fits : Fits (cost part.what) b
 
 -- the part is built, and the reading goes on after it
-pub record Builds {A : Type 0} (part : Part A) (step : A → Built → Built) (cost : A → Cost) (s ws : List ℕ) (b : Building) (ws' : List ℕ) (r : BuiltPart) : Type 0 where
-  pub spends : SpendsOn s (step part.what) (cost part.what) ws b ws' r.building
-  pub next : r.next ≡ part.next
+pub record Builds {A : Type 0} (part : Part A) (step : A → Built → Built) (cost : A → Cost) (s ws : List ℕ) (b : Building) (ws' : List ℕ) (b' : Building) (d : Position) : Type 0 where
+  pub spends : SpendsOn s (step part.what) (cost part.what) ws b ws' b'
+  pub next : d ≡ part.next

@@ -19,13 +19,6 @@ use hir::{AliasingEffect, EffectKind, EvaluationOrder, FunctionId, MutationKind,
 
 pub mod terminals;
 
-// The building after a part of the sheet, and the position after it.
-#[derive(Clone, Copy, Debug, PartialEq, Eq)]
-pub struct Built {
-    pub building: Building,
-    pub next: usize,
-}
-
 // The reason that the extra word of Mutate gives, if any.
 fn reason_of(extra: u32) -> Option<MutationReason>
     ensures { reason_says result ≡ reason_of extra }
@@ -38,9 +31,9 @@ fn reason_of(extra: u32) -> Option<MutationReason>
 }
 
 // An effect of an instruction with this order. MutateFrozen, MutateGlobal and Impure matter to the answer alone; Freeze, ImmutableCapture and Apply are no-ops.
-fn build_effect(e: AliasingEffect, order: EvaluationOrder, ws: &mut [u32], b: Building) -> Building
-    requires { Buildable (effect_is e) InRange effect_cost ws.old b }
-    ensures { Spends (effect_step order.0 (effect_is e)) (effect_cost (effect_is e)) ws.old b ws.new result }
+fn build_effect(e: AliasingEffect, order: EvaluationOrder, ws: &mut [u32], b: &mut Building)
+    requires { Buildable (effect_is e) InRange effect_cost ws.old b.old }
+    ensures { Spends (effect_step order.0 (effect_is e)) (effect_cost (effect_is e)) ws.old b.old ws.new b.new }
 {
     let from = e.first.identifier;
     let into = e.second.identifier;
@@ -82,51 +75,47 @@ fn build_effect(e: AliasingEffect, order: EvaluationOrder, ws: &mut [u32], b: Bu
         EffectKind::CreateFrom => b.create_from(ws, from, into),
         EffectKind::CreateFunction => b.create(ws, from, NodeValue::Function(FunctionId(e.extra))),
         EffectKind::Render => b.push_render(ws, from),
-        _ => b,
+        _ => {}
     }
 }
 
-// The effects of an instruction with this order.
+// The effects of an instruction with this order; the position after them.
 fn build_effects(
     list: List,
     s: &[u32],
     order: EvaluationOrder,
     ws: &mut [u32],
-    b: Building,
-) -> Built
-    requires { Ready (several list.count (wide effect_width effect_at) s.now list.first) (Every InRange) (costs effect_cost) s.now ws.old b }
-    ensures { Builds (several list.count (wide effect_width effect_at) s.now list.first) (each (effect_step order.0)) (costs effect_cost) s.now ws.old b ws.new result }
+    b: &mut Building,
+) -> usize
+    requires { Ready (several list.count (wide effect_width effect_at) s.now list.first) (Every InRange) (costs effect_cost) s.now ws.old b.old }
+    ensures { Builds (several list.count (wide effect_width effect_at) s.now list.first) (each (effect_step order.0)) (costs effect_cost) s.now ws.old b.old ws.new b.new result }
 {
     let mut next = list.first;
-    let mut building = b;
     for _ in 0..list.count {
-        building = build_effect(effect_at(s, next), order, ws, building);
+        build_effect(effect_at(s, next), order, ws, b);
         next += EFFECT_WIDTH;
     }
-    Built { building, next }
+    next
 }
 
-// An instruction: its effects.
-fn build_instruction(at: usize, s: &[u32], ws: &mut [u32], b: Building) -> Built
-    requires { Ready (instruction_from s.now at) InstructionInRange instruction_cost s.now ws.old b }
-    ensures { Builds (instruction_from s.now at) instruction_step instruction_cost s.now ws.old b ws.new result }
+// An instruction: its effects; the position after it.
+fn build_instruction(at: usize, s: &[u32], ws: &mut [u32], b: &mut Building) -> usize
+    requires { Ready (instruction_from s.now at) InstructionInRange instruction_cost s.now ws.old b.old }
+    ensures { Builds (instruction_from s.now at) instruction_step instruction_cost s.now ws.old b.old ws.new b.new result }
 {
     let i = instruction_at(s, at);
     build_effects(i.effects, s, i.order, ws, b)
 }
 
-// A block's instructions.
-pub fn build_instructions(at: usize, s: &[u32], ws: &mut [u32], b: Building) -> Built
-    requires { Ready (instructions_from s.now at) (Every InstructionInRange) (costs instruction_cost) s.now ws.old b }
-    ensures { Builds (instructions_from s.now at) (each instruction_step) (costs instruction_cost) s.now ws.old b ws.new result }
+// A block's instructions; the position after them.
+pub fn build_instructions(at: usize, s: &[u32], ws: &mut [u32], b: &mut Building) -> usize
+    requires { Ready (instructions_from s.now at) (Every InstructionInRange) (costs instruction_cost) s.now ws.old b.old }
+    ensures { Builds (instructions_from s.now at) (each instruction_step) (costs instruction_cost) s.now ws.old b.old ws.new b.new result }
 {
     let list = list_at(s, at);
-    let mut built = Built {
-        building: b,
-        next: list.first,
-    };
+    let mut next = list.first;
     for _ in 0..list.count {
-        built = build_instruction(built.next, s, ws, built.building);
+        next = build_instruction(next, s, ws, b);
     }
-    built
+    next
 }

@@ -8,4 +8,4 @@ use Rattle.dataflow.specs.Ranges.{BlockInRange}
 use Rattle.dataflow.proofs.build_blocks.Given as goal
 
 abbrev pub invariant-loop : goal.invariant-loop
-invariant-loop l = Looping block_from BlockInRange (block_step (place_is l.returns)) block_cost l.s (several l.count block_from l.s l.initial.built.next) l.initial.ws l.initial.built.building (l.count - l.counter) l.built.next l.ws l.built.building
+invariant-loop l = Looping block_from BlockInRange (block_step (place_is l.returns)) block_cost l.s (several l.end block_from l.s l.initial.next) l.initial.ws l.initial.b (l.end - l.counter) l.next l.ws l.b

@@ -10,11 +10,11 @@ list_at-list-requires c = list_inside instruction_from rises _ _ c.requires
 pub loop-init : goal.loop-init
 loop-init c = loop_start (list_ready instruction_from _ _ c.list_at-list.ensures c.requires) (omega arith)
 
-pub build_instruction-built-requires : goal.build_instruction-built-requires
-build_instruction-built-requires c = loop_ready c.loop.invariant (omega arith) rises
+pub build_instruction-next-requires : goal.build_instruction-next-requires
+build_instruction-next-requires c = loop_ready c.loop.invariant (omega arith) rises
 
 pub loop-preserved : goal.loop-preserved
-loop-preserved c = loop_turn c.loop.invariant (omega arith) c.build_instruction-built.ensures (omega arith)
+loop-preserved c = loop_turn c.loop.invariant (omega arith) c.build_instruction-next.ensures (omega arith)
 
 pub returns : goal.returns
 returns c = list_builds instruction_from _ _ c.list_at-list.ensures (loop_done c.loop.invariant (omega arith))

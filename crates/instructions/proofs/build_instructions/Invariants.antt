@@ -7,4 +7,4 @@ use Rattle.instructions.proofs.Building.{Looping}
 use Rattle.instructions.proofs.build_instructions.Given as goal
 
 abbrev pub invariant-loop : goal.invariant-loop
-invariant-loop l = Looping instruction_from InstructionInRange instruction_step instruction_cost l.s (several l.end instruction_from l.s l.initial.built.next) l.initial.ws l.initial.built.building (l.end - l.counter) l.built.next l.ws l.built.building
+invariant-loop l = Looping instruction_from InstructionInRange instruction_step instruction_cost l.s (several l.end instruction_from l.s l.initial.next) l.initial.ws l.initial.b (l.end - l.counter) l.next l.ws l.b

@@ -3,4 +3,4 @@ use Rattle.building.proofs.Building.relate.Goals as goal
 
 pub returns : goal.returns
 returns c =
-    relation _ _ _ _ _ c.requires.sound c.requires.self_bound.0 _ c.index.ensures c.store.ensures
+    relation _ _ _ _ _ c.requires.sound c.requires.self_bound.0 _ c.index-index.ensures c.store.ensures

@@ -7,4 +7,4 @@ returns-then-h-ge-MOST_RELATIONS c =
 
 pub returns : goal.returns
 returns c =
-    edge-stored _ _ _ c.requires.room c.requires.w_value c.if-h-ge-MOST_RELATIONS.false c.max.ensures
+    edge-stored _ _ _ c.requires.room c.requires.w_value c.if-h-ge-MOST_RELATIONS.false c.max-h.ensures

@@ -12,4 +12,4 @@ returns-then-h-ge-MOST_RELATIONS c =
 
 pub returns : goal.returns
 returns c =
-    entry_stored _ _ _ c.requires.room c.requires.w_value (sym c.has_entry.ensures ∙ c.if-has_entry.false) c.if-h-ge-MOST_RELATIONS.false c.max.ensures
+    entry_stored _ _ _ c.requires.room c.requires.w_value (sym c.has_entry.ensures ∙ c.if-has_entry.false) c.if-h-ge-MOST_RELATIONS.false c.max-h.ensures

@@ -5,10 +5,10 @@ use mathlib.Core.Bool.{not}
 use mathlib.Core.Path.{ap}
 use Rattle.building.proofs.phis.store_operand.Goals as goal
 
-pub returns-then-not-has_come : goal.returns-then-not-has_come
-returns-then-not-has_come c =
-    one_passed (from c.args.first c.args.count c.args.ws.now) (waiting_at c.args.into.0 c.args.index (operand_is c.args.o)) _ c.has_come.ensures (ap not c.if-not-has_come.true) c.requires.room
+pub returns-then-has_come : goal.returns-then-has_come
+returns-then-has_come c =
+    one-stored (from c.args.first c.args.count c.args.ws.now) (waiting_at c.args.into.0 c.args.index (operand_is c.args.o)) _ c.has_come.ensures (ap not c.if-has_come.true) c.store.ensures
 
-pub returns : goal.returns
-returns c =
-    one-stored (from c.args.first c.args.count c.args.ws.now) (waiting_at c.args.into.0 c.args.index (operand_is c.args.o)) _ c.has_come.ensures (ap not c.if-not-has_come.false) c.store.ensures
+pub returns-else-has_come : goal.returns-else-has_come
+returns-else-has_come c =
+    one_passed (from c.args.first c.args.count c.args.ws.now) (waiting_at c.args.into.0 c.args.index (operand_is c.args.o)) _ c.has_come.ensures (ap not c.if-has_come.false) c.requires.room

@@ -15,8 +15,8 @@ loop-index-init c = operands_start _ _ _ c.phi_at-phi.ensures c.requires.stands.
 pub operand_at-requires : goal.operand_at-requires
 operand_at-requires c = operand_inside c.loop-index.invariant (omega arith)
 
-pub store_operand-held-requires-clause-identifier_lt_most_identifiers : goal.store_operand-held-requires-clause-identifier_lt_most_identifiers
-store_operand-held-requires-clause-identifier_lt_most_identifiers c =
+pub store_operand-requires-clause-identifier_lt_most_identifiers : goal.store_operand-requires-clause-identifier_lt_most_identifiers
+store_operand-requires-clause-identifier_lt_most_identifiers c =
     let more = operand_index c.loop-index.invariant (omega arith) in
     (operand_below c.loop-index.invariant (omega arith) c.operand_at.ensures, (c.loop-index.invariant.known, (more, c.loop-index.invariant.few)))
 
@@ -24,7 +24,7 @@ pub overflow_add-next : goal.overflow_add-next
 overflow_add-next c = omega (arith, operand_inside c.loop-index.invariant (omega arith))
 
 pub loop-index-preserved : goal.loop-index-preserved
-loop-index-preserved c = operands_turn c.loop-index.invariant (omega arith) c.operand_at.ensures c.store_operand-held.ensures (omega arith)
+loop-index-preserved c = operands_turn c.loop-index.invariant (omega arith) c.operand_at.ensures c.store_operand.ensures (omega arith)
 
 pub returns : goal.returns
 returns c = operands_done c.loop-index.invariant (omega arith)

@@ -11,17 +11,17 @@ place_at-p-requires c = place_inside c.loop-i.invariant (omega arith)
 pub track-requires-clause-identifier_lt_most_identifiers : goal.track-requires-clause-identifier_lt_most_identifiers
 track-requires-clause-identifier_lt_most_identifiers c = place-below c.loop-i.invariant (omega arith) c.place_at-p.ensures
 
-pub create-building-requires-clause-sound : goal.create-building-requires-clause-sound
-create-building-requires-clause-sound c = tracks_sound c.loop-i.invariant.ready.sound c.track.ensures
+pub create-requires-clause-sound : goal.create-requires-clause-sound
+create-requires-clause-sound c = tracks_sound c.loop-i.invariant.ready.sound c.track.ensures
 
-pub create-building-requires-clause-place_lt_most_identifiers : goal.create-building-requires-clause-place_lt_most_identifiers
-create-building-requires-clause-place_lt_most_identifiers c = (place-below c.loop-i.invariant (omega arith) c.place_at-p.ensures, tt)
+pub create-requires-clause-place_lt_most_identifiers : goal.create-requires-clause-place_lt_most_identifiers
+create-requires-clause-place_lt_most_identifiers c = (place-below c.loop-i.invariant (omega arith) c.place_at-p.ensures, tt)
 
 pub overflow_add-next : goal.overflow_add-next
 overflow_add-next c = omega (arith, place_inside c.loop-i.invariant (omega arith))
 
 pub loop-i-preserved : goal.loop-i-preserved
-loop-i-preserved c = placing_turn c.loop-i.invariant (omega arith) c.place_at-p.ensures c.track.ensures c.create-building.ensures (omega arith)
+loop-i-preserved c = placing_turn c.loop-i.invariant (omega arith) c.place_at-p.ensures c.track.ensures c.create.ensures (omega arith)
 
 pub returns : goal.returns
 returns c = placing_done c.loop-i.invariant (omega arith)

@@ -5,8 +5,8 @@ use Rattle.dataflow.proofs.phis.build_phi.Goals as goal
 pub phi_at-requires : goal.phi_at-requires
 phi_at-requires c = phi_inside _ _ c.requires
 
-pub phi-building-requires : goal.phi-building-requires
-phi-building-requires c =
+pub phi-requires : goal.phi-requires
+phi-requires c =
     let both = phi_can _ _ c.requires in
     record { sound = both.0; phi_fits = both.1 }
 
@@ -16,4 +16,4 @@ overflow_add-result c =
 
 pub returns : goal.returns
 returns c =
-    phi_builds _ _ c.requires c.phi_at.ensures c.phi-building.ensures
+    phi_builds _ _ c.requires c.phi_at.ensures c.phi.ensures

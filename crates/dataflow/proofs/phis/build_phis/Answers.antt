@@ -10,11 +10,11 @@ list_at-list-requires c = list_inside phi_from rises _ _ c.requires
 pub loop-init : goal.loop-init
 loop-init c = loop_start (list_ready phi_from _ _ c.list_at-list.ensures c.requires) (omega arith)
 
-pub build_phi-built-requires : goal.build_phi-built-requires
-build_phi-built-requires c = loop_ready c.loop.invariant (omega arith) rises
+pub build_phi-next-requires : goal.build_phi-next-requires
+build_phi-next-requires c = loop_ready c.loop.invariant (omega arith) rises
 
 pub loop-preserved : goal.loop-preserved
-loop-preserved c = loop_turn c.loop.invariant (omega arith) c.build_phi-built.ensures (omega arith)
+loop-preserved c = loop_turn c.loop.invariant (omega arith) c.build_phi-next.ensures (omega arith)
 
 pub returns : goal.returns
 returns c = list_builds phi_from _ _ c.list_at-list.ensures (loop_done c.loop.invariant (omega arith))

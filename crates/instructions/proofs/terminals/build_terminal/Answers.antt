@@ -6,8 +6,8 @@ pub past_places-requires : goal.past_places-requires
 past_places-requires c =
     other_inside _ _ c.requires.ready c.in-Other.is c.terminal_at.ensures
 
-pub assign-assigned-requires-clause-self_bound : goal.assign-assigned-requires-clause-self_bound
-assign-assigned-requires-clause-self_bound c =
+pub assign-requires-clause-self_bound : goal.assign-requires-clause-self_bound
+assign-requires-clause-self_bound c =
     let q = c.in-Return.is in
     let h = c.terminal_at.ensures in
     let w = c.requires.ready in
@@ -15,7 +15,7 @@ assign-assigned-requires-clause-self_bound c =
 
 pub build_terminal_effects-requires : goal.build_terminal_effects-requires
 build_terminal_effects-requires c =
-    return_ready _ _ c.requires.ready c.in-Return.is c.terminal_at.ensures (place_is c.args.returns) c.assign-assigned.ensures
+    return_ready _ _ c.requires.ready c.in-Return.is c.terminal_at.ensures (place_is c.args.returns) c.assign.ensures
 
 pub build_terminal_effects-requires-in-MaybeThrow : goal.build_terminal_effects-requires-in-MaybeThrow
 build_terminal_effects-requires-in-MaybeThrow c =
@@ -27,7 +27,7 @@ returns-in-Other c =
 
 pub returns-in-Return : goal.returns-in-Return
 returns-in-Return c =
-    return_builds _ _ c.requires.ready c.in-Return.is c.terminal_at.ensures (place_is c.args.returns) c.assign-assigned.ensures c.build_terminal_effects.ensures
+    return_builds _ _ c.requires.ready c.in-Return.is c.terminal_at.ensures (place_is c.args.returns) c.assign.ensures c.build_terminal_effects.ensures
 
 pub returns-in-MaybeThrow : goal.returns-in-MaybeThrow
 returns-in-MaybeThrow c =
