@@ -34,6 +34,15 @@ pub enum Section {
     Terminals,
 }
 
+// The pass over a function's blocks: where they stand, where the inner functions' lists stand, which places it writes, and whether the function is an expression.
+#[derive(Clone, Copy)]
+pub struct Pass<'a> {
+    pub sheet: &'a [u32],
+    pub lists: &'a [u32],
+    pub section: Section,
+    pub expression: bool,
+}
+
 // One section of places: the pass from its beginning.
 fn put_section(
     sheet: &[u32],
@@ -51,15 +60,13 @@ fn put_section(
     let count = out.at;
     out.put(0);
     let start = out.at;
-    blocks::pass_blocks(
+    let pass = Pass {
         sheet,
         lists,
-        f.blocks,
-        f.function_expression,
         section,
-        ws,
-        out,
-    );
+        expression: f.function_expression,
+    };
+    pass.blocks(f.blocks, ws, out);
     out.patch(count, ((out.at - start) / PLACE_WIDTH) as u32);
 }
 
