@@ -58,43 +58,6 @@ fn put_uses(sheet: &[u32], i: Instruction, ws: &[u32], out: &mut Writer<'_, u32>
     put_marked(sheet, i.operands, i.effects, ws, i.order, Effect::Read, out);
 }
 
-// The marks of the context places of the inner function that it makes.
-fn mark_value(sheet: &[u32], lists: &[u32], i: Instruction, ws: &mut [u32])
-    requires { (fs : InnerFunctions) × InstructionKnown sheet.now lists.now ws.old fs i }
-    ensures { ValueMarked sheet.now lists.now i ws.old ws.new }
-{
-    if let InstructionValue::Function(k) = i.value {
-        mark_context(sheet, lists, k, i.effects, ws, i.order);
-    }
-}
-
-// The starts of its operands, then of those context places; last what it stores.
-fn start_all(sheet: &[u32], lists: &[u32], i: Instruction, ws: &mut [u32])
-    requires { (fs : InnerFunctions) × InstructionKnown sheet.now lists.now ws.old fs i }
-    ensures { AllStarted sheet.now lists.now i ws.old ws.new }
-{
-    start_operands(sheet, i.operands, ws, i.order);
-    match i.value {
-        InstructionValue::Plain => {}
-        InstructionValue::Function(k) => {
-            let context = context_of(lists, ws, k);
-            start_operands(lists, context, ws, i.order);
-        }
-        InstructionValue::StoreContext(x) => store(ws, x, i.order),
-    }
-}
-
-// What only an instruction with a list of effects does.
-fn pass_listed(sheet: &[u32], lists: &[u32], i: Instruction, ws: &mut [u32])
-    requires { (fs : InnerFunctions) × InstructionKnown sheet.now lists.now ws.old fs i }
-    ensures { ListedPassed sheet.now lists.now i ws.old ws.new }
-{
-    if i.listed {
-        mark_value(sheet, lists, i, ws);
-        start_all(sheet, lists, i, ws);
-    }
-}
-
 impl Pass<'_> {
     // Its places, where the section is that of instructions.
     fn put_instruction(&self, i: Instruction, ws: &[u32], out: &mut Writer<'_, u32>)
@@ -107,6 +70,43 @@ impl Pass<'_> {
         }
     }
 
+    // The marks of the context places of the inner function that it makes.
+    fn mark_value(&self, i: Instruction, ws: &mut [u32])
+        requires { (fs : InnerFunctions) × InstructionKnown self.now.sheet.now self.now.lists.now ws.old fs i }
+        ensures { ValueMarked self.now.sheet.now self.now.lists.now i ws.old ws.new }
+    {
+        if let InstructionValue::Function(k) = i.value {
+            mark_context(self.sheet, self.lists, k, i.effects, ws, i.order);
+        }
+    }
+
+    // The starts of its operands, then of those context places; last what it stores.
+    fn start_all(&self, i: Instruction, ws: &mut [u32])
+        requires { (fs : InnerFunctions) × InstructionKnown self.now.sheet.now self.now.lists.now ws.old fs i }
+        ensures { AllStarted self.now.sheet.now self.now.lists.now i ws.old ws.new }
+    {
+        start_operands(self.sheet, i.operands, ws, i.order);
+        match i.value {
+            InstructionValue::Plain => {}
+            InstructionValue::Function(k) => {
+                let context = context_of(self.lists, ws, k);
+                start_operands(self.lists, context, ws, i.order);
+            }
+            InstructionValue::StoreContext(x) => store(ws, x, i.order),
+        }
+    }
+
+    // What only an instruction with a list of effects does.
+    fn pass_listed(&self, i: Instruction, ws: &mut [u32])
+        requires { (fs : InnerFunctions) × InstructionKnown self.now.sheet.now self.now.lists.now ws.old fs i }
+        ensures { ListedPassed self.now.sheet.now self.now.lists.now i ws.old ws.new }
+    {
+        if i.listed {
+            self.mark_value(i, ws);
+            self.start_all(i, ws);
+        }
+    }
+
     // An instruction; the position after it.
     fn instruction(&self, from: usize, ws: &mut [u32], out: &mut Writer<'_, u32>) -> usize
         requires { Passable instruction_from BelowOf self.now.sheet.now self.now.lists.now ws.old from out.old }
@@ -115,7 +115,7 @@ impl Pass<'_> {
         let i = instruction_at(self.sheet, from);
         name_all(self.sheet, i, ws);
         self.put_instruction(i, ws, out);
-        pass_listed(self.sheet, self.lists, i, ws);
+        self.pass_listed(i, ws);
         i.effects.first + EFFECT_WIDTH * i.effects.count as usize
     }
 
