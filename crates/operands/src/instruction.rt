@@ -14,7 +14,7 @@ ghost use Rattle.operands.specs.Passes.{Passable, Passed};
 
 use crate::contexts::{context_of, mark_context};
 use crate::given::with_effect;
-use crate::marks::{mark_of, put_marked};
+use crate::marks::Marks;
 use crate::ranges::{name_lvalue, name_lvalues, start_operands, store};
 use crate::{Pass, Section};
 use copies::put_place;
@@ -37,25 +37,16 @@ fn put_uses(sheet: &[u32], i: Instruction, ws: &[u32], out: &mut Writer<'_, u32>
     requires count_bound { out.old.at + place_width * (1 + i.value_lvalues.count + i.operands.count) ≤ farthest }
     ensures { Writes (gather place_words (instruction_places (marks_now sheet.now ws.now i) (instruction_is sheet.now i))) out.old out.new }
 {
-    let mark = mark_of(
+    let marks = Marks {
         sheet,
-        i.effects,
+        effects: i.effects,
         ws,
-        i.order,
-        i.lvalue.identifier,
-        Effect::ConditionallyMutate,
-    );
+        order: i.order,
+    };
+    let mark = marks.mark_of(i.lvalue.identifier, Effect::ConditionallyMutate);
     put_place(out, with_effect(i.lvalue, mark));
-    put_marked(
-        sheet,
-        i.value_lvalues,
-        i.effects,
-        ws,
-        i.order,
-        Effect::ConditionallyMutate,
-        out,
-    );
-    put_marked(sheet, i.operands, i.effects, ws, i.order, Effect::Read, out);
+    marks.put_marked(i.value_lvalues, Effect::ConditionallyMutate, out);
+    marks.put_marked(i.operands, Effect::Read, out);
 }
 
 impl Pass<'_> {
