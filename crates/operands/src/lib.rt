@@ -27,6 +27,7 @@ mod terminals;
 pub const RANGE_WIDTH: usize = 2;
 
 // Which places are written.
+// Kept: what is written is stated by it (`places_in`), and the steps of a block hand it down; closures would need that contract at each step.
 #[derive(Clone, Copy, Debug, PartialEq, Eq)]
 pub enum Section {
     Phis,
@@ -34,8 +35,8 @@ pub enum Section {
     Terminals,
 }
 
-// The pass over a function's blocks: where they stand, where the inner functions' lists stand, which places it writes, and whether the function is an expression.
-#[derive(Clone, Copy)]
+// What the pass over blocks reads: the sheet, the lists of the inner functions, which places are written, and whether the function is an expression.
+#[derive(Clone, Copy, Debug, PartialEq, Eq)]
 pub struct Pass<'a> {
     pub sheet: &'a [u32],
     pub lists: &'a [u32],
