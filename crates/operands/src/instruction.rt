@@ -111,7 +111,12 @@ impl Pass<'_> {
     }
 
     // A block's instructions; the position after them.
-    pub fn instructions(&self, from: usize, ws: &mut [u32], out: &mut Writer<'_, u32>) -> usize
+    pub(crate) fn instructions(
+        &self,
+        from: usize,
+        ws: &mut [u32],
+        out: &mut Writer<'_, u32>,
+    ) -> usize
         requires { Passable instructions_from (λ (fs : InnerFunctions). Every (BelowOf fs)) self.now.sheet.now self.now.lists.now ws.old from out.old }
         ensures { Passed instructions_from (λ (fs : InnerFunctions). Every (BelowOf fs)) (λ (fs : InnerFunctions). each (instruction fs)) self.now.section self.now.sheet.now self.now.lists.now from ws.old out.old ws.new out.new result }
     {

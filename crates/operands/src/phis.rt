@@ -99,7 +99,7 @@ fn start_phis(sheet: &[u32], list: List, ws: &mut [u32], order: EvaluationOrder)
 
 impl Pass<'_> {
     // A block's phis, by the ends as they stand when the pass comes to it; the position after them.
-    pub fn phis(
+    pub(crate) fn phis(
         &self,
         from: usize,
         order: EvaluationOrder,

@@ -45,7 +45,7 @@ fn put_terminal(sheet: &[u32], from: usize, expression: bool, out: &mut Writer<'
 
 impl Pass<'_> {
     // A terminal; the position after it.
-    pub fn terminal(&self, from: usize, ws: &[u32], out: &mut Writer<'_, u32>) -> usize
+    pub(crate) fn terminal(&self, from: usize, ws: &[u32], out: &mut Writer<'_, u32>) -> usize
         requires { Passable terminal_from AnyTerminal self.now.sheet.now self.now.lists.now ws.now from out.old }
         ensures { Passed terminal_from AnyTerminal (λ (fs : InnerFunctions). terminal self.now.expression) self.now.section self.now.sheet.now self.now.lists.now from ws.now out.old ws.now out.new result }
     {
