@@ -6,10 +6,7 @@ ghost use Rattle.hir.specs.Words.{several, instructions_from, terminal_from, blo
 ghost use Rattle.operands.specs.Known.{InnerFunctions};
 ghost use Rattle.operands.specs.Passes.{BlockOf, Passable, Passed};
 
-use crate::Section;
-use crate::instruction::pass_instructions;
-use crate::phis::pass_phis;
-use crate::terminals::pass_terminal;
+use crate::Pass;
 use copies::past::past_phis;
 use hir::EvaluationOrder;
 use hir::at::{List, list_at, order_at};
@@ -27,42 +24,28 @@ fn first_order(sheet: &[u32], from: usize) -> EvaluationOrder
     order_at(sheet, list.first)
 }
 
-// A block: phis, instructions, terminal; the position after it.
-fn pass_block(
-    sheet: &[u32],
-    lists: &[u32],
-    from: usize,
-    expression: bool,
-    section: Section,
-    ws: &mut [u32],
-    out: &mut Writer<'_, u32>,
-) -> usize
-    requires { Passable block_from BlockOf sheet.now lists.now ws.old from out.old }
-    ensures { Passed block_from BlockOf (block expression) section sheet.now lists.now from ws.old out.old ws.new out.new result }
-{
-    let inside = past_phis(sheet, from + 1);
-    let order = first_order(sheet, inside);
-    let instructions = pass_phis(sheet, from + 1, order, section, ws, out);
-    let terminal = pass_instructions(sheet, lists, instructions, section, ws, out);
-    pass_terminal(sheet, terminal, expression, section, ws, out)
-}
-
-// Some blocks; the position after them.
-pub fn pass_blocks(
-    sheet: &[u32],
-    lists: &[u32],
-    blocks: List,
-    expression: bool,
-    section: Section,
-    ws: &mut [u32],
-    out: &mut Writer<'_, u32>,
-) -> usize
-    requires { Passable (several blocks.count block_from) (λ (fs : InnerFunctions). Every (BlockOf fs)) sheet.now lists.now ws.old blocks.first out.old }
-    ensures { Passed (several blocks.count block_from) (λ (fs : InnerFunctions). Every (BlockOf fs)) (λ (fs : InnerFunctions). each (block expression fs)) section sheet.now lists.now blocks.first ws.old out.old ws.new out.new result }
-{
-    let mut next = blocks.first;
-    for _ in 0..blocks.count {
-        next = pass_block(sheet, lists, next, expression, section, ws, out);
+impl Pass<'_> {
+    // A block: phis, instructions, terminal; the position after it.
+    fn block(&self, from: usize, ws: &mut [u32], out: &mut Writer<'_, u32>) -> usize
+        requires { Passable block_from BlockOf self.now.sheet.now self.now.lists.now ws.old from out.old }
+        ensures { Passed block_from BlockOf (block self.now.expression) self.now.section self.now.sheet.now self.now.lists.now from ws.old out.old ws.new out.new result }
+    {
+        let inside = past_phis(self.sheet, from + 1);
+        let order = first_order(self.sheet, inside);
+        let instructions = self.phis(from + 1, order, ws, out);
+        let terminal = self.instructions(instructions, ws, out);
+        self.terminal(terminal, ws, out)
     }
-    next
+
+    // Some blocks; the position after them.
+    pub fn blocks(&self, blocks: List, ws: &mut [u32], out: &mut Writer<'_, u32>) -> usize
+        requires { Passable (several blocks.count block_from) (λ (fs : InnerFunctions). Every (BlockOf fs)) self.now.sheet.now self.now.lists.now ws.old blocks.first out.old }
+        ensures { Passed (several blocks.count block_from) (λ (fs : InnerFunctions). Every (BlockOf fs)) (λ (fs : InnerFunctions). each (block self.now.expression fs)) self.now.section self.now.sheet.now self.now.lists.now blocks.first ws.old out.old ws.new out.new result }
+    {
+        let mut next = blocks.first;
+        for _ in 0..blocks.count {
+            next = self.block(next, ws, out);
+        }
+        next
+    }
 }

@@ -9,7 +9,7 @@ ghost use Rattle.operands.specs.Known.{InnerFunctions, effects_in, IntoBelow, Kn
 ghost use Rattle.operands.specs.Marking.{Marking, ContextPut, ContextsPut};
 
 use crate::given::{give, given_by};
-use crate::marks::mark_of;
+use crate::marks::Marks;
 use copies::put_place;
 use hir::at::{DIAGNOSTIC_WIDTH, List, PLACE_WIDTH, list_at, place_at};
 use hir::{Effect, EvaluationOrder, FunctionId};
@@ -51,7 +51,13 @@ pub fn mark_context(
     let mut next = list.first;
     for i in 0..list.count as usize {
         let p = place_at(lists, next);
-        let mark = mark_of(sheet, effects, ws, order, p.identifier, Effect::Read);
+        let marks = Marks {
+            sheet,
+            effects,
+            ws,
+            order,
+        };
+        let mark = marks.mark_of(p.identifier, Effect::Read);
         ws[first + i] = u32::from(mark) + 1;
         next += PLACE_WIDTH;
     }

@@ -37,10 +37,7 @@ pub fn give(p: Place, given: Option<Effect>) -> Place
 pub fn given_by(word: u32) -> Option<Effect>
     ensures { (p : ModelPlace) → given_to result p ≡ word_gives word p }
 {
-    if word == 0 {
-        return None;
-    }
-    Some(effect_in(word - 1))
+    word.checked_sub(1).map(effect_in)
 }
 
 // The places of a list whose parts have `width` words: each ends with its place.

@@ -27,11 +27,21 @@ mod terminals;
 pub const RANGE_WIDTH: usize = 2;
 
 // Which places are written.
+// Kept: what is written is stated by it (`places_in`), and the steps of a block hand it down; closures would need that contract at each step.
 #[derive(Clone, Copy, Debug, PartialEq, Eq)]
 pub enum Section {
     Phis,
     Instructions,
     Terminals,
+}
+
+// What the pass over blocks reads: the sheet, the lists of the inner functions, which places are written, and whether the function is an expression.
+#[derive(Clone, Copy, Debug, PartialEq, Eq)]
+pub struct Pass<'a> {
+    pub sheet: &'a [u32],
+    pub lists: &'a [u32],
+    pub section: Section,
+    pub expression: bool,
 }
 
 // One section of places: the pass from its beginning.
@@ -51,15 +61,13 @@ fn put_section(
     let count = out.at;
     out.put(0);
     let start = out.at;
-    blocks::pass_blocks(
+    let pass = Pass {
         sheet,
         lists,
-        f.blocks,
-        f.function_expression,
         section,
-        ws,
-        out,
-    );
+        expression: f.function_expression,
+    };
+    pass.blocks(f.blocks, ws, out);
     out.patch(count, ((out.at - start) / PLACE_WIDTH) as u32);
 }
 

@@ -29,26 +29,6 @@ pub fn capture_or_read(ws: &[u32], x: IdentifierId, order: EvaluationOrder) -> E
     Effect::Read
 }
 
-// A relation: "from" by the end of "into", then "into" is Store.
-fn mark_flow(
-    e: AliasingEffect,
-    ws: &[u32],
-    order: EvaluationOrder,
-    x: IdentifierId,
-    before: Effect,
-) -> Effect
-    requires { (e.second.identifier.0 < most_identifiers) × (LEAST ≤ length ws.now) }
-    ensures { effect_number result ≡ mark_of (flow_marks (ranges_of ws.now).ends order.0 (effect_is e) []) x.0 (effect_number before) }
-{
-    if x == e.second.identifier {
-        return Effect::Store;
-    }
-    if x == e.first.identifier {
-        return capture_or_read(ws, e.second.identifier, order);
-    }
-    before
-}
-
 // A mark on the effect's place.
 fn mark_place(e: AliasingEffect, x: IdentifierId, given: Effect, before: Effect) -> Effect
     ensures { effect_number result ≡ mark_of (mark (effect_is e).first (effect_number given) []) x.0 (effect_number before) }
@@ -59,77 +39,80 @@ fn mark_place(e: AliasingEffect, x: IdentifierId, given: Effect, before: Effect)
     before
 }
 
-// The mark of x after one effect more.
-fn mark_by(
-    e: AliasingEffect,
-    ws: &[u32],
-    order: EvaluationOrder,
-    x: IdentifierId,
-    before: Effect,
-) -> Effect
-    requires { IntoBelow (effect_is e) × (LEAST ≤ length ws.now) }
-    ensures { effect_number result ≡ mark_of (marks_of (effect_is e).kind (ranges_of ws.now).ends order.0 (effect_is e) []) x.0 (effect_number before) }
-{
-    match e.kind {
-        EffectKind::Freeze => mark_place(e, x, Effect::Freeze, before),
-        EffectKind::Mutate => mark_place(e, x, Effect::Store, before),
-        EffectKind::MutateConditionally
-        | EffectKind::MutateTransitive
-        | EffectKind::MutateTransitiveConditionally => {
-            mark_place(e, x, Effect::ConditionallyMutate, before)
+// The marks of an instruction's effects, by the ends as they stand.
+#[derive(Clone, Copy)]
+pub struct Marks<'a> {
+    pub sheet: &'a [u32],
+    pub effects: List,
+    pub ws: &'a [u32],
+    pub order: EvaluationOrder,
+}
+
+impl Marks<'_> {
+    // A relation: "from" by the end of "into", then "into" is Store.
+    fn mark_flow(&self, e: AliasingEffect, x: IdentifierId, before: Effect) -> Effect
+        requires { (e.second.identifier.0 < most_identifiers) × (LEAST ≤ length self.now.ws.now) }
+        ensures { effect_number result ≡ mark_of (flow_marks (ranges_of self.now.ws.now).ends self.now.order.0 (effect_is e) []) x.0 (effect_number before) }
+    {
+        if x == e.second.identifier {
+            return Effect::Store;
         }
-        EffectKind::Capture
-        | EffectKind::Alias
-        | EffectKind::MaybeAlias
-        | EffectKind::Assign
-        | EffectKind::CreateFrom => mark_flow(e, ws, order, x, before),
-        _ => before,
+        if x == e.first.identifier {
+            return capture_or_read(self.ws, e.second.identifier, self.order);
+        }
+        before
     }
-}
 
-// The mark of x by the effects of a list, or what it has without one.
-pub fn mark_of(
-    sheet: &[u32],
-    list: List,
-    ws: &[u32],
-    order: EvaluationOrder,
-    x: IdentifierId,
-    without: Effect,
-) -> Effect
-    requires list_in_bounds { (effects_in sheet.now list).next ≤ length sheet.now }
-    requires every { Every IntoBelow (effects_in sheet.now list).what × (LEAST ≤ length ws.now) }
-    ensures { effect_number result ≡ mark_of (operand_effects (ranges_of ws.now).ends order.0 (effects_in sheet.now list).what) x.0 (effect_number without) }
-{
-    let mut next = list.first;
-    let mut mark = without;
-    for _ in 0..list.count {
-        mark = mark_by(effect_at(sheet, next), ws, order, x, mark);
-        next += EFFECT_WIDTH;
+    // The mark of x after one effect more.
+    fn mark_by(&self, e: AliasingEffect, x: IdentifierId, before: Effect) -> Effect
+        requires { IntoBelow (effect_is e) × (LEAST ≤ length self.now.ws.now) }
+        ensures { effect_number result ≡ mark_of (marks_of (effect_is e).kind (ranges_of self.now.ws.now).ends self.now.order.0 (effect_is e) []) x.0 (effect_number before) }
+    {
+        match e.kind {
+            EffectKind::Freeze => mark_place(e, x, Effect::Freeze, before),
+            EffectKind::Mutate => mark_place(e, x, Effect::Store, before),
+            EffectKind::MutateConditionally
+            | EffectKind::MutateTransitive
+            | EffectKind::MutateTransitiveConditionally => {
+                mark_place(e, x, Effect::ConditionallyMutate, before)
+            }
+            EffectKind::Capture
+            | EffectKind::Alias
+            | EffectKind::MaybeAlias
+            | EffectKind::Assign
+            | EffectKind::CreateFrom => self.mark_flow(e, x, before),
+            _ => before,
+        }
     }
-    mark
-}
 
-// The places of a list, each with its mark by the effects.
-pub fn put_marked(
-    sheet: &[u32],
-    list: List,
-    effects: List,
-    ws: &[u32],
-    order: EvaluationOrder,
-    without: Effect,
-    out: &mut Writer<'_, u32>,
-)
-    requires list_in_bounds { (places_at sheet.now list).next ≤ length sheet.now }
-    requires effects_in_bounds { (effects_in sheet.now effects).next ≤ length sheet.now }
-    requires every { Every IntoBelow (effects_in sheet.now effects).what × (LEAST ≤ length ws.now) }
-    requires count_bound { out.old.at + place_width * list.count ≤ farthest }
-    ensures { Writes (gather place_words (map (with_mark (operand_effects (ranges_of ws.now).ends order.0 (effects_in sheet.now effects).what) (effect_number without)) (places_at sheet.now list).what)) out.old out.new }
-{
-    let mut next = list.first;
-    for _ in 0..list.count {
-        let p = place_at(sheet, next);
-        let mark = mark_of(sheet, effects, ws, order, p.identifier, without);
-        put_place(out, with_effect(p, mark));
-        next += PLACE_WIDTH;
+    // The mark of x, or what it has without one.
+    pub fn mark_of(&self, x: IdentifierId, without: Effect) -> Effect
+        requires effects_in_bounds { (effects_in self.now.sheet.now self.now.effects).next ≤ length self.now.sheet.now }
+        requires every { Every IntoBelow (effects_in self.now.sheet.now self.now.effects).what × (LEAST ≤ length self.now.ws.now) }
+        ensures { effect_number result ≡ mark_of (operand_effects (ranges_of self.now.ws.now).ends self.now.order.0 (effects_in self.now.sheet.now self.now.effects).what) x.0 (effect_number without) }
+    {
+        let mut next = self.effects.first;
+        let mut mark = without;
+        for _ in 0..self.effects.count {
+            mark = self.mark_by(effect_at(self.sheet, next), x, mark);
+            next += EFFECT_WIDTH;
+        }
+        mark
+    }
+
+    // The places of a list, each with its mark.
+    pub fn put_marked(&self, list: List, without: Effect, out: &mut Writer<'_, u32>)
+        requires list_in_bounds { (places_at self.now.sheet.now list).next ≤ length self.now.sheet.now }
+        requires effects_in_bounds { (effects_in self.now.sheet.now self.now.effects).next ≤ length self.now.sheet.now }
+        requires every { Every IntoBelow (effects_in self.now.sheet.now self.now.effects).what × (LEAST ≤ length self.now.ws.now) }
+        requires count_bound { out.old.at + place_width * list.count ≤ farthest }
+        ensures { Writes (gather place_words (map (with_mark (operand_effects (ranges_of self.now.ws.now).ends self.now.order.0 (effects_in self.now.sheet.now self.now.effects).what) (effect_number without)) (places_at self.now.sheet.now list).what)) out.old out.new }
+    {
+        let mut next = list.first;
+        for _ in 0..list.count {
+            let p = place_at(self.sheet, next);
+            put_place(out, with_effect(p, self.mark_of(p.identifier, without)));
+            next += PLACE_WIDTH;
+        }
     }
 }

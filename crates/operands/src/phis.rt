@@ -11,13 +11,13 @@ ghost use Rattle.writing.specs.Wrote.{Writes, farthest};
 ghost use Rattle.operands.specs.Ranges.{ranges_of, Ranged};
 ghost use Rattle.operands.specs.Given.{given_phi};
 ghost use Rattle.operands.specs.Phis.{phi_identifier, phis_in, PhisBelow, PlacesPut};
-ghost use Rattle.operands.specs.Known.{InnerFunctions, Lists};
+ghost use Rattle.operands.specs.Known.{InnerFunctions};
 ghost use Rattle.operands.specs.Passes.{Passable, Passed};
 
-use crate::Section;
 use crate::given::{give, put_places};
 use crate::marks::capture_or_read;
 use crate::ranges::start_if;
+use crate::{Pass, Section};
 use copies::past::past_phi;
 use copies::put_place;
 use hir::at::{List, OPERAND_WIDTH, list_at, phi_at};
@@ -97,21 +97,22 @@ fn start_phis(sheet: &[u32], list: List, ws: &mut [u32], order: EvaluationOrder)
     next
 }
 
-// A block's phis, by the ends as they stand when the pass comes to it; the position after them.
-pub fn pass_phis(
-    sheet: &[u32],
-    from: usize,
-    order: EvaluationOrder,
-    section: Section,
-    ws: &mut [u32],
-    out: &mut Writer<'_, u32>,
-) -> usize
-    requires { (lists : Lists) × Passable phis_from PhisBelow sheet.now lists ws.old from out.old }
-    ensures { (lists : Lists) → Passed phis_from PhisBelow (λ (fs : InnerFunctions). phis order.0) section sheet.now lists from ws.old out.old ws.new out.new result }
-{
-    let list = list_at(sheet, from);
-    if section == Section::Phis {
-        put_phis(sheet, list, ws, order, out);
+impl Pass<'_> {
+    // A block's phis, by the ends as they stand when the pass comes to it; the position after them.
+    pub(crate) fn phis(
+        &self,
+        from: usize,
+        order: EvaluationOrder,
+        ws: &mut [u32],
+        out: &mut Writer<'_, u32>,
+    ) -> usize
+        requires { Passable phis_from PhisBelow self.now.sheet.now self.now.lists.now ws.old from out.old }
+        ensures { Passed phis_from PhisBelow (λ (fs : InnerFunctions). phis order.0) self.now.section self.now.sheet.now self.now.lists.now from ws.old out.old ws.new out.new result }
+    {
+        let list = list_at(self.sheet, from);
+        if self.section == Section::Phis {
+            put_phis(self.sheet, list, ws, order, out);
+        }
+        start_phis(self.sheet, list, ws, order)
     }
-    start_phis(sheet, list, ws, order)
 }

@@ -5,7 +5,7 @@ use Rattle.operands.specs.Ranges.{ranges_of}
 use Rattle.operands.specs.Known.{effects_in}
 use Rattle.operands.proofs.Putting.{putting_inside, putting_room, putting_turn, putting_end}
 use Rattle.operands.proofs.Marked.{with_mark_lem}
-use Rattle.operands.proofs.marks.put_marked.Goals as goal
+use Rattle.operands.proofs.marks.Marks.put_marked.Goals as goal
 
 pub place_at-p-requires : goal.place_at-p-requires
 place_at-p-requires c =
@@ -23,8 +23,8 @@ pub loop-preserved : goal.loop-preserved
 loop-preserved c =
     let a = c.args in
     putting_turn _ _ _ _ c.loop.invariant (omega arith) c.loop-test.true c.put_place.ensures
-    (with_mark_lem (operand_effects (ranges_of a.ws.now).ends a.order.0 (effects_in a.sheet.now a.effects).what) (effect_number a.without)
-    c.with_effect.ensures c.mark_of-mark.ensures c.place_at-p.ensures)
+    (with_mark_lem (operand_effects (ranges_of a.self.now.ws.now).ends a.self.now.order.0 (effects_in a.self.now.sheet.now a.self.now.effects).what) (effect_number a.without)
+    c.with_effect.ensures c.mark_of.ensures c.place_at-p.ensures)
 
 pub returns : goal.returns
 returns c = putting_end _ _ _ _ c.loop.invariant c.loop-test.false

@@ -5,7 +5,7 @@ use Rattle.operands.specs.Ranges.{ranges_of}
 use Rattle.operands.specs.Known.{IntoBelow}
 use Rattle.operands.proofs.Folding.{Folding}
 use Rattle.operands.proofs.Marked.{mark_by}
-use Rattle.operands.proofs.marks.mark_of.Given as goal
+use Rattle.operands.proofs.marks.Marks.mark_of.Given as goal
 
 abbrev pub invariant-loop : goal.invariant-loop
-invariant-loop l = Folding (wide effect_width effect_at) IntoBelow (mark_by (ranges_of l.ws).ends l.order.0 l.x.0) l.sheet l.end l.initial.next (effect_number l.initial.mark) l.counter l.next (effect_number l.mark)
+invariant-loop l = Folding (wide effect_width effect_at) IntoBelow (mark_by (ranges_of l.self.ws.now).ends l.self.order.0 l.x.0) l.self.sheet.now l.end l.initial.next (effect_number l.initial.mark) l.counter l.next (effect_number l.mark)

@@ -1,6 +1,6 @@
 use Rattle.operands.proofs.Stepping.{known_kept}
 use Rattle.operands.proofs.InstructionValues.{kept_ranges, function_known, context_in, plain_started, function_started}
-use Rattle.operands.proofs.instruction.start_all.Goals as goal
+use Rattle.operands.proofs.Pass.start_all.Goals as goal
 
 pub context_of-context-requires : goal.context_of-context-requires
 context_of-context-requires c =

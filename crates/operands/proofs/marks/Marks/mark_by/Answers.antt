@@ -3,7 +3,7 @@ use mathlib.Core.List.{List}
 use Rattle.model.specs.Marks.{Mark, marks_of, mark_of}
 use Rattle.hir.specs.Numbers.{effect_number}
 use Rattle.operands.proofs.Marked.{flowing, conditional, marked_by, silent}
-use Rattle.operands.proofs.marks.mark_by.Goals as goal
+use Rattle.operands.proofs.marks.Marks.mark_by.Goals as goal
 
 pub mark_flow-requires : goal.mark_flow-requires
 mark_flow-requires c = (c.requires.0 (flowing c.in-Capture.is).0, c.requires.1)

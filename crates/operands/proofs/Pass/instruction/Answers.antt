@@ -2,7 +2,7 @@ use native.Mathlib.Omega.{arith}
 use mathlib.Core.Path.{refl}
 use Rattle.operands.proofs.Instructions.{instruction_few, instruction_in, instruction_known, instruction_passed}
 use Rattle.operands.proofs.InstructionValues.{kept_ranges}
-use Rattle.operands.proofs.instruction.pass_instruction.Goals as goal
+use Rattle.operands.proofs.Pass.instruction.Goals as goal
 
 pub name_all-requires : goal.name_all-requires
 name_all-requires c =

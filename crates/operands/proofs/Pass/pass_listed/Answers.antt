@@ -1,6 +1,6 @@
 use Rattle.operands.proofs.Instructions.{instruction_known_kept, listed_passed}
 use Rattle.operands.proofs.InstructionValues.{kept_contexts}
-use Rattle.operands.proofs.instruction.pass_listed.Goals as goal
+use Rattle.operands.proofs.Pass.pass_listed.Goals as goal
 
 pub start_all-requires : goal.start_all-requires
 start_all-requires c =

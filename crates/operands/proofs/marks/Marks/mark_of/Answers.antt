@@ -5,11 +5,11 @@ use Rattle.hir.specs.Words.{effect_at}
 use Rattle.hir.proofs.Widths.{wide_rises}
 use Rattle.operands.proofs.Folding.{folding_has, folding_inside, folding_turn, folding_end}
 use Rattle.operands.proofs.Marked.{marks_all}
-use Rattle.operands.proofs.marks.mark_of.Goals as goal
+use Rattle.operands.proofs.marks.Marks.mark_of.Goals as goal
 
 pub effect_at-requires : goal.effect_at-requires
 effect_at-requires c =
-    folding_inside _ _ _ _ c.loop.invariant (wide_rises effect_width effect_at) c.loop-test.true c.requires.list_in_bounds
+    folding_inside _ _ _ _ c.loop.invariant (wide_rises effect_width effect_at) c.loop-test.true c.requires.effects_in_bounds
 
 pub mark_by-mark-requires : goal.mark_by-mark-requires
 mark_by-mark-requires c =
@@ -17,7 +17,7 @@ mark_by-mark-requires c =
 
 pub overflow_add-next : goal.overflow_add-next
 overflow_add-next c =
-    omega (arith, folding_inside _ _ _ _ c.loop.invariant (wide_rises effect_width effect_at) c.loop-test.true c.requires.list_in_bounds)
+    omega (arith, folding_inside _ _ _ _ c.loop.invariant (wide_rises effect_width effect_at) c.loop-test.true c.requires.effects_in_bounds)
 
 pub loop-preserved : goal.loop-preserved
 loop-preserved c =

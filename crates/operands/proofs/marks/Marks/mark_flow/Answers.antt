@@ -1,7 +1,7 @@
 use native.Mathlib.Omega.{arith}
 use Rattle.std.proofs.lemmas.Bool.Decides.{nat_tests}
 use Rattle.operands.proofs.Marked.{flow_into, flow_from, flow_neither}
-use Rattle.operands.proofs.marks.mark_flow.Goals as goal
+use Rattle.operands.proofs.marks.Marks.mark_flow.Goals as goal
 
 pub returns-then-eq : goal.returns-then-eq
 returns-then-eq c = flow_into _ _ _ _ _ (grind (arith, nat_tests))
