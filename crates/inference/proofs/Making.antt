@@ -20,8 +20,8 @@ use Rattle.model.proofs.WhenRead.{in_range_lem}
 use Rattle.hir.specs.Says.{place_is}
 use Rattle.hir.specs.Words.{several, block_from}
 use Rattle.workspace.specs.Layout.{LEAST}
+use Rattle.building.specs.declared.Building.{Building}
 use Rattle.building.specs.Built.{built_of, LaysOut}
-use Rattle.instructions.specs.declared.Built.{Built as BuiltPart}
 use Rattle.instructions.specs.Cost.{costs}
 use Rattle.instructions.specs.Builds.{Ready, Builds}
 use Rattle.dataflow.specs.Cost.{block_cost}
@@ -69,16 +69,16 @@ module _ {sheet : List ℕ} (p : (s : Sheet) × IsSheet sheet s) {ws ws₁ : Lis
   pub blocks_can : PlaceBelow most_identifiers (place_is f.returns) × Ready (several f.blocks.count block_from sheet f.blocks.first) (Every BlockInRange) (costs block_cost) sheet ws₁ x.building
   blocks_can = (omega (arith, g.limited.returns, g.limited.n), blocks_ready (accepted sheet p.1) g.describes g.first)
 
-  module _ {ws₂ : List ℕ} {r : BuiltPart} (w : Builds (several f.blocks.count block_from sheet f.blocks.first) (each (block_step (place_is f.returns))) (costs block_cost) sheet ws₁ x.building ws₂ r) where
-    whole : Whole (sheet_of sheet) sheet ws₁ ws₂ r.building
+  module _ {ws₂ : List ℕ} {r : Building} {d : Position} (w : Builds (several f.blocks.count block_from sheet f.blocks.first) (each (block_step (place_is f.returns))) (costs block_cost) sheet ws₁ x.building ws₂ r d) where
+    whole : Whole (sheet_of sheet) sheet ws₁ ws₂ r
     whole = blocks_whole g.describes g.first w
 
     -- what building held is what the code counted, as long as there was room for it
-    holds_got : (c : Position) → r.building.held.most ≤ most_relations → got (sheet_of sheet) c ≡ holds (got (sheet_of sheet) c)
+    holds_got : (c : Position) → r.held.most ≤ most_relations → got (sheet_of sheet) c ≡ holds (got (sheet_of sheet) c)
     unfolding holds built_of
     holds_got c h = sym (rw (le-ltb most_relations (build (sheet_of sheet)).held (omega (arith, h, ap (λ (t : Built). t.held) (whole.built h)))))
 
-    holds_not : (c : Position) → most_relations < r.building.held.most → refused 8 ≡ holds (got (sheet_of sheet) c)
+    holds_not : (c : Position) → most_relations < r.held.most → refused 8 ≡ holds (got (sheet_of sheet) c)
     unfolding holds
     holds_not c h = sym (rw (lt-ltb most_relations (build (sheet_of sheet)).held (whole.over h)))
 
@@ -86,15 +86,15 @@ module _ {sheet : List ℕ} (p : (s : Sheet) × IsSheet sheet s) {ws ws₁ : Lis
     itself = subst (IsSheet sheet) (sym (sheet_is sheet p.1)) p.1
 
     -- too much would be held
-    pub over_refused : most_relations < r.building.held.most → Prepares (holds (read sheet)) sheet ws ws₂ (Err Totals)
+    pub over_refused : most_relations < r.held.most → Prepares (holds (read sheet)) sheet ws ws₂ (Err Totals)
     over_refused h =
         let eight : Prepares (refused 8) sheet ws ws₂ (Err Totals) = record { is = (refl, whole.same ∙ g.same) } in
         prepares_as eight (holds_not itself.0 h ∙ sym (ap holds itself.1))
 
-    pub prepares : {copies applies : Bool} → NoneUnless copies sheet → AppliesIs applies sheet → {ws₃ ws₄ : List ℕ} → LEAST ≤ length ws → r.building.held.most ≤ most_relations → LaysOut ws₂ r.building ws₃ → Keeps f.identifiers.count ws₃ ws₄
-        → Prepares (holds (read sheet)) sheet ws ws₄ (Ok (record { function = flagged f copies applies; building = r.building }))
+    pub prepares : {copies applies : Bool} → NoneUnless copies sheet → AppliesIs applies sheet → {ws₃ ws₄ : List ℕ} → LEAST ≤ length ws → r.held.most ≤ most_relations → LaysOut ws₂ r ws₃ → Keeps f.identifiers.count ws₃ ws₄
+        → Prepares (holds (read sheet)) sheet ws ws₄ (Ok (record { function = flagged f copies applies; building = r }))
     prepares {copies} {applies} none told {ws₃} {ws₄} size within l k =
         let is : IsSheet sheet (sheet_of sheet) = itself in
-        let built = prepared (sheet_of sheet) sheet (flagged f copies applies) r.building ws ws₁ ws₂ ws₃ ws₄ (describes_flagged g.describes (λ e. none e (sheet_of sheet) is)) (told (sheet_of sheet) is) (in_range_lem sheet (sheet_of sheet) is) (limited_flagged g.limited) g.stands size g.ends whole within l k in
-        let all : Prepares (got (sheet_of sheet) is.0) sheet ws ws₄ (Ok (record { function = flagged f copies applies; building = r.building })) = record { is = (built, k.same ∙ l.same ∙ whole.same ∙ g.same) } in
+        let built = prepared (sheet_of sheet) sheet (flagged f copies applies) r ws ws₁ ws₂ ws₃ ws₄ (describes_flagged g.describes (λ e. none e (sheet_of sheet) is)) (told (sheet_of sheet) is) (in_range_lem sheet (sheet_of sheet) is) (limited_flagged g.limited) g.stands size g.ends whole within l k in
+        let all : Prepares (got (sheet_of sheet) is.0) sheet ws ws₄ (Ok (record { function = flagged f copies applies; building = r })) = record { is = (built, k.same ∙ l.same ∙ whole.same ∙ g.same) } in
         prepares_as all (holds_got is.0 within ∙ sym (ap holds is.1))

@@ -47,22 +47,16 @@ fn build(sheet: &[u32], ws: &mut [u32], copies: bool, applies: bool) -> Result<R
     requires applies_is { AppliesIs applies sheet.now }
     ensures { Prepares (holds (read sheet.now)) sheet.now ws.old ws.new result }
 {
-    let Read { function, building } = read_function(sheet, ws);
+    let Read {
+        function,
+        mut building,
+    } = read_function(sheet, ws);
     let function = HirFunction {
         copies,
         applies,
         ..function
     };
-    let blocks = function.blocks;
-    let built = build_blocks(
-        blocks.first,
-        blocks.count,
-        sheet,
-        ws,
-        building,
-        function.returns,
-    );
-    let building = built.building;
+    build_blocks(function.blocks, sheet, ws, &mut building, function.returns);
     if MOST_RELATIONS < building.held.most {
         return Err(Refusal::Totals);
     }
@@ -159,8 +153,8 @@ pub fn put_answer(
 pub fn refuse(ws: &mut [u32], answer: &mut [u32], refusal: Refusal) -> Result<usize, Refusal>
     ensures { Came (refused (refusal_number refusal)) ws.old answer.old result ws.new answer.new }
 {
-    ws.fill(0);
-    answer.fill(0);
+    clear_from(ws, 0);
+    clear_from(answer, 0);
     Err(refusal)
 }
 
