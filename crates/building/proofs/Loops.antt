@@ -1,19 +1,17 @@
 -- The loops over a log.
-use Prim.Native.Nat.{ℕ, suc, ◌+◌, ◌-◌, ◌≤◌, ◌<◌}
+use Prim.Native.Nat.{ℕ, suc, ◌+◌, ◌≤◌, ◌<◌}
 use native.Mathlib.Omega.{arith}
-use native.Mathlib.Decide.{dec_lt, ℕ_discrete}
-use mathlib.Core.Bool.{Bool, true, false, not, cond, ◌||◌, true≢false}
-use Rattle.std.specs.Prelude.{Option, None, Some, nat_lt}
-use Rattle.std.specs.Option.{unwrap_or}
-use Rattle.std.specs.List.{between, list_any, position, position_or_len}
-use Rattle.std.proofs.lemmas.List.Sums.{prefix_len-le-length}
+use native.Mathlib.Nat.{add-zero}
+use native.Mathlib.Decide.{ℕ_discrete}
+use mathlib.Core.Bool.{Bool, true, false, ◌||◌, true≢false}
+use Rattle.std.specs.List.{between, list_any, fold}
 use Rattle.std.proofs.lemmas.Slice.{between_is}
 use lib.Dec.{eqb}
 use mathlib.Core.List.{List, [], ◌∷◌, ◌++◌, append-nil}
 use mathlib.Core.Path.{◌≡◌, refl, sym, ap, ◌∙◌}
-use lib.ListN.{length, get_or, set, take, drop}
-use lib.Seq.{slice, length-slice, take-take, slice-cons, slice_empty, drop-set-lt, append_snoc}
-use borrow.Author.Tests.{eq-eqb, ne_eqb, lt-ltb, le-ltb}
+use lib.ListN.{length, get_or, set, drop}
+use lib.Seq.{slice, slice-cons, slice_empty, drop-set-lt, append_snoc}
+use borrow.Author.Tests.{eq-eqb, ne_eqb}
 use Rattle.model.specs.Lists.{pick}
 use Rattle.workspace.specs.Rows.{Kept}
 use Rattle.workspace.proofs.Parts.{drop_more, drop-word, slice_split, slice_push, kept_none, kept_set}
@@ -33,6 +31,15 @@ any_list test (v ∷ l) = go (test v) (any_list test l)
 pub any_part : (test : ℕ → Bool) (at n : ℕ) (ws : List ℕ) → list_any test (between at (at + n) ws) ≡ any_p test (slice at (at + n) ws)
 any_part test at n ws = ap (list_any test) (between_is ws at (at + n)) ∙ any_list test (slice at (at + n) ws)
 
+fold_list : (test : ℕ → Bool) (found : Bool) (l : List ℕ) → fold (λ (b : Bool) (w : ℕ). b || test w) found l ≡ (found || list_any test l)
+fold_list test false [] = refl
+fold_list test true [] = refl
+fold_list test false (v ∷ l) = fold_list test (test v) l
+fold_list test true (v ∷ l) = fold_list test true l
+
+pub fold_part : (test : ℕ → Bool) (at n : ℕ) (ws : List ℕ) → fold (λ (b : Bool) (w : ℕ). b || test w) false (between at (at + n) ws) ≡ any_p test (slice at (at + n) ws)
+fold_part test at n ws = fold_list test false (between at (at + n) ws) ∙ any_part test at n ws
+
 -- a word among them
 equal_turned : (v w : ℕ) → eqb w v ≡ eqb v w
 equal_turned v w = go (ℕ_discrete w v)
@@ -50,43 +57,14 @@ pub contains_part : (v at n : ℕ) (ws : List ℕ) → list_any (λ (w : ℕ). e
 contains_part v at n ws = any_part (λ (w : ℕ). eqb w v) at n ws ∙ any_turned v (slice at (at + n) ws)
 
 -- ---- words at the front of which none passes the test
-front_none : (test : ℕ → Bool) (l : List ℕ) → any_p test (take (position_or_len test l) l) ≡ false
+pub none_both : (test : ℕ → Bool) (l m : List ℕ) → any_p test l ≡ false → any_p test m ≡ false → any_p test (l ++ m) ≡ false
 unfolding any_p
-front_none test [] = refl
-front_none test (v ∷ l) = go (test v) refl (front_none test l)
+none_both test [] m p q = q
+none_both test (v ∷ l) m p q = go (none_both test l m) (test v) p
   where
-    go : (b : Bool) → test v ≡ b → any_p test (take (position_or_len test l) l) ≡ false → any_p test (take (cond (not b) (1 + position_or_len test l) 0) (v ∷ l)) ≡ false
-    go true e ih = refl
-    go false e ih =
-        let q : 1 + position_or_len test l ≡ suc (position_or_len test l) = omega arith in
-        ap (λ (k : ℕ). any_p test (take k (v ∷ l))) q ∙ ap (λ (b : Bool). pick b true (any_p test (take (position_or_len test l) l))) e ∙ ih
-
-module _ (test : ℕ → Bool) (at n : ℕ) (ws : List ℕ) (h : at + n ≤ length ws) {o : Option ℕ} {r : ℕ} (p : o ≡ position test (between at (at + n) ws)) (q : r ≡ unwrap_or o n) where
-  abbrev words : List ℕ
-  words = between at (at + n) ws
-
-  long : length words ≡ n
-  long = ap length (between_is ws at (at + n)) ∙ length-slice at (at + n) ws h ∙ omega arith
-
-  passed : r ≡ position_or_len test words
-  passed = go (dec_lt (position_or_len test words) (length words))
-    where
-      is : (b : Bool) → nat_lt (position_or_len test words) (length words) ≡ b → r ≡ unwrap_or (cond b (Some (position_or_len test words)) None) n
-      is b e = q ∙ ap (λ (i : Option ℕ). unwrap_or i n) (p ∙ ap (λ (c : Bool). cond c (Some (position_or_len test words)) None) e)
-
-      go : Dec (position_or_len test words < length words) → r ≡ position_or_len test words
-      go (yes y) = is true (lt-ltb _ _ y)
-      go (no y) = is false (le-ltb _ _ (omega arith)) ∙ omega (arith, prefix_len-le-length (λ (w : ℕ). not (test w)) words, long)
-
-  pub others_front : Others test at n ws r
-  others_front =
-      let few : r ≤ n = omega (arith, passed, prefix_len-le-length (λ (w : ℕ). not (test w)) words, long) in
-      let k : at + r - at ≡ r = omega arith in
-      record {
-        none = ap (any_p test) (sym (between_is ws at (at + r)) ∙ ap (λ (i : ℕ). take i (drop at ws)) k ∙ sym (take-take r (at + n - at) (drop at ws) (omega arith)) ∙ ap (λ (i : ℕ). take i words) passed)
-            ∙ front_none test words;
-        few = few;
-      }
+    go : (any_p test l ≡ false → any_p test m ≡ false → any_p test (l ++ m) ≡ false) → (b : Bool) → pick b true (any_p test l) ≡ false → pick b true (any_p test (l ++ m)) ≡ false
+    go ih true e = e
+    go ih false e = ih e q
 
 without_others : (t x : ℕ) (l m : List ℕ) → any_p (owns_w t x) l ≡ false → without t x (l ++ m) ≡ l ++ without t x m
 unfolding any_p without
@@ -97,6 +75,20 @@ without_others t x (w ∷ l) m p = go (without_others t x l m) (owns_w t x w) p
         → pick b (without t x (l ++ m)) (w ∷ without t x (l ++ m)) ≡ w ∷ (l ++ without t x m)
     go ih true e = absurd (true≢false e)
     go ih false e = ap (λ (r : List ℕ). w ∷ r) (ih e)
+
+module _ (test : ℕ → Bool) (at n : ℕ) (ws : List ℕ) where
+  pub others_start : Others test at n ws 0
+  unfolding any_p
+  others_start = record { none = rw (add-zero at, slice_empty at ws); few = omega arith }
+
+  pub others_turn : (i m : ℕ) → at + n ≤ length ws → Others test at n ws i → i + m ≤ n → false ≡ any_p test (slice (at + i) (at + i + m) ws) → Others test at n ws (i + m)
+  others_turn i m size o h e =
+      let q : at + (i + m) ≡ at + i + m = omega arith in
+      record {
+        none = ap (λ (j : ℕ). any_p test (slice at j ws)) q ∙ ap (any_p test) (slice_split at (at + i) (at + i + m) ws (omega arith) (omega arith) (omega (arith, size, h)))
+            ∙ none_both test (slice at (at + i) ws) (slice (at + i) (at + i + m) ws) o.none (sym e);
+        few = h;
+      }
 
 -- ---- taking out the words of x
 pub record Leaving (ws₀ : List ℕ) (t at n x : ℕ) (ws : List ℕ) (i k : ℕ) : Type 0 where

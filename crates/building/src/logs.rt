@@ -5,7 +5,7 @@ ghost use Rattle.model.specs.Limits.{most_identifiers, most_relations, most_inde
 ghost use Rattle.model.specs.Graph.{has_node};
 ghost use Rattle.workspace.specs.Layout.{LEAST, EDGES, ENTRIES};
 ghost use Rattle.workspace.specs.Numbers.{table_number, relation_number};
-ghost use Rattle.building.specs.Logs.{pack_w, owner_w, owns_w, any_w, edge_g, entry_g};
+ghost use Rattle.building.specs.Logs.{pack_w, owner_w, owns_w, any_p, any_w, edge_g, entry_g};
 ghost use Rattle.building.specs.Held.{held_over, graph_of, Marked, Room, Builds, Others, Left};
 
 use crate::Held;
@@ -31,25 +31,40 @@ fn owner(table: Table, w: u32) -> u32
     }
 }
 
-// Is there an entry with the same from, into and list?
+// Is there an entry with the same from, into and list? Looks at every word, so that the loop is compiled to vectors.
 fn has_entry(ws: &[u32], n: usize, w: u32) -> bool
     requires { (LEAST ≤ length ws.now) × (n ≤ most_relations) }
     ensures { result ≡ any_w w (slice ENTRIES (ENTRIES + n) ws.now) }
 {
     ws[ENTRIES..ENTRIES + n]
         .iter()
-        .any(|&v| v % 1048576 == w % 1048576)
+        .fold(false, |found, &v| found | (v % 1048576 == w % 1048576))
 }
 
-// So many words at the front of a log are others'.
+// Does x hold one of n words? Looks at every word, as above.
+fn holds(ws: &[u32], table: Table, at: usize, n: usize, x: u32) -> bool
+    requires { at + n ≤ length ws.now }
+    ensures { result ≡ any_p (owns_w (table_number table) x) (slice at (at + n) ws.now) }
+{
+    ws[at..at + n]
+        .iter()
+        .fold(false, |found, &w| found | (owner(table, w) == x))
+}
+
+// So many words at the front of a log are others', found 16 at a time: mostly x holds none, or its words are the last.
 fn others(ws: &[u32], table: Table, at: usize, n: usize, x: u32) -> usize
     requires { at + n ≤ length ws.now }
     ensures { Others (owns_w (table_number table) x) at n ws.now result }
 {
-    ws[at..at + n]
-        .iter()
-        .position(|&w| owner(table, w) == x)
-        .unwrap_or(n)
+    // Kept: `position`, word by word, makes creations of values that hold relations 1.8 times as slow.
+    let mut i = 0;
+    while i + 16 <= n {
+        if holds(ws, table, at + i, 16, x) {
+            return i;
+        }
+        i += 16;
+    }
+    i
 }
 
 // Takes the words that x holds out of a log; the others keep their order.

@@ -25,8 +25,12 @@ module _ {A : Type 0} (f : Standing A) (word : A → ℕ) (sheet : List ℕ) whe
     pub number : to + k ≡ to₀ + k₀
     pub same : length ws ≡ length ws₀
 
-  pub storing-start : (k : ℕ) (c : Position) (to : ℕ) (ws : List ℕ) {j : ℕ} → j ≡ k → Storing k c to ws j c to ws
-  storing-start k c to ws e = subst (λ (j : ℕ). Storing k c to ws j c to ws) (sym e) (record { words = refl; next = refl; number = refl; same = refl })
+  pub storing-start : (k : ℕ) (c : Position) (to : ℕ) (ws : List ℕ) → Storing k c to ws k c to ws
+  storing-start k c to ws = record { words = refl; next = refl; number = refl; same = refl }
+
+  -- the same, by another count of as many
+  pub storing_all : (k : ℕ) (c : Position) (to : ℕ) (ws : List ℕ) {j : ℕ} → j ≡ k → Storing k c to ws j c to ws
+  storing_all k c to ws e = subst (λ (j : ℕ). Storing k c to ws j c to ws) (sym e) (storing-start k c to ws)
 
 module _ {A : Type 0} {f : Standing A} {word : A → ℕ} {sheet : List ℕ} {k₀ : ℕ} {c₀ : Position} {to₀ : ℕ} {ws₀ : List ℕ} {k : ℕ} {c : Position} {to : ℕ} {ws : List ℕ}
     (v : Storing f word sheet k₀ c₀ to₀ ws₀ k c to ws) where
@@ -34,8 +38,8 @@ module _ {A : Type 0} {f : Standing A} {word : A → ℕ} {sheet : List ℕ} {k�
   pub storing_inside : Rises f → 0 < k → (several k₀ f sheet c₀).next ≤ length sheet → (f sheet c).next ≤ length sheet
   storing_inside r h i = first_inside f sheet k c r h (omega (arith, v.next, i))
 
-  one_less : 0 < k → {w : ℕ} {c' : Position} → w ≡ word (f sheet c).what → c' ≡ (f sheet c).next → Storing f word sheet k₀ c₀ to₀ ws₀ (k - 1) c' (to + 1) (set ws to w)
-  one_less h {w} {c'} e n =
+  pub storing_turn : 0 < k → {w : ℕ} {c' : Position} → w ≡ word (f sheet c).what → c' ≡ (f sheet c).next → Storing f word sheet k₀ c₀ to₀ ws₀ (k - 1) c' (to + 1) (set ws to w)
+  storing_turn h {w} {c'} e n =
       let first = several_next f sheet k c h in
       let rest : ℕ → List ℕ → List ℕ = λ i l. sets l i (map word (several (k - 1) f sheet (f sheet c).next).what) in
       record {
@@ -49,8 +53,8 @@ module _ {A : Type 0} {f : Standing A} {word : A → ℕ} {sheet : List ℕ} {k�
         same = length-set ws to w ∙ v.same;
       }
 
-  pub storing_turn : 0 < k → {w : ℕ} {c' : Position} → w ≡ word (f sheet c).what → c' ≡ (f sheet c).next → {j : ℕ} → j ≡ k - 1 → Storing f word sheet k₀ c₀ to₀ ws₀ j c' (to + 1) (set ws to w)
-  storing_turn h {w} {c'} e n q = subst (λ (j : ℕ). Storing f word sheet k₀ c₀ to₀ ws₀ j c' (to + 1) (set ws to w)) (sym q) (one_less h e n)
+  pub storing_next : 0 < k → {w : ℕ} {c' : Position} → w ≡ word (f sheet c).what → c' ≡ (f sheet c).next → {j : ℕ} → j ≡ k - 1 → Storing f word sheet k₀ c₀ to₀ ws₀ j c' (to + 1) (set ws to w)
+  storing_next h {w} {c'} e n q = subst (λ (j : ℕ). Storing f word sheet k₀ c₀ to₀ ws₀ j c' (to + 1) (set ws to w)) (sym q) (storing_turn h e n)
 
 pub storing_done : {A : Type 0} {f : Standing A} {word : A → ℕ} {sheet : List ℕ} {l : Listed} {to₀ : ℕ} {ws₀ : List ℕ} {k : ℕ} {c : Position} {to : ℕ} {ws : List ℕ}
     → Storing f word sheet l.count l.first to₀ ws₀ k c to ws → k ≤ 0 → Stores f word l to₀ sheet ws₀ ws c
