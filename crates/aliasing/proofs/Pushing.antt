@@ -3,7 +3,7 @@ use Prim.Native.Nat.{ℕ, ◌+◌, ◌-◌, ◌/◌, ◌%◌, ◌≤◌, ◌<◌
 use native.Mathlib.Omega.{arith}
 use native.Mathlib.Numerals.{add-one}
 use mathlib.Core.List.{List, [], ◌∷◌}
-use mathlib.Core.Path.{◌≡◌, refl, sym, ap, subst, ◌∙◌}
+use mathlib.Core.Path.{◌≡◌, sym, ap, subst, ◌∙◌}
 use lib.ListN.{length, get_or, set, take, length-set}
 use lib.Seq.{slice, sets, slice-cons, slice_empty, take-set-le, get_or-take}
 use borrow.Author.Tests.{lt-ltb, le-ltb}
@@ -17,9 +17,6 @@ pub record Pushing (ws₀ : List ℕ) (top : ℕ) (vs : List ℕ) (ws : List ℕ
   pub below : take top ws ≡ take top ws₀
   pub same : length ws ≡ length ws₀
   pub up : top ≤ len
-
-pub pushing_start : (ws : List ℕ) (top : ℕ) (vs : List ℕ) → Pushing ws top vs ws top vs
-pushing_start ws top vs = record { words = refl; next = refl; below = refl; same = refl; up = omega arith }
 
 pub pushing_end : {ws₀ : List ℕ} {top : ℕ} {vs ws : List ℕ} {len : ℕ} → Pushing ws₀ top vs ws len [] → Wrote vs ws₀ top ws len
 pushing_end p = record { words = p.words; next = omega (arith, p.next) }
@@ -72,9 +69,6 @@ pub record PushInv (rule : List ℕ → List ℕ) (ws₀ : List ℕ) (at end top
   pub clear : end ≤ top
   pub room : len + (end - i) ≤ length ws₀
   pub push : Pushing ws₀ top (rule (slice at end ws₀)) ws len (rule (slice i end ws₀))
-
-pub push_start : (rule : List ℕ → List ℕ) (ws : List ℕ) (at end top : ℕ) → at ≤ end → end ≤ top → top + (end - at) ≤ length ws → PushInv rule ws at end top ws at top
-push_start rule ws at end top h k r = record { mid = h; clear = k; room = r; push = pushing_start ws top _ }
 
 module _ {rule : List ℕ → List ℕ} {ws₀ : List ℕ} {at end top : ℕ} {ws : List ℕ} {i len : ℕ} (p : PushInv rule ws₀ at end top ws i len) where
   onward : (rest : List ℕ) → rule (slice i end ws₀) ≡ rest → Pushing ws₀ top (rule (slice at end ws₀)) ws len rest

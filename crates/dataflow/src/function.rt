@@ -4,7 +4,7 @@ use hir::Place;
 use hir::at::List;
 
 // What the call needs of the sheet: whether errors are recorded, whether it is a function expression, whether an instruction may have an effect to copy or an Apply, the identifiers, how many inner functions, parameters and context places there are, returns, and the blocks.
-#[derive(Clone, Copy)]
+#[derive(Clone, Copy, Debug, PartialEq, Eq)]
 pub struct HirFunction {
     pub errors: bool,
     pub function_expression: bool,
@@ -19,7 +19,7 @@ pub struct HirFunction {
 }
 
 // The function and its building.
-#[derive(Clone, Copy)]
+#[derive(Clone, Copy, Debug, PartialEq, Eq)]
 pub struct Read {
     pub function: HirFunction,
     pub building: Building,

@@ -52,7 +52,7 @@ fn read_functions(sheet: &[u32], list: List, ws: &mut [u32]) -> usize
 }
 
 // The flags, the identifiers and the inner functions: errors recorded or not, a function expression or not, the lists of both, and where the parameters begin.
-#[derive(Clone, Copy)]
+#[derive(Clone, Copy, Debug, PartialEq, Eq)]
 pub struct Top {
     pub errors: bool,
     pub function_expression: bool,

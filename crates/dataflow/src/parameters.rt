@@ -31,7 +31,7 @@ fn read_places(sheet: &[u32], list: List, first: usize, ws: &mut [u32], b: &mut 
 }
 
 // How many parameters and context places there are, returns, and the blocks.
-#[derive(Clone, Copy)]
+#[derive(Clone, Copy, Debug, PartialEq, Eq)]
 pub struct Tracked {
     pub params: u32,
     pub context: u32,

@@ -87,26 +87,6 @@ abbrev pub roles : List Role
 roles =
     Nothing ∷ Mutation ∷ Mutation ∷ Mutation ∷ Mutation ∷ Relation ∷ Relation ∷ Relation ∷ Relation ∷ Nothing ∷ Relation ∷ Nothing ∷ Nothing ∷ Nothing ∷ Diagnosis ∷ Diagnosis ∷ Diagnosis ∷ Render ∷ []
 
-pub number_few : (k : Kind) → kind_number k ≤ most_kind
-number_few KindFreeze = omega arith
-number_few KindMutate = omega arith
-number_few KindMutateConditionally = omega arith
-number_few KindMutateTransitive = omega arith
-number_few KindMutateTransitiveConditionally = omega arith
-number_few KindCapture = omega arith
-number_few KindAlias = omega arith
-number_few KindMaybeAlias = omega arith
-number_few KindAssign = omega arith
-number_few KindCreate = omega arith
-number_few KindCreateFrom = omega arith
-number_few KindImmutableCapture = omega arith
-number_few KindApply = omega arith
-number_few KindCreateFunction = omega arith
-number_few KindMutateFrozen = omega arith
-number_few KindMutateGlobal = omega arith
-number_few KindImpure = omega arith
-number_few KindRender = omega arith
-
 pub role_right : (k : Kind) → role_says (get_or roles (kind_number k) Relation) ≡ (row_of (kind_says k)).role
 unfolding row_of
 role_right KindFreeze = refl

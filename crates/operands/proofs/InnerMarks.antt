@@ -27,7 +27,7 @@ use Rattle.hir.proofs.Several.{several_next, several_none}
 use Rattle.workspace.specs.Layout.{STARTS, ENDS, CONTEXTS, PASSED}
 use Rattle.workspace.specs.Rows.{Kept}
 use Rattle.workspace.proofs.Parts.{slice_take, take-word, drop-word, take_sets, drop_sets, kept_set}
-use Rattle.dataflow.proofs.Storing.{Storing, storing_inside, storing_turn, storing_done}
+use Rattle.dataflow.proofs.Storing.{Storing, storing_inside, storing_next, storing_done}
 use Rattle.operands.specs.Given.{word_gives}
 use Rattle.operands.specs.Ranges.{ranges_of}
 use Rattle.operands.specs.Contexts.{places_from, context_at, contexts_of}
@@ -181,7 +181,7 @@ module _ {ms : List Mark} {lists ws₀ : List ℕ} {n : ℕ} {c₀ : Position} {
       let less : n - (i + 1) ≡ n - i - 1 = omega arith in
       let more : w + (i + 1) ≡ w + i + 1 = omega arith in
       record {
-        storing = rw more (storing_turn v.storing (omega arith) (ap (λ (j : ℕ). j + 1) (q ∙ here)) refl less);
+        storing = rw more (storing_next v.storing (omega arith) (ap (λ (j : ℕ). j + 1) (q ∙ here)) refl less);
         small = rw less (λ s. v.small (subst (λ (x : Part (List Place)). Every (Small ms) x.what) (sym all) (omega (arith, effect_number_lem m, here), s)));
         kept = kept_set v.kept (w + i) (k + 1) (omega (arith, lo)) hi;
       }

@@ -40,7 +40,7 @@ fn mark_place(e: AliasingEffect, x: IdentifierId, given: Effect, before: Effect)
 }
 
 // The marks of an instruction's effects, by the ends as they stand.
-#[derive(Clone, Copy)]
+#[derive(Clone, Copy, Debug, PartialEq, Eq)]
 pub struct Marks<'a> {
     pub sheet: &'a [u32],
     pub effects: List,

@@ -25,7 +25,7 @@ const PART_BYTES: u64 = 131072;
 const LENT: usize = 18000;
 
 // A call, and what it has to give: the refusal, 0 for none, and the answer's words, none for a refusal.
-#[derive(Clone, Copy)]
+#[derive(Clone, Copy, Debug, PartialEq, Eq)]
 struct Case<'a> {
     sheet: &'a [u32],
     refusal: u32,

@@ -4,7 +4,7 @@ use native.Mathlib.Omega.{arith}
 use mathlib.Core.Path.{◌≡◌, refl, sym, ap, ◌∙◌}
 use mathlib.Core.List.{List, [], ◌∷◌, ◌++◌}
 use lib.ListN.{length, set, take, drop, length-append}
-use lib.Seq.{sets, sets-eq, set-set, set_comm, set_out, length-sets, length-take-le, take_at}
+use lib.Seq.{sets, sets-eq, set-set, set_comm, length-sets, length-take-le, take_at}
 use Rattle.workspace.proofs.Parts.{sets_append}
 use Rattle.writing.specs.declared.Writer.{Writer}
 use Rattle.writing.specs.Wrote.{Wrote, Writes, Patches, moved}
@@ -12,13 +12,6 @@ use Rattle.writing.specs.Wrote.{Wrote, Writes, Patches, moved}
 -- nothing written
 pub wrote_none : (a : List ℕ) (at : ℕ) → Wrote [] a at a at
 wrote_none a at = record { words = refl; next = omega arith }
-
--- one more, a word or a byte: there is room for it, or there is none
-pub wrote_in : {a a' : List ℕ} {at v : ℕ} → a' ≡ set a at v → Wrote (v ∷ []) a at a' (at + 1)
-wrote_in e = record { words = e; next = refl }
-
-pub wrote_past : {a a' : List ℕ} {at v : ℕ} → length a ≤ at → a' ≡ a → Wrote (v ∷ []) a at a' (at + 1)
-wrote_past {a} {at = at} {v} h e = record { words = e ∙ sym (set_out a at v h); next = refl }
 
 -- the buffer keeps its length
 pub wrote_same : {vs a b : List ℕ} {at at' : ℕ} → Wrote vs a at b at' → length b ≡ length a
@@ -74,10 +67,6 @@ writes_then h k = record { wrote = wrote_then h.wrote k.wrote; same = k.same ∙
 
 pub writes_as : {us vs : List ℕ} {a b : Writer ℕ} → Writes us a b → us ≡ vs → Writes vs a b
 writes_as h e = record { wrote = wrote_as h.wrote e; same = h.same }
-
--- how far it has come
-pub writes_far : {vs : List ℕ} {a b : Writer ℕ} → Writes vs a b → b.at ≡ a.at + length vs
-writes_far h = h.wrote.next
 
 -- the buffer keeps its length
 pub writes_long : {vs : List ℕ} {a b : Writer ℕ} → Writes vs a b → length b.buffer.now ≡ length a.buffer.now
