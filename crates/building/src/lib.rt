@@ -66,6 +66,7 @@ pub struct PendingMutation {
 }
 
 // The word of a value.
+// Kept: it requires a function that has room in the word, which a `From` cannot.
 fn value_word(value: NodeValue) -> u32
     requires { FunctionBelow value }
     ensures { (MISSING < result) × (value_of result ≡ value_is value) }
@@ -107,6 +108,7 @@ impl Building {
     }
 
     // "from" is captured in "into".
+    // Kept: this one and the next two differ in the relation alone; they have the names of the original.
     pub fn capture(&mut self, ws: &mut [u32], from: IdentifierId, into: IdentifierId)
         requires sound { Sound ws.old self.old }
         requires self_bound { (index_of self.old < most_index) × ((from.0 < most_identifiers) × (into.0 < most_identifiers)) }

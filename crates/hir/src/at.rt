@@ -27,6 +27,7 @@ pub const DIAGNOSTIC_WIDTH: usize = 2;
 pub const FLAGS_WIDTH: usize = 3;
 
 // A list: how many parts, and where the first stands.
+// Kept: lists are positions in the sheet (document 01), and nothing is copied out of it.
 #[derive(Clone, Copy, Debug, PartialEq, Eq)]
 pub struct List {
     pub count: u32,
@@ -63,6 +64,7 @@ pub struct Effects {
 }
 
 // An instruction.
+// Kept: `listed` stands beside `effects`, as in `Effects`.
 #[derive(Clone, Copy, Debug, PartialEq, Eq)]
 pub struct Instruction {
     pub order: EvaluationOrder,

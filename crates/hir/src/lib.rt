@@ -15,6 +15,7 @@ pub mod words;
 use refusal::Refusal;
 
 // An identifier's number, below the count of identifiers.
+// Kept: its bound stands in contracts, since `at::place_at` makes one of any word.
 #[derive(Clone, Copy, Debug, PartialEq, Eq)]
 pub struct IdentifierId(pub u32);
 
@@ -32,6 +33,7 @@ pub struct EvaluationOrder(pub u32);
 
 impl EvaluationOrder {
     // The order of a range that has none yet.
+    // Kept: no `Option`, since document 01 gives the unset order to its own type.
     pub const UNSET: EvaluationOrder = EvaluationOrder(0);
 
     pub fn is_unset(self) -> bool
@@ -64,6 +66,7 @@ impl From<Effect> for u32 {
 }
 
 // A use of an identifier. The span is 0 for none.
+// Kept: the span is a word of the sheet, which goes into the answer as it is.
 #[derive(Clone, Copy, Debug, PartialEq, Eq)]
 pub struct Place {
     pub identifier: IdentifierId,

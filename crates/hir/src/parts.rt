@@ -17,6 +17,7 @@ use crate::{
 };
 
 // The type of a number; one above 2 is refused before.
+// Kept: the second reading asks for the type of any word, as `type_of` of the definitions does, so there is no error for a `TryFrom`.
 pub fn type_of(number: u32) -> IdentifierType
     ensures { type_says result ≡ type_of number }
 {

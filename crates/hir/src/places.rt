@@ -38,6 +38,7 @@ fn position_of(traits: u32) -> u32
 }
 
 // The effect that a traits word names.
+// Kept: it requires a traits word, which a `From` cannot, and so has no error for a `TryFrom`.
 #[tactic(auto, using(crate::proofs::Ranges::effect_right), unfolding(model::specs::Traits::effect_of))]
 pub fn effect_of(traits: u32) -> Effect
     requires { traits ≤ most_traits }

@@ -25,6 +25,7 @@ const PART_BYTES: u64 = 131072;
 const LENT: usize = 18000;
 
 // A call, and what it has to give: the refusal, 0 for none, and the answer's words, none for a refusal.
+// Kept: the refusal is the number of the file and of the reply.
 #[derive(Clone, Copy, Debug, PartialEq, Eq)]
 struct Case<'a> {
     sheet: &'a [u32],

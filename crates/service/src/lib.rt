@@ -21,6 +21,7 @@ pub struct Caller {
     pub next: u32,
 }
 
+// Kept: the C interface has the refusal as a number.
 // The refusal's number, 0 for none; the serial of an accepted call, else 0; the answer's length. A class load and a drawing take no serial; the length is the sheet's in words, the text's in bytes.
 #[repr(C)]
 #[derive(Clone, Copy, Debug, PartialEq, Eq)]

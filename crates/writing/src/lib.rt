@@ -5,6 +5,7 @@ ghost use Rattle.std.specs.Prelude.{◌≡◌, [], ◌∷◌, ◌<◌};
 ghost use Rattle.writing.specs.Wrote.{farthest, Writes, Patches};
 
 // A lent buffer, and where the next item goes.
+// Kept: how far it may go (`farthest`) stands in each contract, as each function writes another number of items.
 #[derive(Drop)]
 pub struct Writer<'a, T> {
     pub buffer: &'a mut [T],
