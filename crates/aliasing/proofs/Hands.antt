@@ -18,11 +18,10 @@ use Rattle.workspace.specs.Layout.{RECORD, LSPAN, TSPAN, SEEN, BASE, QUEUE, HAND
 use Rattle.workspace.specs.Rows.{Kept}
 use Rattle.workspace.specs.Graph.{value_of}
 use Rattle.workspace.proofs.Tables.{tab_at, tab-length}
-use Rattle.aliasing.specs.declared.Mutation.{Mutation as CodeMutation}
+use Rattle.aliasing.specs.declared.mutation.Mutation.{Mutation as CodeMutation}
 use Rattle.aliasing.specs.Says.{mode_of, mode_says}
 use Rattle.aliasing.specs.State.{nodes_of, NoneAbove, record_at, records_of, bare, Handing}
 use Rattle.aliasing.specs.Accepts.{function_w, hand_w}
-use Rattle.aliasing.specs.Walks.{Callable}
 use Rattle.aliasing.proofs.Packed.{has_word}
 use Rattle.aliasing.proofs.Parts.{nodes_below, seen_below, base_below}
 use Rattle.aliasing.proofs.Levels.{above_as}
@@ -45,14 +44,14 @@ errors_are zero errors q = q refl
 errors_are (suc e) errors q = refl
 
 -- the function of x, as document 01 has it
-pub handed_is : (ns : List ℕ) (v x : ℕ) (m : CodeMutation) → x < most_identifiers → Callable m
+pub handed_is : (ns : List ℕ) (v x : ℕ) (m : CodeMutation) → x < most_identifiers
     → hand_w ns v x m.should_record_errors ≡ list_if (records_errors (mode_says m) && not (has_record (get_or (records_of ns) x no_record))) (function_of (value_of v))
 unfolding hand_w records_of record_at mode_says
-handed_is ns v x m hx callable =
+handed_is ns v x m hx =
     hand_is m.should_record_errors (eqb (get_or ns (RECORD + x) 0 % 16) 0) (function_w v)
     ∙ ap (λ (b : Bool). list_if (m.should_record_errors && not b) (function_w v)) (sym (has_word (get_or ns (RECORD + x) 0) (get_or ns (TSPAN + x) 0) (get_or ns (LSPAN + x) 0)))
     ∙ ap (list_if (m.should_record_errors && not (has_record (record_at ns x)))) (function_is v)
-    ∙ ap (λ (b : Bool). list_if (b && not (has_record (record_at ns x))) (function_of (value_of v))) (errors_are m.end.0 m.should_record_errors callable.quiet)
+    ∙ ap (λ (b : Bool). list_if (b && not (has_record (record_at ns x))) (function_of (value_of v))) (errors_are m.end.0 m.should_record_errors m.quiet)
     ∙ ap (λ (r : Record). list_if (records_errors (mode_of m.end.0 m.should_record_errors) && not (has_record r)) (function_of (value_of v))) (sym (tab_at most_identifiers (record_at ns) x no_record hx))
 
 -- it looks at the node fields alone

@@ -23,12 +23,12 @@ use Rattle.aliasing.specs.Items.{item_of, queue_of}
 use Rattle.aliasing.proofs.Sizes.{pushed_le}
 use Rattle.aliasing.proofs.PushLaws.{pushed_part, pushed_kept}
 use Rattle.aliasing.proofs.Items.{pushed_items, queue_push}
-use Rattle.aliasing.specs.declared.Mutation.{Mutation}
+use Rattle.aliasing.specs.declared.mutation.Mutation.{Mutation}
 use Rattle.aliasing.specs.Says.{mode_says, mutation_says}
 use Rattle.aliasing.specs.State.{nodes_of, seen_of, levels, records_of, ends_of, state_of, bare}
 use Rattle.aliasing.specs.Accepts.{accept_w, hand_w}
 use Rattle.aliasing.specs.Potential.{phi}
-use Rattle.aliasing.specs.Walks.{Shows, Ready, Callable, Stepped}
+use Rattle.aliasing.specs.Walks.{Shows, Ready, Stepped}
 use Rattle.aliasing.proofs.Parts.{slice_below, slice_above, nodes_below, seen_below, seen_above, rows_below, rows_above, base_below, base_above, accept_kept, accept_nodes, nodes_length}
 use Rattle.aliasing.proofs.Levels.{above_as}
 use Rattle.aliasing.proofs.Records.{accept_records, accept-ends}
@@ -36,7 +36,7 @@ use Rattle.aliasing.proofs.Hands.{handed_is, hand_same, room_kept, records_lengt
 use Rattle.aliasing.proofs.Cases.{step_misses, step-accepts}
 use Rattle.aliasing.proofs.Entries.{last, place_at, kind_at, transitive_at, direction_at, state_same, graph_missing, graph_there, shows_to, marking, queue_is, Unseen}
 
-module _ (m : Mutation) (base : ℕ) (ws : List ℕ) (top hand : ℕ) (ready : Ready base ws top hand) (callable : Callable m) (more : QUEUE < top) (u : Unseen base ws top hand) where
+module _ (m : Mutation) (base : ℕ) (ws : List ℕ) (top hand : ℕ) (ready : Ready base ws top hand) (more : QUEUE < top) (u : Unseen base ws top hand) where
   x_below : place_at ws top < most_identifiers
   x_below = omega arith
 
@@ -98,7 +98,7 @@ module _ (m : Mutation) (base : ℕ) (ws : List ℕ) (top hand : ℕ) (ready : R
         hand_same marked (get_or marked (VALUE + place_at ws top) 0) (place_at ws top) m.should_record_errors x_below
         ∙ ap (λ (l : List ℕ). hand_w l (get_or marked (VALUE + place_at ws top) 0) (place_at ws top) m.should_record_errors) (nodes_below u.mark (omega arith))
         ∙ ap (λ (v : ℕ). hand_w (take SEEN ws) v (place_at ws top) m.should_record_errors) u.value_kept
-        ∙ handed_is (take SEEN ws) (value (rows_of ws) (place_at ws top)) (place_at ws top) m x_below callable
+        ∙ handed_is (take SEEN ws) (value (rows_of ws) (place_at ws top)) (place_at ws top) m x_below
 
     ph' : Wrote handing marked hand ws_h h
     ph' = subst (λ (vs : List ℕ). Wrote vs marked hand ws_h h) hands ph

@@ -9,7 +9,7 @@ use Rattle.model.specs.Limits.{most_identifiers}
 use Rattle.workspace.specs.Layout.{LEAST, SEEN, BASE, VALUE, QUEUE}
 use Rattle.workspace.specs.Rows.{rows_of, Kept}
 use Rattle.workspace.proofs.Parts.{slice_at, slice_take, slice_drop, slice_set_in, take_less, drop-word, kept_none, kept_set, kept_at}
-use Rattle.aliasing.specs.declared.Mutation.{Mutation}
+use Rattle.aliasing.specs.declared.mutation.Mutation.{Mutation}
 use Rattle.aliasing.specs.State.{nodes_of, seen_of}
 use Rattle.aliasing.specs.Accepts.{accept_w}
 use Rattle.aliasing.proofs.Writes.{local_accept}

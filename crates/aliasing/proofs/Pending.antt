@@ -2,13 +2,13 @@
 use Prim.Native.Nat.{ℕ, zero, suc, ◌+◌, ◌-◌, ◌*◌, ◌/◌, ◌%◌, ◌≤◌, ◌<◌}
 use native.Mathlib.Omega.{arith}
 use native.Mathlib.Numerals.{add-one}
-use mathlib.Core.Bool.{Bool}
+use mathlib.Core.Bool.{Bool, false}
 use mathlib.Core.List.{List, [], ◌∷◌, ◌++◌, map, append_assoc, append-nil}
 use mathlib.Core.Path.{◌≡◌, refl, sym, ap, subst, ◌∙◌}
 use lib.ListN.{length, get_or, set, drop, length-set}
 use lib.Seq.{get_or-set_same, get_or-set_other, drop-set-lt}
 use lib.Dec.{eqb}
-use Rattle.model.specs.Limits.{most_order}
+use Rattle.model.specs.Limits.{most_identifiers, most_order}
 use Rattle.model.specs.Lists.{Every}
 use Rattle.model.specs.Mutation.{Mutation}
 use Rattle.model.specs.State.{State, Mode, real}
@@ -27,10 +27,11 @@ use Rattle.hir.specs.declared.MutationReason.{MutationReason}
 use Rattle.hir.specs.declared.MutationReason.TheVariants.{AssignCurrentProperty}
 use Rattle.std.specs.Bool.{then_some}
 use Rattle.hir.specs.Mutations.{kind_says}
-use Rattle.aliasing.specs.declared.Mutation.{Mutation as CodeMutation}
+use Rattle.aliasing.specs.declared.mutation.Mutation.{Mutation as CodeMutation}
 use Rattle.aliasing.specs.Says.{mode_of, mode_says, mutation_says}
 use Rattle.aliasing.specs.State.{state_of, Handing}
-use Rattle.aliasing.specs.Walks.{index_room, Unmarked, Mutated}
+use Rattle.aliasing.specs.Limits.{index_room}
+use Rattle.aliasing.specs.Walks.{Unmarked, Mutated}
 use Rattle.aliasing.specs.Pending.{Pending, Made, taken_of, Processed}
 use Rattle.aliasing.proofs.Bits.{reason_then}
 use Rattle.aliasing.proofs.Parts.{slice_below, nodes_below, rows_below}
@@ -39,7 +40,7 @@ use Rattle.aliasing.proofs.Entries.{state_same}
 use Rattle.aliasing.proofs.Begin.{Remarked, remarked, unmarked_handing}
 
 -- ---- one mutation by its words
-pub made : (w order span : ℕ) (errors : Bool) (kind : MutationKind) (reason : Option MutationReason) → w / 4096 < index_room → kind_says kind ≡ kind_of (w / 1024 % 2) → reason ≡ then_some (eqb (w / 2048 % 2) 1) AssignCurrentProperty
+pub made : (w order span : ℕ) (errors : Bool) (kind : MutationKind) (reason : Option MutationReason) (starts : w % 512 < most_identifiers) (fits : w / 4096 < index_room) (quiet : order + 1 ≡ 0 → errors ≡ false) → kind_says kind ≡ kind_of (w / 1024 % 2) → reason ≡ then_some (eqb (w / 2048 % 2) 1) AssignCurrentProperty
     → Made w order span errors (record {
       index = w / 4096;
       start = record { 0 = w % 512 };
@@ -49,15 +50,17 @@ pub made : (w order span : ℕ) (errors : Bool) (kind : MutationKind) (reason : 
       span = span;
       reason = reason;
       should_record_errors = errors;
+      starts_below = starts;
+      index_fits = fits;
+      quiet = quiet;
     })
 unfolding mutation_says mode_says mutation_of
-made w order span errors kind reason low k r =
+made w order span errors kind reason starts fits quiet k r =
     let e : order + 1 ≡ suc order = omega arith in
     let p : order + 1 - 1 ≡ order = omega arith in
     record {
       is = rw (p, k, r, reason_then (w / 2048 % 2) (omega arith));
       how = ap (λ (n : ℕ). mode_of n errors) e;
-      callable = record { start = omega arith; index = low; quiet = λ z. absurd (omega (arith, z)) };
     }
 
 -- ---- each order

@@ -22,7 +22,7 @@ use Rattle.std.specs.Prelude.{Option}
 use Rattle.hir.specs.declared.MutationReason.{MutationReason}
 use Rattle.aliasing.proofs.Bits.{reason_below, reason_is}
 use Rattle.hir.specs.Mutations.{reason_bit, reason_says}
-use Rattle.aliasing.specs.declared.Mutation.{Mutation as CodeMutation}
+use Rattle.aliasing.specs.declared.mutation.Mutation.{Mutation as CodeMutation}
 use Rattle.aliasing.specs.Says.{mode_of, mode_says, mutation_says}
 use Rattle.aliasing.specs.State.{info_of, record_in, end_at, record_at, records_of, ends_of}
 use Rattle.aliasing.specs.Accepts.{raise_w, record_word, kept_word, span_w, write_w, record_w, accept_w}

@@ -18,13 +18,13 @@ use Rattle.workspace.specs.Rows.{rows_of, Indexed}
 use Rattle.aliasing.specs.Pushes.{entry_w}
 use Rattle.aliasing.specs.Items.{item_of, queue_of}
 use Rattle.aliasing.proofs.Items.{item_entry}
-use Rattle.aliasing.specs.declared.Mutation.{Mutation as CodeMutation}
+use Rattle.aliasing.specs.declared.mutation.Mutation.{Mutation as CodeMutation}
 use Rattle.hir.specs.Mutations.{kind_bit}
 use Rattle.aliasing.specs.Says.{bit, mode_says, mutation_says}
 use Rattle.aliasing.proofs.Bits.{bit_below, kind_below, bit_is, kind_is}
 use Rattle.aliasing.specs.State.{seen_of, levels, NoneAbove, state_of, Handing}
 use Rattle.aliasing.specs.Potential.{phi}
-use Rattle.aliasing.specs.Walks.{Shows, Ready, Callable, Walked, BaseTaken, Mutated}
+use Rattle.aliasing.specs.Walks.{Shows, Ready, Walked, BaseTaken, Mutated}
 use Rattle.aliasing.proofs.Parts.{seen_below, base_below}
 use Rattle.aliasing.proofs.Hands.{handing_as, handing_behind}
 use Rattle.aliasing.proofs.Walks.{aside_then}
@@ -54,7 +54,7 @@ pub record Started (m : CodeMutation) (ws : List ℕ) (hand base : ℕ) (first_w
   pub mutated : (ws' : List ℕ) (count hand' : ℕ) → Walked m base first_words (QUEUE + 1) hand ws' count hand' → Mutated m ws hand ws' count hand'
   pub same : length first_words ≡ length ws
 
-module _ (ws : List ℕ) (hand : ℕ) (m : CodeMutation) (indexed : Indexed ws) (handing : Handing ws hand) (callable : Callable m)
+module _ (ws : List ℕ) (hand : ℕ) (m : CodeMutation) (indexed : Indexed ws) (handing : Handing ws hand)
     (l : List ℕ) (base : ℕ) (new : BaseTaken ws l base) (e : ℕ) (e-is : e ≡ entry_w m.start.0 (bit m.transitive) 0 (kind_bit m.kind)) where
   abbrev first_words : List ℕ
   first_words = set l QUEUE e
@@ -73,7 +73,7 @@ module _ (ws : List ℕ) (hand : ℕ) (m : CodeMutation) (indexed : Indexed ws) 
 
   queue_is : queue_of (slice QUEUE (QUEUE + 1) first_words) ≡ start_item (mutation_says m) ∷ []
   unfolding queue_of
-  queue_is = ap queue_of b.entry ∙ ap (λ (i : Item). i ∷ []) (start_item_lem m e callable.start e-is)
+  queue_is = ap queue_of b.entry ∙ ap (λ (i : Item). i ∷ []) (start_item_lem m e m.starts_below e-is)
 
   shows_start : Shows base first_words (QUEUE + 1) hand (start (mutation_says m) (state_of ws hand))
   shows_start = record { queue = queue_is; seen = levels_none base first_words start-marked ∙ levels_long ws hand; state = b.state hand handing.low ∙ u.state hand handing.low }

@@ -16,7 +16,7 @@ use Rattle.workspace.specs.Graph.{MISSING}
 use Rattle.aliasing.specs.Pushes.{pushed_w, Room, deg}
 use Rattle.writing.specs.Wrote.{Wrote}
 use Rattle.aliasing.specs.Items.{item_of, queue_of}
-use Rattle.aliasing.specs.declared.Mutation.{Mutation}
+use Rattle.aliasing.specs.declared.mutation.Mutation.{Mutation}
 use denote.Enum.Declared.{tag_of}
 use Rattle.hir.specs.contracts.MutationKind.{the_type}
 use Rattle.hir.specs.Mutations.{kind_bit}
@@ -24,7 +24,7 @@ use Rattle.aliasing.specs.declared.pushes.QueueEntry.{QueueEntry}
 use Rattle.aliasing.specs.Says.{bit, direction_bit, Unpacked, mode_says, mutation_says}
 use Rattle.aliasing.proofs.Bits.{tag_bit}
 use Rattle.aliasing.specs.Accepts.{accept_w, hand_w}
-use Rattle.aliasing.specs.Walks.{Ready, Callable, Stepped}
+use Rattle.aliasing.specs.Walks.{Ready, Stepped}
 use Rattle.aliasing.proofs.Enters.{Enters, enters_seen, enters_marked}
 use Rattle.aliasing.proofs.Cases.{step_skips}
 use Rattle.aliasing.proofs.Entries.{last, place_at, kind_at, transitive_at, direction_at, item_level, shows_to, marking, queue_is, seen_is, when_unseen, Unseen}
@@ -43,7 +43,7 @@ pub record Entering (m : Mutation) (base : ℕ) (ws : List ℕ) (top hand p d t 
       → (ws_h : List ℕ) (h : ℕ) → Wrote (hand_w ws₁ (get_or ws₁ (VALUE + p) 0) p m.should_record_errors) ws₁ hand ws_h h
       → (ws₂ : List ℕ) → ws₂ ≡ accept_w ws_h p t (k + 1) m → Accepting m base ws top hand p d t k h ws₂
 
-module _ (m : Mutation) (base : ℕ) (ws : List ℕ) (top hand : ℕ) (ready : Ready base ws top hand) (callable : Callable m) (more : QUEUE < top) where
+module _ (m : Mutation) (base : ℕ) (ws : List ℕ) (top hand : ℕ) (ready : Ready base ws top hand) (more : QUEUE < top) where
   -- ---- seen at this kind or a higher one: no word is written
   step_seen : base + kind_at ws top < get_or ws (SEEN + place_at ws top) 0 → Stepped m base ws top hand ws (top - 1) hand
   step_seen seen = record {
@@ -61,10 +61,10 @@ module _ (m : Mutation) (base : ℕ) (ws : List ℕ) (top hand : ℕ) (ready : R
   -- ---- not seen
   entering : Unseen base ws top hand → Entered (marking base ws top) (not (eqb (get_or ws (VALUE + place_at ws top) 0) MISSING))
   entering u = record {
-    passed = λ e. step_missing m base ws top hand ready callable more u (value_same ∙ eqb-true (get_or ws (VALUE + place_at ws top) 0) 0 (not-false _ e));
+    passed = λ e. step_missing m base ws top hand ready more u (value_same ∙ eqb-true (get_or ws (VALUE + place_at ws top) 0) 0 (not-false _ e));
     accepted = λ e ws_h h ph ws₂ is₂.
         let there : get_or (marking base ws top) (VALUE + place_at ws top) 0 ≡ 0 → ⊥ = λ z. eqb-false (get_or ws (VALUE + place_at ws top) 0) 0 (not-true _ e) (sym value_same ∙ z) in
-        record { room = step_room m base ws top hand ready callable more u ws_h h ph ws₂ is₂; stepped = step_accepted m base ws top hand ready callable more u ws_h h ph ws₂ is₂ there };
+        record { room = step_room m base ws top hand ready more u ws_h h ph ws₂ is₂; stepped = step_accepted m base ws top hand ready more u ws_h h ph ws₂ is₂ there };
   }
     where
       value_same : get_or (marking base ws top) (VALUE + place_at ws top) 0 ≡ get_or ws (VALUE + place_at ws top) 0

@@ -13,7 +13,7 @@ use lib.ListN.{length}
 use Rattle.workspace.specs.Layout.{QUEUE, HANDED}
 use Rattle.workspace.specs.Rows.{rows_of, Good, Indexed}
 use Rattle.aliasing.specs.Items.{item_of, queue_of}
-use Rattle.aliasing.specs.declared.Mutation.{Mutation as CodeMutation}
+use Rattle.aliasing.specs.declared.mutation.Mutation.{Mutation as CodeMutation}
 use Rattle.aliasing.specs.Says.{mode_says, mutation_says}
 use Rattle.aliasing.specs.State.{seen_of, levels}
 use Rattle.aliasing.specs.Potential.{phi}

@@ -22,7 +22,7 @@ use Rattle.hir.specs.contracts.MutationKind.{the_type}
 use Rattle.hir.specs.Mutations.{kind_bit, reason_bit}
 use Rattle.aliasing.specs.Says.{bit}
 use Rattle.aliasing.proofs.Bits.{bit_is, tag_bit, some_bit}
-use Rattle.aliasing.specs.declared.Mutation.{Mutation}
+use Rattle.aliasing.specs.declared.mutation.Mutation.{Mutation}
 use Rattle.aliasing.proofs.Packed.{kept_transitive, kept_local}
 
 pick_other : (b : Bool) (l m : List ℕ) (j : ℕ) → get_or m j 0 ≡ get_or l j 0 → get_or (pick b m l) j 0 ≡ get_or l j 0

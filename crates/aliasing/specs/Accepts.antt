@@ -4,7 +4,7 @@ use Rattle.model.specs.Lists.{pick}
 use Rattle.workspace.specs.Graph.{MISSING, FUNCTION}
 use Rattle.workspace.specs.Layout.{RECORD, LSPAN, TSPAN, END, SEEN, VALUE}
 use Rattle.hir.specs.Mutations.{reason_bit}
-use Rattle.aliasing.specs.declared.Mutation.{Mutation}
+use Rattle.aliasing.specs.declared.mutation.Mutation.{Mutation}
 
 -- is the mark of x no higher than the level?
 unfoldable pub fresh_w : List ℕ → ℕ → ℕ → Bool

@@ -1,3 +1,4 @@
+pub mod Limits
 pub mod Pushes
 pub mod Items
 pub mod Says

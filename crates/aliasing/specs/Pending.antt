@@ -12,8 +12,7 @@ use Rattle.workspace.specs.Graph.{tab}
 use Rattle.workspace.specs.Pending.{mutation_of, mutations_of}
 use Rattle.aliasing.specs.Says.{mode_says, mutation_says}
 use Rattle.aliasing.specs.State.{state_of, Handing}
-use Rattle.aliasing.specs.Walks.{Callable}
-use Rattle.aliasing.specs.declared.Mutation.{Mutation}
+use Rattle.aliasing.specs.declared.mutation.Mutation.{Mutation}
 
 -- `count` mutations are pending, each of an instruction's order
 pub record Pending (ws : List ℕ) (count : ℕ) : Type 0 where
@@ -24,7 +23,6 @@ pub record Pending (ws : List ℕ) (count : ℕ) : Type 0 where
 pub record Made (w order span : ℕ) (errors : Bool) (m : Mutation) : Type 0 where
   pub is : mutation_says m ≡ mutation_of w order span
   pub how : mode_says m ≡ real errors
-  pub callable : Callable m
 
 -- the entries that each walk took, in the words in which the spans stood
 unfoldable pub taken_of : List ℕ → ℕ → List ℕ

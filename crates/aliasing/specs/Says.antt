@@ -3,7 +3,7 @@ use Rattle.std.specs.Prelude.{ℕ, zero, suc, ◌-◌, ◌/◌, ◌%◌, ◌≡�
 use Rattle.model.specs.Mutation.{Mutation}
 use Rattle.model.specs.State.{Mode, real, simulated}
 use Rattle.hir.specs.Mutations.{kind_says, kind_bit, reason_says}
-use Rattle.aliasing.specs.declared.Mutation.{Mutation as CodeMutation}
+use Rattle.aliasing.specs.declared.mutation.Mutation.{Mutation as CodeMutation}
 use Rattle.aliasing.specs.declared.pushes.Direction.{Direction}
 use Rattle.aliasing.specs.declared.pushes.Direction.TheVariants.{Backwards, Forwards}
 use Rattle.aliasing.specs.declared.pushes.QueueEntry.{QueueEntry}

@@ -1,5 +1,5 @@
 -- What the functions of the walk promise, by the walk of document 01.
-use Rattle.std.specs.Prelude.{ℕ, ◌+◌, ◌-◌, ◌*◌, ◌≤◌, ◌<◌, false, List, ◌≡◌, length, get_or, drop}
+use Rattle.std.specs.Prelude.{ℕ, ◌+◌, ◌-◌, ◌*◌, ◌≤◌, ◌<◌, List, ◌≡◌, length, get_or, drop}
 use Rattle.std.proofs.Math.Seq.{slice}
 use Rattle.model.specs.Limits.{most_identifiers}
 use Rattle.model.specs.Size.{edges, entries}
@@ -10,15 +10,11 @@ use Rattle.aliasing.specs.Items.{queue_of}
 use Rattle.aliasing.specs.Says.{mode_says, mutation_says}
 use Rattle.aliasing.specs.State.{seen_of, levels, NoneAbove, state_of, Handing}
 use Rattle.aliasing.specs.Potential.{phi}
-use Rattle.aliasing.specs.declared.Mutation.{Mutation}
+use Rattle.aliasing.specs.declared.mutation.Mutation.{Mutation}
 
 -- marks are cleared before a walk would count from a higher base
 abbrev pub most_base : ℕ
 most_base = 4096
-
--- a record's word has room for indexes below this: it holds 32 times the largest
-abbrev pub index_room : ℕ
-index_room = 134217728
 
 -- the words hold the walk w, its accepted entries and its count aside: the queue up to `top`, the levels from `base` on, the state
 pub record Shows (base : ℕ) (ws : List ℕ) (top hand : ℕ) (w : Walk) : Type 0 where
@@ -41,12 +37,6 @@ pub record Aside (ws ws' : List ℕ) : Type 0 where
   pub graph : rows_of ws' ≡ rows_of ws
   pub behind : drop MUTATIONS ws' ≡ drop MUTATIONS ws
   pub same : length ws' ≡ length ws
-
--- what `mutate` can be called with: an identifier, an index that a record's word has room for, and no errors recorded for a simulated mutation
-pub record Callable (m : Mutation) : Type 0 where
-  pub start : m.start.0 < most_identifiers
-  pub index : m.index < index_room
-  pub quiet : m.end.0 ≡ 0 → m.should_record_errors ≡ false
 
 -- one entry was taken
 pub record Stepped (m : Mutation) (base : ℕ) (ws : List ℕ) (top hand : ℕ) (ws' : List ℕ) (top' hand' : ℕ) : Type 0 where

@@ -10,30 +10,20 @@ ghost use Rattle.hir.specs.Mutations.{kind_bit};
 ghost use Rattle.aliasing.specs.Says.{bit};
 ghost use Rattle.aliasing.specs.State.{Handing, NoneAbove};
 ghost use Rattle.aliasing.specs.Accepts.{enter_w, enters_w, raise_w, record_w, accept_w, function_w, hand_w};
-ghost use Rattle.aliasing.specs.Walks.{most_base, Ready, Callable, Stepped, Walked, Unmarked, BaseTaken, Mutated};
+ghost use Rattle.aliasing.specs.Walks.{most_base, Ready, Stepped, Walked, Unmarked, BaseTaken, Mutated};
 ghost use Rattle.aliasing.specs.Pending.{Pending, Made, Processed};
 
 use crate::pushes::{Direction, QueueEntry, kind_of, push_all};
-use hir::{EvaluationOrder, IdentifierId, MutationKind, MutationReason};
+use hir::{EvaluationOrder, IdentifierId, MutationReason};
 use workspace::{
     BASE, END, FUNCTION, HANDED, IDENTIFIERS, LSPAN, MISSING, MUTATIONS, QUEUE, RECORD, SEEN,
     TSPAN, VALUE, clear,
 };
 
+mod mutation;
 pub mod pushes;
 
-// What `mutate` is called with. A simulated mutation has its end unset and records no errors.
-#[derive(Clone, Copy, Debug, PartialEq, Eq)]
-pub struct Mutation {
-    pub end: EvaluationOrder,
-    pub transitive: bool,
-    pub kind: MutationKind,
-    pub start: IdentifierId,
-    pub index: u32,
-    pub reason: Option<MutationReason>,
-    pub span: u32,
-    pub should_record_errors: bool,
-}
+pub use mutation::Mutation;
 
 // Marks are cleared before a walk would count from a higher base.
 const MOST_BASE: u32 = 4096;
@@ -65,8 +55,7 @@ fn raise_end(ws: &mut [u32], at: usize, end: EvaluationOrder)
 
 // The record of an accepted node: the higher kind of the transitive or local one with its span, the first reason, the largest index.
 fn record(ws: &mut [u32], entry: QueueEntry, m: Mutation)
-    requires place_lt_most_identifiers { (entry.place.0 < most_identifiers) × (LEAST ≤ length ws.old) }
-    requires callable { Callable m }
+    requires { (entry.place.0 < most_identifiers) × (LEAST ≤ length ws.old) }
     ensures { ws.new ≡ record_w ws.old entry.place.0 (bit entry.transitive) (kind_bit entry.kind + 1) m }
 {
     let x = entry.place.0 as usize;
@@ -91,8 +80,7 @@ fn record(ws: &mut [u32], entry: QueueEntry, m: Mutation)
 
 // What an accepted node keeps of the mutation.
 fn accept(ws: &mut [u32], entry: QueueEntry, m: Mutation)
-    requires place_lt_most_identifiers { (entry.place.0 < most_identifiers) × (LEAST ≤ length ws.old) }
-    requires callable { Callable m }
+    requires { (entry.place.0 < most_identifiers) × (LEAST ≤ length ws.old) }
     ensures { ws.new ≡ accept_w ws.old entry.place.0 (bit entry.transitive) (kind_bit entry.kind + 1) m }
 {
     record(ws, entry, m);
@@ -138,7 +126,6 @@ fn enter(ws: &mut [u32], x: usize, level: u32) -> bool
 // Takes the last entry pushed. The walk's levels count from `base` on.
 fn step(ws: &mut [u32], top: usize, hand: usize, m: Mutation, base: u32) -> StepLeft
     requires ready { Ready base ws.old top hand }
-    requires callable { Callable m }
     requires lt_top { QUEUE < top }
     ensures { Stepped m base ws.old top hand ws.new result.top result.hand }
 {
@@ -156,8 +143,7 @@ fn step(ws: &mut [u32], top: usize, hand: usize, m: Mutation, base: u32) -> Step
 
 // Takes entries until none is left.
 fn walk(ws: &mut [u32], mut top: usize, mut hand: usize, m: Mutation, base: u32) -> Taken
-    requires ready { Ready base ws.old top hand }
-    requires callable { Callable m }
+    requires { Ready base ws.old top hand }
     ensures { Walked m base ws.old top hand ws.new result.count result.hand }
 {
     let mut count: u32 = 0;
@@ -197,7 +183,6 @@ fn take_base(ws: &mut [u32]) -> u32
 pub fn mutate(ws: &mut [u32], hand: usize, m: Mutation) -> Taken
     requires indexed { Indexed ws.old }
     requires handing { Handing ws.old hand }
-    requires callable { Callable m }
     ensures { Mutated m ws.old hand ws.new result.count result.hand }
 {
     let base = take_base(ws);

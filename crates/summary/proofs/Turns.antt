@@ -22,10 +22,10 @@ use Rattle.workspace.specs.Rows.{rows_of, Good, Indexed, Kept}
 use Rattle.workspace.specs.Graph.{tab}
 use Rattle.workspace.proofs.Parts.{kept_none, kept_set, drop_more, drop-word, slice_drop}
 use Rattle.workspace.proofs.Tables.{tab-length, tab_at, tab-same}
-use Rattle.aliasing.specs.declared.Mutation.{Mutation as CodeMutation}
+use Rattle.aliasing.specs.declared.mutation.Mutation.{Mutation as CodeMutation}
 use Rattle.aliasing.specs.Says.{mode_says, mutation_says}
 use Rattle.aliasing.specs.State.{state_of, Handing}
-use Rattle.aliasing.specs.Walks.{Callable, Unmarked, Mutated}
+use Rattle.aliasing.specs.Walks.{Unmarked, Mutated}
 use Rattle.aliasing.proofs.Parts.{slice_below, nodes_below, rows_below}
 use Rattle.aliasing.proofs.Hands.{handing_behind, handing_anew}
 use Rattle.aliasing.proofs.Begin.{Remarked, remarked, unmarked_handing}
@@ -103,7 +103,7 @@ turned_start ws count index returns o indexed handing = record {
 
 module _ {ws₀ : List ℕ} {count index returns : ℕ} {o₀ : Writer ℕ} {ws : List ℕ} {i : ℕ} {o : Writer ℕ} (p : Turned ws₀ count index returns o₀ ws i o)
     (least : count ≤ most_tracked) (more : i < count) {into : Place} (is : into ≡ tracked_at ws i)
-    {m : CodeMutation} (said : (mutation_says m ≡ simulation (index + i) into) × ((mode_says m ≡ simulated) × Callable m)) {ws₁ : List ℕ} {c h : ℕ} (w : Mutated m ws HANDED ws₁ c h) where
+    {m : CodeMutation} (said : (mutation_says m ≡ simulation (index + i) into) × (mode_says m ≡ simulated)) {ws₁ : List ℕ} {c h : ℕ} (w : Mutated m ws HANDED ws₁ c h) where
   -- the count has room
   pub long : SIMULATED + i < length ws₁
   long = omega (arith, w.aside.same, p.walkable.indexed.size)
@@ -146,7 +146,7 @@ module _ {ws₀ : List ℕ} {count index returns : ℕ} {o₀ : Writer ℕ} {ws 
 
     walk_is : mutate (mode_says m) (mutation_says m) (state_of ws HANDED) ≡ walk
     walk_is =
-        ap (λ (k : Mode). mutate k (mutation_says m) (state_of ws HANDED)) said.1.0
+        ap (λ (k : Mode). mutate k (mutation_says m) (state_of ws HANDED)) said.1
         ∙ ap (λ (n : Mutation). mutate simulated n (state_of ws HANDED)) said.0
         ∙ ap (λ (k : ℕ). mutate simulated (simulation k into) (state_of ws HANDED)) number_is
         ∙ ap (λ (q : Place). mutate simulated (simulation ((build s).index + i) q) (state_of ws HANDED)) place_is_lem

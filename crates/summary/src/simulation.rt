@@ -9,7 +9,6 @@ ghost use Rattle.hir.specs.Words.{several, block_from};
 ghost use Rattle.workspace.specs.Rows.{Indexed};
 ghost use Rattle.workspace.specs.Tracked.{most_tracked};
 ghost use Rattle.aliasing.specs.Says.{mode_says, mutation_says};
-ghost use Rattle.aliasing.specs.Walks.{Callable};
 ghost use Rattle.writing.specs.Wrote.{farthest};
 ghost use Rattle.dataflow.specs.Function.{Limited};
 ghost use Rattle.summary.specs.Simulates.{most_flows, most_effects, Marked, Simulates, CopiedPut, Before, EffectsPut};
@@ -30,7 +29,7 @@ use writing::Writer;
 // The simulated mutation of a place: transitive, Conditional, moving no end.
 fn simulated(index: u32, into: Place) -> Mutation
     requires { (into.identifier.0 < most_identifiers) × (index ≤ most_index + most_tracked) }
-    ensures { (mutation_says result ≡ simulation index (place_is into)) × ((mode_says result ≡ simulated) × Callable result) }
+    ensures { (mutation_says result ≡ simulation index (place_is into)) × (mode_says result ≡ simulated) }
 {
     Mutation {
         index,

@@ -2,7 +2,7 @@ use Rattle.aliasing.proofs.Walks.{walk_start, walk_turn, walk_end}
 use Rattle.aliasing.proofs.walk.Goals as goal
 
 pub loop-top-init : goal.loop-top-init
-loop-top-init c = walk_start c.args.m c.args.base c.args.ws.now c.args.top c.args.hand c.requires.ready
+loop-top-init c = walk_start c.args.m c.args.base c.args.ws.now c.args.top c.args.hand c.requires
 
 pub loop-top-preserved : goal.loop-top-preserved
 loop-top-preserved c =
