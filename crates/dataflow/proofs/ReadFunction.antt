@@ -6,7 +6,7 @@ use mathlib.Core.Bool.{true, false, true≢false}
 use mathlib.Core.List.{List, [], ◌∷◌, ◌++◌, map}
 use lib.ListN.{length, get_or, take, length-append, length-map, get_or-map}
 use lib.Seq.{sets, length-sets}
-use Rattle.model.specs.Limits.{identifier_width}
+use Rattle.model.specs.Limits.{identifier_width, most_identifiers, most_functions, most_params, most_context, most_blocks}
 use Rattle.model.specs.Lists.{each}
 use Rattle.model.specs.Sheet.{InnerFunction, no_function, Place}
 use Rattle.model.specs.Reading.{Position}
@@ -27,12 +27,13 @@ use Rattle.dataflow.specs.declared.header.Top.{Top}
 use Rattle.dataflow.specs.declared.parameters.Tracked.{Tracked}
 use Rattle.dataflow.specs.declared.function.HirFunction.{HirFunction}
 use Rattle.dataflow.specs.Accepted.{sheet_of, FewDiagnostics, Accepted}
-use Rattle.dataflow.specs.Function.{Limited, Describes, Stands}
+use Rattle.dataflow.specs.Function.{Describes, Stands}
 use Rattle.dataflow.specs.Whole.{created_for, First}
 use Rattle.dataflow.specs.Read.{end_of, stands_at, TopRead}
 use Rattle.dataflow.specs.Places.{TrackedRead}
 use Rattle.dataflow.specs.ReadFunction.{FunctionRead}
 use Rattle.dataflow.proofs.Accepted.{identifiers_are, functions_are, blocks_are, list_what, list_next, list_count}
+use Rattle.dataflow.proofs.Described.{limited}
 use Rattle.dataflow.proofs.Sheet.{first_nodes_lem, first_held}
 
 none_tracked : (ws : List ℕ) → tracked_of ws 0 ≡ []
@@ -44,8 +45,9 @@ stored_at : (vs l : List ℕ) (i k : ℕ) → i + length vs ≤ length l → k <
 stored_at vs l i k h z = sym (slice_at i (i + length vs) k (sets l i vs) (omega (arith, z))) ∙ ap (λ (x : List ℕ). get_or x k 0) (slice_sets vs l i (i + length vs) refl h)
 
 -- the function as the calls give it
-abbrev function_of : Top → Tracked → HirFunction
-function_of t u = record {
+abbrev pub function_of : (t : Top) (u : Tracked) → t.identifiers.count ≤ most_identifiers → t.functions.count ≤ most_functions → u.params ≤ most_params → u.context ≤ most_context → u.blocks.count ≤ most_blocks
+    → u.returns.identifier.0 < t.identifiers.count → HirFunction
+function_of t u n m params context count returns = record {
   errors = t.errors;
   function_expression = t.function_expression;
   copies = true;
@@ -56,36 +58,31 @@ function_of t u = record {
   context = u.context;
   returns = u.returns;
   blocks = u.blocks;
+  identifiers_few = n;
+  functions_few = m;
+  params_few = params;
+  context_few = context;
+  blocks_few = count;
+  returns_below = returns;
 }
 
 module _ {sheet : List ℕ} (a : Accepted sheet) {ws ws₁ : List ℕ} {t : Top} (size : LEAST ≤ length ws) (T : TopRead sheet ws ws₁ t) {ws₂ : List ℕ} {b : Building} (start : Starts ws₁ ws₂ b) {ws₃ : List ℕ} {r : Building} {u : Tracked}
     (U : TrackedRead sheet ws₂ b ws₃ r u) where
-  describes : Describes (sheet_of sheet) sheet (function_of t u)
-  describes = record {
-    errors = T.errors;
-    function_expression = T.function_expression;
-    copies = λ e. absurd (true≢false e);
-    n = list_count (wide identifier_width identifier_at) (identifiers_are sheet) T.identifiers;
-    m = list_count function_from (functions_are sheet) T.functions;
-    params = U.params;
-    context = U.context;
-    returns = U.returns;
-    identifiers = list_what (wide identifier_width identifier_at) (identifiers_are sheet) T.identifiers;
-    identifiers_inside = omega (arith, list_next (wide identifier_width identifier_at) (identifiers_are sheet) T.identifiers, a.inside, sections_follow sheet 0);
-    blocks = list_what block_from (blocks_are sheet) U.blocks;
-    blocks_inside = omega (arith, list_next block_from (blocks_are sheet) U.blocks, a.inside);
-    short = a.short;
-  }
+  pub identifiers-count : t.identifiers.count ≡ length (sheet_of sheet).identifiers
+  identifiers-count = list_count (wide identifier_width identifier_at) (identifiers_are sheet) T.identifiers
 
-  limited : Limited (function_of t u)
-  limited = record {
-    n = omega (arith, describes.n, a.below.identifiers);
-    m = omega (arith, describes.m, a.below.function_count);
-    params = omega (arith, U.params, a.below.param_count);
-    context = omega (arith, U.context, a.below.context_count);
-    count = omega (arith, list_count block_from (blocks_are sheet) U.blocks, a.few_blocks);
-    returns = omega (arith, ap (λ (p : Place). p.identifier) U.returns, a.below.returns, describes.n);
-  }
+  pub functions-count : t.functions.count ≡ length (sheet_of sheet).functions
+  functions-count = list_count function_from (functions_are sheet) T.functions
+
+  -- that function, with its limits
+  abbrev pub function : HirFunction
+  function = function_of t u
+      (omega (arith, identifiers-count, a.below.identifiers))
+      (omega (arith, functions-count, a.below.function_count))
+      (omega (arith, U.params, a.below.param_count))
+      (omega (arith, U.context, a.below.context_count))
+      (omega (arith, list_count block_from (blocks_are sheet) U.blocks, a.few_blocks))
+      (omega (arith, ap (λ (p : Place). p.identifier) U.returns, a.below.returns, identifiers-count))
 
   first : First (sheet_of sheet) ws₃ r
   first = record {
@@ -108,7 +105,7 @@ module _ {sheet : List ℕ} (a : Accepted sheet) {ws ws₁ : List ℕ} {t : Top}
 
   positions_length : length positions ≡ length (sheet_of sheet).functions
   positions_length =
-      length-map (several t.functions.count (placed function_from) sheet t.functions.first).what stands_at ∙ several-length (placed function_from) sheet t.functions.count t.functions.first ∙ describes.m
+      length-map (several t.functions.count (placed function_from) sheet t.functions.first).what stands_at ∙ several-length (placed function_from) sheet t.functions.count t.functions.first ∙ functions-count
 
   top_same : length ws₁ ≡ length ws
   top_same = ap (λ (x : List ℕ). length x) T.words ∙ length-sets (sets ws END ends) FUNCTIONS positions ∙ length-sets ws END ends
@@ -123,18 +120,18 @@ module _ {sheet : List ℕ} (a : Accepted sheet) {ws ws₁ : List ℕ} {t : Top}
       ∙ ap (λ (x : List ℕ). get_or x (FUNCTIONS + k) 0) T.words
       ∙ stored_at positions (sets ws END ends) FUNCTIONS k (omega (arith, positions_length, a.below.function_count, size, length-sets ws END ends)) (omega (arith, positions_length, h))
       ∙ get_or-map stands_at at k 0
-      ∙ several_at (placed function_from) sheet t.functions.count k t.functions.first 0 (omega (arith, h, describes.m))
+      ∙ several_at (placed function_from) sheet t.functions.count k t.functions.first 0 (omega (arith, h, functions-count))
       ∙ placed_next function_from sheet k t.functions.first
 
   functions_stand : Functions sheet ws₃ (sheet_of sheet).functions
   functions_stand = record {
     is = λ k h.
         ap (λ (c : Position). (function_from sheet c).what) (function-word k h)
-        ∙ sym (several_at function_from sheet t.functions.count k t.functions.first no_function (omega (arith, h, describes.m)))
+        ∙ sym (several_at function_from sheet t.functions.count k t.functions.first no_function (omega (arith, h, functions-count)))
         ∙ ap (λ (l : List InnerFunction). get_or l k no_function) (list_what function_from (functions_are sheet) T.functions);
     inside = λ k h.
         subst (λ (c : Position). (function_from sheet c).next ≤ length sheet) (sym (function-word k h))
-        (omega (arith, several_within function_from sheet function_follows t.functions.count k t.functions.first (omega (arith, h, describes.m)), list_next function_from (functions_are sheet) T.functions, a.inside, sections_follow sheet 0));
+        (omega (arith, several_within function_from sheet function_follows t.functions.count k t.functions.first (omega (arith, h, functions-count)), list_next function_from (functions_are sheet) T.functions, a.inside, sections_follow sheet 0));
     few = λ k. omega (arith, every_at FewDiagnostics (sheet_of sheet).functions k no_function a.functions (omega arith));
   }
 
@@ -148,12 +145,32 @@ module _ {sheet : List ℕ} (a : Accepted sheet) {ws ws₁ : List ℕ} {t : Top}
         tracked = ap (tracked_of ws₃) n ∙ U.places.tracked ∙ ap (λ (l : List Place). l ++ first_places (sheet_of sheet)) (none_tracked ws₂);
       }
 
-  pub function-read : FunctionRead sheet ws ws₃ (record { function = function_of t u; building = r })
-  function-read = record {
-    describes = describes;
-    limited = limited;
-    first = first;
-    stands = stands;
-    ends = U.places.low ∙ take_less SEEN VALUE ws₂ ws₁ (omega arith) start.low ∙ ap (take SEEN) T.words ∙ take_sets SEEN positions (sets ws END ends) FUNCTIONS (omega arith);
-    same = U.places.same ∙ start.same ∙ top_same;
-  }
+  -- whatever proves its limits
+  module _ {n : t.identifiers.count ≤ most_identifiers} {m : t.functions.count ≤ most_functions} {params : u.params ≤ most_params} {context : u.context ≤ most_context} {count : u.blocks.count ≤ most_blocks}
+      {returns : u.returns.identifier.0 < t.identifiers.count} where
+    describes : Describes (sheet_of sheet) sheet (function_of t u n m params context count returns)
+    describes = record {
+      errors = T.errors;
+      function_expression = T.function_expression;
+      copies = λ e. absurd (true≢false e);
+      n = identifiers-count;
+      m = functions-count;
+      params = U.params;
+      context = U.context;
+      returns = U.returns;
+      identifiers = list_what (wide identifier_width identifier_at) (identifiers_are sheet) T.identifiers;
+      identifiers_inside = omega (arith, list_next (wide identifier_width identifier_at) (identifiers_are sheet) T.identifiers, a.inside, sections_follow sheet 0);
+      blocks = list_what block_from (blocks_are sheet) U.blocks;
+      blocks_inside = omega (arith, list_next block_from (blocks_are sheet) U.blocks, a.inside);
+      short = a.short;
+    }
+
+    pub function-read : FunctionRead sheet ws ws₃ (record { function = function_of t u n m params context count returns; building = r })
+    function-read = record {
+      describes = describes;
+      limited = limited (function_of t u n m params context count returns);
+      first = first;
+      stands = stands;
+      ends = U.places.low ∙ take_less SEEN VALUE ws₂ ws₁ (omega arith) start.low ∙ ap (take SEEN) T.words ∙ take_sets SEEN positions (sets ws END ends) FUNCTIONS (omega arith);
+      same = U.places.same ∙ start.same ∙ top_same;
+    }

@@ -9,7 +9,7 @@ ghost use Rattle.workspace.specs.Layout.{MUTATIONS};
 ghost use Rattle.workspace.specs.Rows.{Indexed};
 ghost use Rattle.writing.specs.Wrote.{farthest};
 ghost use Rattle.copies.specs.Functions.{functions_of, Functions};
-ghost use Rattle.dataflow.specs.Function.{Limited, Describes, Stands};
+ghost use Rattle.dataflow.specs.Function.{Describes, Stands};
 ghost use Rattle.diagnostics.specs.Diagnosed.{most_handed, most_diagnosed, RendersPut, RecordedPut, DiagnosticsPut};
 
 use copies::effect_lists::{Section, copy_effects};
@@ -63,7 +63,6 @@ pub fn put_diagnostics(
     hand: usize,
     out: &mut Writer<'_, u32>,
 )
-    requires limited { Limited f }
     requires indexed { Indexed ws.old }
     requires describes { (s : Sheet) × (Describes s sheet.now f × Stands s lists.now ws.old) }
     requires renders_le_most_renders { (renders ≤ most_renders) × ((hand ≤ MUTATIONS) × (out.old.at + most_diagnosed ≤ farthest)) }

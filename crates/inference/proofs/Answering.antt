@@ -43,20 +43,20 @@ use Rattle.summary.proofs.Rooms.{marked_next}
 use Rattle.copies.specs.Functions.{Functions}
 use Rattle.copies.proofs.Errors.{functions_kept}
 use Rattle.dataflow.specs.declared.function.HirFunction.{HirFunction}
-use Rattle.dataflow.specs.Function.{Limited, Stands}
+use Rattle.dataflow.specs.Function.{Stands}
 use Rattle.dataflow.proofs.Standing.{stands_kept}
 use Rattle.inference.specs.Whole.{Prepared, TrackedPut}
 
 -- ---- params, context
 module _ {ws : List ℕ} {f : HirFunction} {o o₁ o₂ : Writer ℕ} where
-  pub tracked_put : Limited f → Marked ws 0 f.params o o₁ → Marked ws f.params f.context o₁ o₂ → TrackedPut ws f o o₂
-  tracked_put l p c = record {
+  pub tracked_put : Marked ws 0 f.params o o₁ → Marked ws f.params f.context o₁ o₂ → TrackedPut ws f o o₂
+  tracked_put p c = record {
     wrote = λ s sheet t d st h.
         let e : tracked_from ws 0 f.params ≡ s.params = ap (λ (k : ℕ). tracked_from ws 0 k) d.params ∙ params_tracked s ws st in
         let g : tracked_from ws f.params f.context ≡ s.context =
         ap (λ (k : ℕ). tracked_from ws k f.context) d.params ∙ ap (λ (k : ℕ). tracked_from ws (length s.params) k) d.context ∙ context_tracked s ws st in
         writes_then (writes_as (p t h) (ap (λ (q : List Place). section place_words (map (marked t) q)) e)) (writes_as (c t h) (ap (λ (q : List Place). section place_words (map (marked t) q)) g));
-    few = omega (arith, marked_next ws 0 f.params p, marked_next ws f.params f.context c, l.params, l.context);
+    few = omega (arith, marked_next ws 0 f.params p, marked_next ws f.params f.context c, f.params_few, f.context_few);
   }
 
 -- ---- after the real mutations

@@ -6,7 +6,7 @@ use mathlib.Core.Bool.{Bool, false}
 use mathlib.Core.List.{List, []}
 use lib.ListN.{length}
 use borrow.Author.Tests.{lt-ltb, le-ltb}
-use Rattle.model.specs.Limits.{most_identifiers, most_relations}
+use Rattle.model.specs.Limits.{most_identifiers, most_functions, most_params, most_context, most_blocks, most_relations}
 use Rattle.model.specs.Lists.{each, Every}
 use Rattle.model.specs.Sheet.{Sheet}
 use Rattle.model.specs.Ranges.{PlaceBelow}
@@ -30,7 +30,7 @@ use Rattle.dataflow.specs.Accepted.{sheet_of}
 use Rattle.dataflow.specs.Whole.{Whole}
 use Rattle.dataflow.specs.declared.function.HirFunction.{HirFunction}
 use Rattle.dataflow.specs.declared.function.Read.{Read}
-use Rattle.dataflow.specs.Function.{Limited, Describes}
+use Rattle.dataflow.specs.Function.{Describes}
 use Rattle.dataflow.specs.ReadFunction.{FunctionRead}
 use Rattle.dataflow.proofs.Accepted.{sheet_is, accepted}
 use Rattle.dataflow.proofs.Sheet.{blocks_ready, blocks_whole}
@@ -40,9 +40,10 @@ use Rattle.inference.specs.Whole.{NoneUnless, AppliesIs, Keeps, Prepares}
 use Rattle.inference.proofs.Preparing.{prepared}
 use Rattle.inference.proofs.Calling.{prepares_as}
 
--- f with these two flags
-abbrev flagged : HirFunction → Bool → Bool → HirFunction
-flagged f copies applies = record {
+-- f with these two flags, whatever proves its limits
+abbrev flagged : (f : HirFunction) → Bool → Bool → f.identifiers.count ≤ most_identifiers → f.m ≤ most_functions → f.params ≤ most_params → f.context ≤ most_context → f.blocks.count ≤ most_blocks → f.returns.identifier.0 < f.identifiers.count
+    → HirFunction
+flagged f copies applies n m params context count returns = record {
   errors = f.errors;
   function_expression = f.function_expression;
   copies = copies;
@@ -53,14 +54,13 @@ flagged f copies applies = record {
   context = f.context;
   returns = f.returns;
   blocks = f.blocks;
+  identifiers_few = n;
+  functions_few = m;
+  params_few = params;
+  context_few = context;
+  blocks_few = count;
+  returns_below = returns;
 }
-
-module _ {f : HirFunction} {copies applies : Bool} where
-  describes_flagged : {s : Sheet} {sheet : List ℕ} → Describes s sheet f → (copies ≡ false → copied s ≡ []) → Describes s sheet (flagged f copies applies)
-  describes_flagged d h = search (d, h)
-
-  limited_flagged : Limited f → Limited (flagged f copies applies)
-  limited_flagged l = omega (arith, l)
 
 module _ {sheet : List ℕ} (p : (s : Sheet) × IsSheet sheet s) {ws ws₁ : List ℕ} {x : Read} (g : FunctionRead sheet ws ws₁ x) where
   abbrev f : HirFunction
@@ -91,10 +91,16 @@ module _ {sheet : List ℕ} (p : (s : Sheet) × IsSheet sheet s) {ws ws₁ : Lis
         let eight : Prepares (refused 8) sheet ws ws₂ (Err Totals) = record { is = (refl, whole.same ∙ g.same) } in
         prepares_as eight (holds_not itself.0 h ∙ sym (ap holds itself.1))
 
-    pub prepares : {copies applies : Bool} → NoneUnless copies sheet → AppliesIs applies sheet → {ws₃ ws₄ : List ℕ} → LEAST ≤ length ws → r.held.most ≤ most_relations → LaysOut ws₂ r ws₃ → Keeps f.identifiers.count ws₃ ws₄
-        → Prepares (holds (read sheet)) sheet ws ws₄ (Ok (record { function = flagged f copies applies; building = r }))
-    prepares {copies} {applies} none told {ws₃} {ws₄} size within l k =
-        let is : IsSheet sheet (sheet_of sheet) = itself in
-        let built = prepared (sheet_of sheet) sheet (flagged f copies applies) r ws ws₁ ws₂ ws₃ ws₄ (describes_flagged g.describes (λ e. none e (sheet_of sheet) is)) (told (sheet_of sheet) is) (in_range_lem sheet (sheet_of sheet) is) (limited_flagged g.limited) g.stands size g.ends whole within l k in
-        let all : Prepares (got (sheet_of sheet) is.0) sheet ws ws₄ (Ok (record { function = flagged f copies applies; building = r })) = record { is = (built, k.same ∙ l.same ∙ whole.same ∙ g.same) } in
-        prepares_as all (holds_got is.0 within ∙ sym (ap holds is.1))
+    module _ {copies applies : Bool} {n : f.identifiers.count ≤ most_identifiers} {m : f.m ≤ most_functions} {params : f.params ≤ most_params} {context : f.context ≤ most_context} {count : f.blocks.count ≤ most_blocks}
+        {returns : f.returns.identifier.0 < f.identifiers.count} where
+      describes_flagged : {s : Sheet} → Describes s sheet f → (copies ≡ false → copied s ≡ []) → Describes s sheet (flagged f copies applies n m params context count returns)
+      describes_flagged d h = search (d, h)
+
+      pub prepares : NoneUnless copies sheet → AppliesIs applies sheet → {ws₃ ws₄ : List ℕ} → LEAST ≤ length ws → r.held.most ≤ most_relations → LaysOut ws₂ r ws₃ → Keeps f.identifiers.count ws₃ ws₄
+          → Prepares (holds (read sheet)) sheet ws ws₄ (Ok (record { function = flagged f copies applies n m params context count returns; building = r }))
+      prepares none told {ws₃} {ws₄} size within l k =
+          let is : IsSheet sheet (sheet_of sheet) = itself in
+          let g₁ : HirFunction = flagged f copies applies n m params context count returns in
+          let built = prepared (sheet_of sheet) sheet g₁ r ws ws₁ ws₂ ws₃ ws₄ (describes_flagged g.describes (λ e. none e (sheet_of sheet) is)) (told (sheet_of sheet) is) (in_range_lem sheet (sheet_of sheet) is) g.stands size g.ends whole within l k in
+          let all : Prepares (got (sheet_of sheet) is.0) sheet ws ws₄ (Ok (record { function = g₁; building = r })) = record { is = (built, k.same ∙ l.same ∙ whole.same ∙ g.same) } in
+          prepares_as all (holds_got is.0 within ∙ sym (ap holds is.1))

@@ -26,7 +26,6 @@ use Rattle.writing.specs.Wrote.{Writes, moved}
 use Rattle.writing.proofs.Writing.{writes_then, writes_as, writes_before}
 use Rattle.copies.proofs.Lengths.{gather_length}
 use Rattle.dataflow.specs.declared.function.HirFunction.{HirFunction}
-use Rattle.dataflow.specs.Function.{Limited}
 use Rattle.operands.specs.Ranges.{ranges_of, range_at, first_ranges, range_width}
 use Rattle.operands.specs.Whole.{Passing, OperandsPut}
 use Rattle.summary.specs.Sections.{simulated_of}
@@ -114,13 +113,13 @@ module _ {sheet lists ws : List ℕ} {f : HirFunction} {b : Building} {o a₁ : 
   }
 
   -- the whole answer: ranges before the sections that stand already
-  pub answer_put : (a : Writer ℕ) {behind : ℕ} → o ≡ moved a behind → Limited f → behind ≡ a.at + (1 + range_width * f.identifiers.count) → {ws₂ : List ℕ} {a₂ : Writer ℕ} → PassedPut sheet lists f ws₁ a.at a₁ ws₂ a₂ → AnswerPut sheet lists ws f b a ws₂ a₂
+  pub answer_put : (a : Writer ℕ) {behind : ℕ} → o ≡ moved a behind → behind ≡ a.at + (1 + range_width * f.identifiers.count) → {ws₂ : List ℕ} {a₂ : Writer ℕ} → PassedPut sheet lists f ws₁ a.at a₁ ws₂ a₂ → AnswerPut sheet lists ws f b a ws₂ a₂
   unfolding answer_words
-  answer_put a {behind} from l e p₁ = record {
+  answer_put a {behind} from e p₁ = record {
     wrote = λ s p.
         let n : behind ≡ a.at + length (section range_words (answer s).ranges) = omega (arith, e, ranges_words s, p.describes.n) in
         subst (Writes (answer_words (answer s)) a) (sym p₁.end) (writes_before (subst (λ (w : Writer ℕ). Writes (middle_words (answer s) ++ operand_words (answer s)) w p₁.between) from (writes_then (mid.wrote s p) (p₁.operands s (passing p)))) n (p₁.ranges s (passing p)));
     left = λ s p. left_kept p₁.kept (mid.left s p);
     walkable = walkable_kept p₁.kept mid.walkable;
-    few = omega (arith, e, l.n, mid.few, p₁.few, ap (λ (w : Writer ℕ). w.at) from);
+    few = omega (arith, e, f.identifiers_few, mid.few, p₁.few, ap (λ (w : Writer ℕ). w.at) from);
   }

@@ -32,7 +32,8 @@ use Rattle.aliasing.proofs.Parts.{rows_above}
 use Rattle.aliasing.proofs.Walks.{indexed-after}
 use Rattle.dataflow.specs.Whole.{Whole}
 use Rattle.dataflow.specs.declared.function.HirFunction.{HirFunction}
-use Rattle.dataflow.specs.Function.{Limited, Describes, Stands}
+use Rattle.dataflow.specs.Function.{Describes, Stands}
+use Rattle.dataflow.proofs.Described.{limited}
 use Rattle.dataflow.proofs.Standing.{stands_kept}
 use Rattle.inference.specs.Whole.{Keeps, Prepared}
 use Rattle.inference.proofs.Orders.{orders}
@@ -77,14 +78,14 @@ module _ (ids : List Identifier) (few : length ids ≤ most_identifiers) (ws₀ 
       (λ i q. let k : i < most_identifiers = omega (arith, q, tab-length most_identifiers (end_at (nodes_of ws'))) in tab_at most_identifiers (end_at (nodes_of ws')) i 0 k ∙ h i k ∙ sym (sheet_end i k))
 
 module _ (s : Sheet) (sheet : List ℕ) {lists : List ℕ} (f : HirFunction) (b : Building) (ws₀ ws₁ ws₂ ws₃ ws₄ : List ℕ) where
-  module _ (describes : Describes s sheet f) (told : f.applies ≡ applies s) (below : SheetBelow s) (limited : Limited f) (stands : Stands s lists ws₁) (size : LEAST ≤ length ws₀)
+  module _ (describes : Describes s sheet f) (told : f.applies ≡ applies s) (below : SheetBelow s) (stands : Stands s lists ws₁) (size : LEAST ≤ length ws₀)
       (ends : take SEEN ws₁ ≡ take SEEN (sets ws₀ END (map (λ (i : Identifier). i.end) s.identifiers))) where
     module _ (w : Whole s sheet ws₁ ws₂ b) (within : b.held.most ≤ most_relations) (l : LaysOut ws₂ b ws₃) (k : Keeps f.identifiers.count ws₃ ws₄) where
       low_kept : take SEEN ws₃ ≡ take SEEN (sets ws₀ END (map (λ (i : Identifier). i.end) s.identifiers))
       low_kept = take_less SEEN FBOUND ws₃ ws₂ (omega arith) l.low ∙ w.low ∙ ends
 
       few_ids : length s.identifiers ≤ most_identifiers
-      few_ids = omega (arith, limited.n, describes.n)
+      few_ids = omega (arith, f.identifiers_few, describes.n)
 
       high_kept : Kept 0 SEEN ws₃ ws₄
       high_kept = record { low = refl; high = k.high; same = k.same }
@@ -106,7 +107,7 @@ module _ (s : Sheet) (sheet : List ℕ) {lists : List ℕ} (f : HirFunction) (b 
         describes = describes;
         applies = told;
         below = below;
-        limited = limited;
+        limited = limited f;
         stands = stands_kept s lists (drop_more SEEN FUNCTIONS ws₄ ws₃ (omega arith) k.high ∙ drop_more QUEUE FUNCTIONS ws₃ ws₂ (omega arith) l.high ∙ w.high) (k.same ∙ l.same ∙ w.same) stands;
         indexed = indexed-after l.indexed rows_kept k.same;
         state = state_new ws₄ (build s).graph (sheet_ends s.identifiers) (ap graph_of_rows rows_kept ∙ l.graph ∙ ap (λ (x : Built). x.graph) (w.built within)) k.records

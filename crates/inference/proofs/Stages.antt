@@ -16,7 +16,6 @@ use Rattle.writing.specs.declared.Writer.{Writer}
 use Rattle.writing.specs.Wrote.{Writes}
 use Rattle.summary.specs.Sections.{simulated_of}
 use Rattle.dataflow.specs.declared.function.HirFunction.{HirFunction}
-use Rattle.dataflow.specs.Function.{Limited}
 use Rattle.diagnostics.specs.Diagnosed.{DiagnosticsPut}
 use Rattle.summary.specs.Simulates.{Left, Before, EffectsPut}
 use Rattle.summary.proofs.Rooms.{walks_next}
@@ -34,11 +33,11 @@ before_effects {ws₁ = ws₁} {ws₂ = ws₂} p m u is = record { describes = p
 
 -- all stages
 pub stages : {sheet lists ws : List ℕ} {f : HirFunction} {b : Building} {ws₁ ws₂ ws₃ : List ℕ} {hand i : ℕ} {o o₁ o₂ o₃ o₄ : Writer ℕ}
-    → Limited f → b.mutations ≤ most_mutations → Processed f.errors ws b.mutations ws₁ hand → TrackedPut ws₁ f o o₁ → DiagnosticsPut sheet lists ws₁ f b.renders hand o₁ ws₂ o₂
+    → b.mutations ≤ most_mutations → Processed f.errors ws b.mutations ws₁ hand → TrackedPut ws₁ f o o₁ → DiagnosticsPut sheet lists ws₁ f b.renders hand o₁ ws₂ o₂
     → i ≡ index_of b → EffectsPut sheet ws₂ f i o₂ ws₃ o₃
     → Writes (section count_words (taken_of ws₃ b.mutations ++ simulated_of ws₃ (f.params + f.context + 1))) o₃ o₄
     → MiddlePut sheet lists ws f b o ws₃ o₄
-stages {f = f} {b = b} {ws₃ = ws₃} l n m places diagnostics is effects walks = record {
+stages {f = f} {b = b} {ws₃ = ws₃} n m places diagnostics is effects walks = record {
   wrote = λ s p.
       let before = before_effects p m diagnostics.unmoved is in
       middle_wrote p m diagnostics.unmoved ws₃ effects.kept places (diagnostics.wrote s p.describes (real_stands p m) (real_state p m) (real_renders p m)) (effects.wrote s before)
@@ -46,5 +45,5 @@ stages {f = f} {b = b} {ws₃ = ws₃} l n m places diagnostics is effects walks
   left = λ s p. subst (λ (k : ℕ). Left s ws₃ (f.params + f.context + 1) (k + (f.params + f.context + 1))) is (effects.left s (before_effects p m diagnostics.unmoved is));
   functions = λ s p. last_functions p m diagnostics.unmoved ws₃ effects.kept;
   walkable = walkable_from (diagnostics.unmoved.aside.graph ∙ m.graph) (diagnostics.unmoved.aside.same ∙ m.same) effects.walkable;
-  few = omega (arith, places.few, diagnostics.few, effects.few, walks_next ws₃ b.mutations (f.params + f.context + 1) walks, l.params, l.context, n);
+  few = omega (arith, places.few, diagnostics.few, effects.few, walks_next ws₃ b.mutations (f.params + f.context + 1) walks, f.params_few, f.context_few, n);
 }

@@ -7,7 +7,6 @@ ghost use Rattle.workspace.specs.Layout.{LEAST};
 ghost use Rattle.model.specs.Sheet.{Sheet};
 ghost use Rattle.model.specs.Call.{refusal as refused, read, holds, admit, IsSheet};
 ghost use Rattle.hir.specs.Refusals.{refusal_number};
-ghost use Rattle.dataflow.specs.Function.{Limited};
 ghost use Rattle.inference.specs.Outcome.{Came, Inferred};
 ghost use Rattle.writing.specs.Wrote.{farthest};
 ghost use Rattle.operands.specs.Ranges.{most_ranges};
@@ -48,14 +47,11 @@ fn build(sheet: &[u32], ws: &mut [u32], copies: bool, applies: bool) -> Result<R
     ensures { Prepares (holds (read sheet.now)) sheet.now ws.old ws.new result }
 {
     let Read {
-        function,
+        mut function,
         mut building,
     } = read_function(sheet, ws);
-    let function = HirFunction {
-        copies,
-        applies,
-        ..function
-    };
+    function.copies = copies;
+    function.applies = applies;
     build_blocks(function.blocks, sheet, ws, &mut building, function.returns);
     if MOST_RELATIONS < building.held.most {
         return Err(Refusal::Totals);
@@ -79,7 +75,7 @@ pub fn prepare(sheet: &[u32], ws: &mut [u32]) -> Result<Read, Refusal>
 
 // The sections of params and context.
 fn put_tracked(ws: &[u32], f: HirFunction, out: &mut Writer<'_, u32>)
-    requires limited { Limited f × (LEAST ≤ length ws.now) }
+    requires in_bounds { LEAST ≤ length ws.now }
     requires most_tracked_words_bound { out.old.at + most_tracked_words ≤ farthest }
     ensures { TrackedPut ws.now f out.old out.new }
 {
@@ -119,7 +115,7 @@ fn put_passed(
     first: usize,
     out: &mut Writer<'_, u32>,
 )
-    requires limited { Limited f × ((s : Sheet) × Passing s sheet.now lists.now ws.old f) }
+    requires passing { (s : Sheet) × Passing s sheet.now lists.now ws.old f }
     requires most_ranges_bound { (first + most_ranges ≤ farthest) × (out.old.at + most_operand_words ≤ farthest) }
     ensures { PassedPut sheet.now lists.now f ws.old first out.old ws.new out.new }
 {

@@ -4,7 +4,6 @@
 
 ghost use Rattle.std.specs.Prelude.{◌≡◌, ◌+◌, ◌≤◌, length};
 ghost use Rattle.model.specs.Sheet.{Sheet};
-ghost use Rattle.dataflow.specs.Function.{Limited};
 ghost use Rattle.writing.specs.Wrote.{farthest};
 ghost use Rattle.operands.specs.Known.{InnerFunctions, Known};
 ghost use Rattle.operands.specs.Whole.{Passing, most_section, SectionPut, most_inner, InnerPut, most_operand_words, OperandsPut};
@@ -53,7 +52,7 @@ fn put_section(
     ws: &mut [u32],
     out: &mut Writer<'_, u32>,
 )
-    requires limited { Limited f × ((s : Sheet) × Passing s sheet.now lists.now ws.old f) }
+    requires passing { (s : Sheet) × Passing s sheet.now lists.now ws.old f }
     requires most_section_bound { out.old.at + most_section ≤ farthest }
     ensures { SectionPut section sheet.now lists.now f ws.old out.old ws.new out.new }
 {
@@ -92,7 +91,7 @@ pub fn put_operands(
     ws: &mut [u32],
     out: &mut Writer<'_, u32>,
 )
-    requires limited { Limited f × ((s : Sheet) × Passing s sheet.now lists.now ws.old f) }
+    requires passing { (s : Sheet) × Passing s sheet.now lists.now ws.old f }
     requires most_operand_words_bound { out.old.at + most_operand_words ≤ farthest }
     ensures { OperandsPut sheet.now lists.now f ws.old out.old ws.new out.new }
 {

@@ -34,7 +34,6 @@ use Rattle.summary.proofs.Rooms.{collected_next}
 use Rattle.summary.proofs.Turns.{walkable_from}
 use Rattle.summary.proofs.Whole.{params_tracked, context_tracked, marks_tracked}
 use Rattle.dataflow.specs.declared.function.HirFunction.{HirFunction}
-use Rattle.dataflow.specs.Function.{Limited}
 use Rattle.dataflow.proofs.Described.{returns_create}
 use Rattle.summary.specs.Simulates.{most_flows, most_effects, Marked, Simulates, CopiedPut, Before, EffectsPut}
 
@@ -71,7 +70,7 @@ module _ (sheet : List ℕ) (f : HirFunction) where
 pub indexed-after : {ws ws₁ : List ℕ} {n : ℕ} → Indexed ws → Marks ws n ws₁ → Indexed ws₁
 indexed-after i m = record { size = omega (arith, i.size, m.kept.same); good = subst Good (sym (rows_below m.kept (omega arith))) i.good }
 
-module _ (sheet ws : List ℕ) (f : HirFunction) (index : ℕ) (limited : Limited f) where
+module _ (sheet ws : List ℕ) (f : HirFunction) (index : ℕ) where
   -- Create for returns, by the type that stands in the sheet
   abbrev ReturnsWrote : Writer ℕ → Writer ℕ → Type 0
   ReturnsWrote = Writes (effect_words (create_of (place_is f.returns) (identifier_at sheet (identifier_from f.identifiers.first f.returns.identifier.0)).type))
@@ -95,7 +94,7 @@ module _ (sheet ws : List ℕ) (f : HirFunction) (index : ℕ) (limited : Limite
     returns_is = ap (λ (p : Place). p.identifier) (sym b.describes.returns)
 
     returns_wrote : {o o' : Writer ℕ} → ReturnsWrote o o' → Writes (effect_words (create_returns s)) o o'
-    returns_wrote c = writes_as c (ap effect_words (returns_create b.describes limited))
+    returns_wrote c = writes_as c (ap effect_words (returns_create b.describes))
 
     -- with their marks the tracked places are those of the simulated walks
     marked_before : {ws₁ : List ℕ} → Marks ws (f.params + f.context) ws₁ → Marked s ws₁ (f.params + f.context + 1) index f.returns.identifier.0
@@ -116,12 +115,12 @@ module _ (sheet ws : List ℕ) (f : HirFunction) (index : ℕ) (limited : Limite
     where
       -- where the next word goes after the context's effects
       pub after_context : o₃.at ≤ o.at + 1 + length sheet + 2 * effect_width * most_context
-      after_context = omega (arith, put.wrote.next, copy.few, collected_next ws f.params f.context context, limited.context)
+      after_context = omega (arith, put.wrote.next, copy.few, collected_next ws f.params f.context context, f.context_few)
 
       module _ {o₄ : Writer ℕ} (params : Collected ws (tracked_from ws 0 f.params) o₃ o₄) where
         -- after those of the parameters
         pub after_params : o₄.at ≤ o.at + 1 + length sheet + 2 * effect_width * (most_context + most_params)
-        after_params = omega (arith, after_context, collected_next ws 0 f.params params, limited.params)
+        after_params = omega (arith, after_context, collected_next ws 0 f.params params, f.params_few)
 
         module _ (some : (s : Sheet) × Before s sheet ws f index) {o₅ : Writer ℕ} (create : ReturnsWrote o₄ o₅) where
           -- after Create for returns
@@ -145,7 +144,7 @@ module _ (sheet ws : List ℕ) (f : HirFunction) (index : ℕ) (limited : Limite
 
               -- after what the simulated walks found
               pub after_walks : o₆.at ≤ o.at + most_effects
-              after_walks = omega (arith, after_returns, walks.few, limited.params, limited.context)
+              after_walks = omega (arith, after_returns, walks.few, f.params_few, f.context_few)
 
               pub rises : o.at + 1 ≤ o₆.at
               rises = omega (arith, (all_parts some.0 some.1).wrote.next)

@@ -10,7 +10,6 @@ ghost use Rattle.workspace.specs.Rows.{Indexed};
 ghost use Rattle.workspace.specs.Tracked.{most_tracked};
 ghost use Rattle.aliasing.specs.Says.{mode_says, mutation_says};
 ghost use Rattle.writing.specs.Wrote.{farthest};
-ghost use Rattle.dataflow.specs.Function.{Limited};
 ghost use Rattle.summary.specs.Simulates.{most_flows, most_effects, Marked, Simulates, CopiedPut, Before, EffectsPut};
 
 use crate::flows::put_flows;
@@ -85,7 +84,6 @@ pub fn put_effects(
     index: u32,
     out: &mut Writer<'_, u32>,
 )
-    requires limited { Limited f }
     requires indexed { Indexed ws.old }
     requires before { (s : Sheet) × Before s sheet.now ws.old f index }
     requires index_le_most_index { (index ≤ most_index) × (out.old.at + most_effects ≤ farthest) }
