@@ -15,7 +15,7 @@ use hir::effects::{Role, diagnostic_of, role_of};
 use writing::Writer;
 
 // The section that effects of instructions are copied to.
-// Kept: four functions hand it down, and what each writes is stated by it (`copy_words`); closures would need that contract at each of the four.
+// Kept: five functions hand it down, and what each writes is stated by it (`copy_words`); closures would need that contract at each of the five.
 #[derive(Clone, Copy, Debug, PartialEq, Eq)]
 pub enum Section {
     Diagnostics,

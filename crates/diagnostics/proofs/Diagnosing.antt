@@ -4,7 +4,7 @@ use native.Mathlib.Omega.{arith}
 use mathlib.Core.Path.{◌≡◌, refl, sym, ap, subst, ◌∙◌}
 use mathlib.Core.Bool.{Bool, true, false, ◌||◌}
 use mathlib.Core.List.{List, [], ◌∷◌, ◌++◌, map, cons≢nil}
-use lib.ListN.{length}
+use lib.ListN.{length, length-set}
 use lib.Seq.{slice}
 use Rattle.model.specs.Limits.{most_renders, diagnostic_width}
 use Rattle.model.specs.Lists.{keep, cons_if, gather, list_if}
@@ -27,7 +27,7 @@ use Rattle.aliasing.specs.State.{state_of}
 use Rattle.renders.specs.Renders.{Unmoved}
 use Rattle.writing.specs.declared.Writer.{Writer}
 use Rattle.writing.specs.Wrote.{Writes, Patches}
-use Rattle.writing.proofs.Writing.{writes_then, writes_as, writes_none}
+use Rattle.writing.proofs.Writing.{writes_then, writes_as, writes_none, writes_long}
 use Rattle.copies.specs.Copies.{Copies}
 use Rattle.copies.specs.Words.{block_words}
 use Rattle.copies.specs.Functions.{functions_of, Functions}
@@ -117,6 +117,8 @@ pub record HandedPut (sheet lists ws : List ℕ) (f : HirFunction) (renders hand
       → Writes (gather diagnostic_words (gather (function_errors s.functions) (simulate s).state.handed)) o o'
   pub least : o.at ≤ o'.at
   pub few : o'.at ≤ o.at + most_handed * (1 + most_renders)
+  pub same : o'.buffer.ghost_name ≡ o.buffer.ghost_name
+  pub long : length o'.buffer.now ≡ length o.buffer.now
   pub unmoved : Unmoved ws ws'
 
 module _ (sheet lists ws : List ℕ) (f : HirFunction) (renders : ℕ) {hand : ℕ} (g : Functions lists ws (functions_of lists ws f.m)) (low : hand ≤ MUTATIONS) (size : LEAST ≤ length ws) {o o₁ : Writer ℕ}
@@ -135,6 +137,8 @@ module _ (sheet lists ws : List ℕ) (f : HirFunction) (renders : ℕ) {hand : �
         ∙ ap (λ (l : List InnerFunction). gather diagnostic_words (gather (function_errors l) (simulate s).state.handed)) (functions_are t.functions d.m));
     least = omega (arith, p.wrote.next, q.wrote.wrote.next);
     few = omega (arith, room, q.few, h);
+    same = q.wrote.same ∙ p.same;
+    long = writes_long q.wrote ∙ writes_long p;
     unmoved = q.unmoved;
   }
 
@@ -146,6 +150,8 @@ module _ (sheet lists ws : List ℕ) (f : HirFunction) (renders : ℕ) {hand : �
         ∙ ap (λ (l : List ℕ). gather diagnostic_words (gather (function_errors s.functions) l)) (sym (handed_quiet s ws hand (sym d.errors ∙ e) u)));
     least = omega (arith, p.wrote.next);
     few = omega (arith, room);
+    same = p.same;
+    long = writes_long p;
     unmoved = unmoved_none ws;
   }
 
@@ -175,5 +181,7 @@ module _ {sheet lists ws : List ℕ} {f : HirFunction} {renders hand : ℕ} {o o
         (ap (λ (z : List ℕ). 0 ∷ z) (sym (gather_append diagnostic_words (recorded s) (gather (function_errors s.functions) (simulate s).state.handed)))) in
         section_patched diagnostic_words l w e (omega (arith, p.wrote.next, diagnostics_count l w));
     few = omega (arith, section_few, e.stays);
+    same = e.same ∙ h.same ∙ (q.wrote some.0 some.1.0).same ∙ p.same;
+    long = ap (λ (l : List ℕ). length l) e.items ∙ length-set o₃.buffer.now o.at ((o₃.at - o₁.at) / diagnostic_width) ∙ h.long ∙ writes_long (q.wrote some.0 some.1.0) ∙ writes_long p;
     unmoved = h.unmoved;
   }

@@ -41,4 +41,7 @@ pub record DiagnosticsPut (sheet lists ws : List ℕ) (f : HirFunction) (renders
   pub wrote : (s : Sheet) → Describes s sheet f → Stands s lists ws → state_of ws hand ≡ after_real s → renders_of ws renders ≡ (build s).renders
       → Writes (section diagnostic_words (diagnosed s)) o o'
   pub few : o'.at ≤ o.at + most_diagnosed
+  -- the buffer is the same one, and as long, whatever was to be written
+  pub same : o'.buffer.ghost_name ≡ o.buffer.ghost_name
+  pub long : length o'.buffer.now ≡ length o.buffer.now
   pub unmoved : Unmoved ws ws'

@@ -16,7 +16,7 @@ mod lines;
 mod text;
 
 // A refusal leaves both buffers all 0.
-// Kept: its twin in crate inference fills words; one over both would have to be given the zero.
+// Kept: beside that of crate inference, which clears words; one over words and bytes would take the zero as an argument, and is no plainer.
 fn refuse(ws: &mut [u32], text: &mut [u8], refusal: Refusal) -> Result<usize, Refusal>
     ensures { Came (refused (refusal_number refusal)) ws.old text.old result ws.new text.new }
 {

@@ -21,7 +21,7 @@ pub fn put_node_line(text: &mut Writer<'_, u8>, x: u32)
 }
 
 // The word of an edge's kind, by the list of its relation: the edge of a created-from relation is an alias.
-// Kept: the list is a number, since the words of the workspace hold it so and `relation_of` says what it means.
+// Kept: as a `Relation` it would be matched twice, once to decode the word's number; no plainer.
 fn put_kind(text: &mut Writer<'_, u8>, list: u32)
     requires { (list < 4) × (text.old.at + most_kind ≤ farthest) }
     ensures { Writes (kind_word (edge_kind (relation_of list))) text.old text.new }

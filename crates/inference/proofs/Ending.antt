@@ -1,6 +1,6 @@
 -- What is left in both buffers at the end of a call.
 use Prim.Native.Nat.{ℕ, ◌≤◌}
-use mathlib.Core.Path.{◌≡◌, refl, subst, ap, ◌∙◌}
+use mathlib.Core.Path.{◌≡◌, refl, sym, subst, ap, ◌∙◌}
 use mathlib.Core.List.{List}
 use lib.ListN.{length}
 use Rattle.model.specs.Call.{Outcome as TheOutcome, refusal, fits, answer_after, workspace_after}
@@ -29,6 +29,10 @@ came_filled ws₁ f same e = record { returned = f.returned; answer = f.words; w
 
 pub refused_all : {k : Refusal} {ws ans ws' ans' : List ℕ} → ws' ≡ cleared_from 0 ws → ans' ≡ cleared_from 0 ans → Came (refusal (refusal_number k)) ws ans (Err k) ws' ans'
 refused_all {ws = ws} p q = came_filled ws (filled_refused q) refl p
+
+-- by a call of `refuse`
+pub refused_came : {k : Refusal} {ws ans : List ℕ} {r : Result ℕ Refusal} {ws' ans' : List ℕ} → r ≡ Err k → ws' ≡ cleared_from 0 ws → ans' ≡ cleared_from 0 ans → Came (refusal (refusal_number k)) ws ans r ws' ans'
+refused_came {k} {ws} {ans} {r} {ws'} {ans'} e p q = subst (λ (x : Result ℕ Refusal). Came (refusal (refusal_number k)) ws ans x ws' ans') (sym e) (refused_all p q)
 
 -- an answer that fits
 pub answered_all : {vs : List ℕ} {o o' : Writer ℕ} (w : Writes vs o o') → o.at ≡ 0 → {ws ws₂ ans₂ : List ℕ} (ws₁ : List ℕ) → o'.at ≤ length o'.buffer.now → length ws₁ ≡ length ws → ws₂ ≡ cleared_from 0 ws₁ → ans₂ ≡ cleared_from o'.at o'.buffer.now

@@ -1,13 +1,13 @@
 // The port of `infer_mutation_aliasing_ranges`.
 #![tactic(auto)]
 
-ghost use Rattle.std.specs.Prelude.{◌+◌, ◌≤◌, length};
+ghost use Rattle.std.specs.Prelude.{◌≡◌, ◌+◌, ◌≤◌, length};
 ghost use Rattle.model.specs.Limits.{most_identifiers};
 ghost use Rattle.workspace.specs.Layout.{LEAST};
 ghost use Rattle.model.specs.Sheet.{Sheet};
-ghost use Rattle.model.specs.Call.{refusal as refused, read, holds, admit, IsSheet};
-ghost use Rattle.hir.specs.Refusals.{refusal_number};
-ghost use Rattle.inference.specs.Outcome.{Came, Inferred};
+ghost use Rattle.model.specs.Call.{read, holds, admit, IsSheet};
+ghost use Rattle.workspace.specs.Sort.{cleared_from};
+ghost use Rattle.inference.specs.Outcome.{Inferred};
 ghost use Rattle.writing.specs.Wrote.{farthest};
 ghost use Rattle.operands.specs.Ranges.{most_ranges};
 ghost use Rattle.operands.specs.Whole.{Passing, most_operand_words};
@@ -146,8 +146,10 @@ pub fn put_answer(
 }
 
 // A refusal leaves both buffers all 0.
-pub fn refuse(ws: &mut [u32], answer: &mut [u32], refusal: Refusal) -> Result<usize, Refusal>
-    ensures { Came (refused (refusal_number refusal)) ws.old answer.old result ws.new answer.new }
+pub fn refuse<E>(ws: &mut [u32], answer: &mut [u32], refusal: E) -> Result<usize, E>
+    ensures refused { result ≡ Err refusal }
+    ensures workspace { ws.new ≡ cleared_from 0 ws.old }
+    ensures answer { answer.new ≡ cleared_from 0 answer.old }
 {
     clear_from(ws, 0);
     clear_from(answer, 0);

@@ -26,7 +26,7 @@ mod terminals;
 pub const RANGE_WIDTH: usize = 2;
 
 // Which places are written.
-// Kept: what is written is stated by it (`places_in`), and the steps of a block hand it down; closures would need that contract at each step.
+// Kept: what a step writes is stated by it (`places_in`); as closures in `Pass` each step would need that contract of its own.
 #[derive(Clone, Copy, Debug, PartialEq, Eq)]
 pub enum Section {
     Phis,

@@ -52,8 +52,8 @@ pub fn turn_from(serial: u32, sheet: &[u32], workspace: &mut [u32], answer: &mut
             next: serial.wrapping_add(1),
         },
         Err(refusal) => Turn {
-            reply: Reply::from(Err(refusal)),
             next: serial,
+            reply: Reply::from(Err(refusal)),
         },
     }
 }

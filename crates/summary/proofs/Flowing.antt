@@ -18,7 +18,7 @@ use Rattle.workspace.proofs.Places.{is_below}
 use Rattle.aliasing.specs.State.{state_of}
 use Rattle.writing.specs.declared.Writer.{Writer}
 use Rattle.writing.specs.Wrote.{Writes}
-use Rattle.writing.proofs.Writing.{writes_as, writes_none}
+use Rattle.writing.proofs.Writing.{writes_as, writes_none, writes_long}
 use Rattle.model.proofs.Gathers.{gather_gather}
 use Rattle.summary.specs.Records.{Holds}
 use Rattle.workspace.specs.Tracked.{tracked_at, tracked_of}
@@ -108,4 +108,5 @@ module _ (ws : List ℕ) (count : ℕ) (into : Place) (index returns : ℕ) wher
           writes_as (telling_end By told effect_width count (tracked_at ws) v z (s.returns, t) (h, k))
           (sym (gather_gather effect_words (flow_of s.returns index into t) (tab count (tracked_at ws))) ∙ ap (λ (l : List Place). gather effect_words (gather (flow_of s.returns index into t) l)) (sym e));
       same = (v.leaves (some_place returns, state_of ws 0) (held ws 0, refl)).same;
+      long = writes_long (telling_end By told effect_width count (tracked_at ws) v z (some_place returns, state_of ws 0) (held ws 0, refl));
     }

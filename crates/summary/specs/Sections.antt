@@ -1,5 +1,5 @@
 -- Sections of the answer that are written from the workspace.
-use Rattle.std.specs.Prelude.{ℕ, ◌+◌, ◌*◌, List, [], ◌∷◌, map, ◌≡◌, get_or}
+use Rattle.std.specs.Prelude.{ℕ, ◌+◌, ◌*◌, List, [], ◌∷◌, map, ◌≡◌, get_or, length}
 use Rattle.model.specs.Limits.{most_mutations}
 use Rattle.model.specs.Lists.{pick, gather}
 use Rattle.model.specs.Sheet.{Place, Sheet}
@@ -29,6 +29,7 @@ pub record Flows (ws : List ℕ) (count : ℕ) (into : Place) (index returns : �
   pub wrote : (s : Sheet) (t : State) → Holds ws t → tracked s ≡ tracked_of ws count → s.returns.identifier ≡ returns
       → Writes (gather effect_words (flow_effects s index into t)) o o'
   pub same : o'.buffer.ghost_name ≡ o.buffer.ghost_name
+  pub long : length o'.buffer.now ≡ length o.buffer.now
 
 -- the words of the section of walks: its count, and one for each real and each simulated walk
 abbrev pub most_walks : ℕ
