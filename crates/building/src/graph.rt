@@ -88,6 +88,6 @@ pub fn lay_out(ws: &mut [u32], h: Held)
     requires { Room ws.old h }
     ensures { Laid ws.old h ws.new }
 {
-    workspace::sort(ws, Table::Edges, FBOUND, IDENTIFIERS, EDGES, h.edges);
-    workspace::sort(ws, Table::Entries, BBOUND, LISTS, ENTRIES, h.entries);
+    workspace::sort(ws, Table::Edges as u32, FBOUND, IDENTIFIERS, EDGES, h.edges);
+    workspace::sort(ws, Table::Entries as u32, BBOUND, LISTS, ENTRIES, h.entries);
 }

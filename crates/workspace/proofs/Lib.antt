@@ -1,4 +1,5 @@
 pub mod Parts
+pub mod AnyNumber
 pub mod Clearing
 pub mod Counting
 pub mod Placing
