@@ -2,13 +2,16 @@
 use Prim.Native.Nat.{ℕ, zero, suc, ◌<◌}
 use native.Mathlib.Omega.{arith}
 use mathlib.Core.Bool.{Bool, true, false}
-use mathlib.Core.Path.{◌≡◌, refl}
+use mathlib.Core.Path.{◌≡◌, refl, ap}
 use lib.Dec.{eqb}
 use denote.Enum.Declared.{tag_of}
 use mir.Val.{bool_byte}
 use Rattle.std.specs.Prelude.{Option, None, Some, is_some}
 use Rattle.hir.specs.contracts.MutationKind.{the_type}
-use Rattle.model.specs.Mutation.{reason_of}
+use Rattle.aliasing.specs.contracts.pushes.Direction.{the_type as direction_type}
+use Rattle.aliasing.specs.declared.pushes.Direction.{Direction}
+use Rattle.aliasing.specs.declared.pushes.Direction.TheVariants.{Backwards, Forwards}
+use Rattle.model.specs.Mutation.{reason_of, level}
 use Rattle.workspace.specs.Pending.{kind_of}
 use Rattle.hir.specs.declared.MutationKind.{MutationKind}
 use Rattle.hir.specs.declared.MutationKind.TheVariants.{Conditional, Definite}
@@ -16,7 +19,7 @@ use Rattle.hir.specs.declared.MutationReason.{MutationReason}
 use Rattle.hir.specs.declared.MutationReason.TheVariants.{AssignCurrentProperty}
 use Rattle.std.specs.Bool.{then_some}
 use Rattle.hir.specs.Mutations.{kind_says, kind_bit, reason_says, reason_bit}
-use Rattle.aliasing.specs.Says.{bit}
+use Rattle.aliasing.specs.Says.{bit, direction_bit}
 
 pub bit_below : (b : Bool) → bit b < 2
 bit_below true = omega arith
@@ -57,3 +60,26 @@ tag_bit Definite = refl
 pub some_bit : (o : Option MutationReason) → bool_byte (is_some o) ≡ reason_bit o
 some_bit None = refl
 some_bit (Some r) = refl
+
+-- a direction as a number
+pub tag_direction : (d : Direction) → tag_of direction_type d ≡ direction_bit d
+tag_direction Backwards = refl
+tag_direction Forwards = refl
+
+-- a truth value as a number
+pub byte_bit : (b : Bool) → bool_byte b ≡ bit b
+byte_bit true = refl
+byte_bit false = refl
+
+-- a number that is a bit, by what it says
+pub number_bit : (n : ℕ) → n < 2 → bit (eqb n 1) ≡ n
+number_bit zero h = refl
+number_bit (suc zero) h = refl
+number_bit (suc (suc n)) h = absurd (omega arith)
+
+pub number_kind : (k : MutationKind) (n : ℕ) → n < 2 → kind_says k ≡ kind_of n → kind_bit k ≡ n
+number_kind Conditional zero h e = refl
+number_kind Conditional (suc n) h e = absurd (omega (arith, ap level e))
+number_kind Definite zero h e = absurd (omega (arith, ap level e))
+number_kind Definite (suc zero) h e = refl
+number_kind Definite (suc (suc n)) h e = absurd (omega arith)

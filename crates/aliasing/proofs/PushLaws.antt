@@ -4,10 +4,13 @@ use native.Mathlib.Omega.{arith}
 use mathlib.Core.Bool.{Bool, true, false}
 use mathlib.Core.List.{List, [], ◌++◌, append_assoc}
 use mathlib.Core.Path.{◌≡◌, sym, ap, subst, ◌∙◌}
+use lib.Dec.{eqb}
 use lib.ListN.{length, get_or, take, drop, length-append}
 use lib.Seq.{slice, sets-eq, length-sets, length-take-le, take_at, drop-append-le}
 use Rattle.model.specs.Limits.{most_identifiers}
+use Rattle.model.specs.Lists.{pick}
 use Rattle.workspace.specs.Layout.{LEAST, VALUE, QUEUE}
+use Rattle.workspace.specs.Graph.{PHI, ALIASES, MAYBE}
 use Rattle.workspace.specs.Rows.{rows_of, value, row_f, row_b, Good, Kept}
 use Rattle.aliasing.specs.Pushes.{Room, words_f, words_b, deg, forward_w, entries_w, blocked_w, aliases_w, captures_w, pushed_w}
 use Rattle.writing.specs.Wrote.{Wrote}
@@ -124,3 +127,12 @@ module _ (ws : List ℕ) (top x index transitive kind : ℕ) (room : Room ws top
             (append_assoc (forward_w index transitive kind (row_f (rows_of ws) x) ++ entries_w index 1 kind (row_b (rows_of ws) (4 * x))) (aliases_w (rows_of ws) x direction index transitive kind) (captures_w (rows_of ws) x index transitive kind)
             ∙ append_assoc (forward_w index transitive kind (row_f (rows_of ws) x)) (entries_w index 1 kind (row_b (rows_of ws) (4 * x))) (aliases_w (rows_of ws) x direction index transitive kind ++ captures_w (rows_of ws) x index transitive kind))
             (pushed_on (λ g. captures_w g x index transitive kind) room.low three p₄)
+
+-- a direction counts by whether it is 1
+pub pushed_towards : (g : List ℕ) (x d d' index transitive kind : ℕ) → eqb d 1 ≡ eqb d' 1 → pushed_w g x d index transitive kind ≡ pushed_w g x d' index transitive kind
+unfolding pushed_w aliases_w
+pushed_towards g x d d' index transitive kind e =
+    ap (λ (b : Bool). forward_w index transitive kind (row_f g x)
+        ++ (entries_w index 1 kind (row_b g (4 * x))
+            ++ (pick (pick b (eqb (value g x) PHI) false) [] (entries_w index transitive kind (row_b g (4 * x + ALIASES)) ++ entries_w index transitive 0 (row_b g (4 * x + MAYBE)))
+                ++ captures_w g x index transitive kind))) e

@@ -137,7 +137,8 @@ fn step(ws: &mut [u32], top: usize, hand: usize, m: Mutation, base: u32) -> Step
     }
     let hand = record_errors(ws, x, m.should_record_errors, hand);
     accept(ws, entry, m);
-    let top = push_all(ws, m.index, entry, top);
+    let transitive = u32::from(entry.transitive);
+    let top = push_all(ws, x, entry.direction as u32, m.index, transitive, entry.kind as u32, top);
     StepLeft { top, hand }
 }
 

@@ -213,7 +213,7 @@ fn push_captures(ws: &mut [u32], index: u32, entry: QueueEntry, top: usize) -> u
 }
 
 // All that the node of an entry pushes, in the original's order.
-pub fn push_all(ws: &mut [u32], index: u32, entry: QueueEntry, top: usize) -> usize
+fn push_entry(ws: &mut [u32], index: u32, entry: QueueEntry, top: usize) -> usize
     requires room { Room ws.old top (deg (rows_of ws.old) entry.place.0) }
     requires place_lt_most_identifiers { entry.place.0 < most_identifiers }
     ensures { Wrote (pushed_w (rows_of ws.old) entry.place.0 (direction_bit entry.direction) index (bit entry.transitive) (kind_bit entry.kind)) ws.old top ws.new result }
@@ -227,4 +227,32 @@ pub fn push_all(ws: &mut [u32], index: u32, entry: QueueEntry, top: usize) -> us
     let top = push_list(ws, 4 * x, index, created, top);
     let top = push_aliases(ws, index, entry, top);
     push_captures(ws, index, entry, top)
+}
+
+// All that node x pushes where the walk comes to it forwards, direction 1, or backwards, any other.
+// Kept: it takes numbers, since docs/MAP.md names it and its contract speaks of any direction; an entry would ask more of callers.
+pub fn push_all(
+    ws: &mut [u32],
+    x: usize,
+    direction: u32,
+    index: u32,
+    transitive: u32,
+    kind: u32,
+    top: usize,
+) -> usize
+    requires room { Room ws.old top (deg (rows_of ws.old) x) }
+    requires x_lt_most_identifiers { (x < most_identifiers) × ((transitive < 2) × (kind < 2)) }
+    ensures { Wrote (pushed_w (rows_of ws.old) x direction index transitive kind) ws.old top ws.new result }
+{
+    let entry = QueueEntry {
+        place: IdentifierId(x as u32),
+        transitive: transitive == 1,
+        direction: if direction == 1 {
+            Direction::Forwards
+        } else {
+            Direction::Backwards
+        },
+        kind: kind_of(kind),
+    };
+    push_entry(ws, index, entry, top)
 }

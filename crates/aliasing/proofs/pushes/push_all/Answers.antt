@@ -1,24 +1,28 @@
-use Rattle.hir.specs.Mutations.{kind_bit}
-use Rattle.aliasing.specs.Says.{bit, direction_bit}
-use Rattle.aliasing.proofs.PushLaws.{room_created, room_aliases, room_captures, all_pushed}
+use mathlib.Core.Path.{◌≡◌, sym, ap, subst, ◌∙◌}
+use Prim.Native.Nat.{ℕ}
+use lib.Dec.{eqb}
+use borrow.Author.Tests.{ne_eqb}
+use mathlib.Core.List.{List}
+use Rattle.workspace.specs.Rows.{rows_of}
+use Rattle.aliasing.specs.Says.{direction_bit}
+use Rattle.aliasing.specs.Pushes.{pushed_w}
+use Rattle.writing.specs.Wrote.{Wrote}
+use Rattle.aliasing.proofs.Bits.{number_bit, number_kind}
+use Rattle.aliasing.proofs.PushLaws.{pushed_towards}
+use Rattle.aliasing.proofs.pushes.push_all.Goals.{then-direction-eq1, else-direction-eq1}
 use Rattle.aliasing.proofs.pushes.push_all.Goals as goal
-
-pub push_list-top-requires-clause-room : goal.push_list-top-requires-clause-room
-push_list-top-requires-clause-room c =
-    let e = c.args.entry in
-    room_created c.args.ws.now c.args.top e.place.0 c.args.index (bit e.transitive) (kind_bit e.kind) c.requires.room c.requires.place_lt_most_identifiers _ _ c.push_edges-top.ensures
-
-pub push_aliases-top-requires-clause-room : goal.push_aliases-top-requires-clause-room
-push_aliases-top-requires-clause-room c =
-    let e = c.args.entry in
-    room_aliases c.args.ws.now c.args.top e.place.0 c.args.index (bit e.transitive) (kind_bit e.kind) c.requires.room c.requires.place_lt_most_identifiers _ _ c.push_edges-top.ensures _ _ c.push_list-top.ensures
-
-pub push_captures-requires-clause-room : goal.push_captures-requires-clause-room
-push_captures-requires-clause-room c =
-    let e = c.args.entry in
-    room_captures c.args.ws.now c.args.top e.place.0 c.args.index (bit e.transitive) (kind_bit e.kind) c.requires.room c.requires.place_lt_most_identifiers _ _ c.push_edges-top.ensures _ _ c.push_list-top.ensures (direction_bit e.direction) _ _ c.push_aliases-top.ensures
 
 pub returns : goal.returns
 returns c =
-    let e = c.args.entry in
-    all_pushed c.args.ws.now c.args.top e.place.0 c.args.index (bit e.transitive) (kind_bit e.kind) c.requires.room c.requires.place_lt_most_identifiers _ _ c.push_edges-top.ensures _ _ c.push_list-top.ensures (direction_bit e.direction) _ _ c.push_aliases-top.ensures _ _ c.push_captures.ensures
+    let a = c.args in
+    let d = c.if-direction-eq1.entry in
+    let towards : eqb a.direction 1 ≡ eqb (direction_bit d) 1 =
+        elim c.if-direction-eq1.branch [
+          then-direction-eq1 w ↦ ap (λ (n : ℕ). eqb n 1) w.if-direction-eq1.true ∙ sym (ap (λ e. eqb (direction_bit e) 1) w.entry-is)
+        | else-direction-eq1 w ↦ ne_eqb a.direction 1 w.if-direction-eq1.false ∙ sym (ap (λ e. eqb (direction_bit e) 1) w.entry-is)
+        ] in
+    let bits = c.requires.x_lt_most_identifiers.1 in
+    subst (λ (vs : List ℕ). Wrote vs a.ws.now a.top c.push_entry.new.ws c.push_entry.result)
+    (sym (pushed_towards (rows_of a.ws.now) a.x a.direction (direction_bit d) a.index a.transitive a.kind towards
+        ∙ sym (λ j. pushed_w (rows_of a.ws.now) a.x (direction_bit d) a.index (number_bit a.transitive bits.0 j) (number_kind c.kind_of.result a.kind bits.1 c.kind_of.ensures j))))
+    c.push_entry.ensures
