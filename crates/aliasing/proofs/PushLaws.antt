@@ -133,6 +133,6 @@ pub pushed_towards : (g : List ℕ) (x d d' index transitive kind : ℕ) → eqb
 unfolding pushed_w aliases_w
 pushed_towards g x d d' index transitive kind e =
     ap (λ (b : Bool). forward_w index transitive kind (row_f g x)
-        ++ (entries_w index 1 kind (row_b g (4 * x))
-            ++ (pick (pick b (eqb (value g x) PHI) false) [] (entries_w index transitive kind (row_b g (4 * x + ALIASES)) ++ entries_w index transitive 0 (row_b g (4 * x + MAYBE)))
-                ++ captures_w g x index transitive kind))) e
+    ++ (entries_w index 1 kind (row_b g (4 * x))
+    ++ (pick (pick b (eqb (value g x) PHI) false) [] (entries_w index transitive kind (row_b g (4 * x + ALIASES)) ++ entries_w index transitive 0 (row_b g (4 * x + MAYBE)))
+    ++ captures_w g x index transitive kind))) e

@@ -138,11 +138,20 @@ fn step(ws: &mut [u32], top: usize, hand: usize, m: Mutation, base: u32) -> Step
     let hand = record_errors(ws, x, m.should_record_errors, hand);
     accept(ws, entry, m);
     let transitive = u32::from(entry.transitive);
-    let top = push_all(ws, x, entry.direction as u32, m.index, transitive, entry.kind as u32, top);
+    let top = push_all(
+        ws,
+        x,
+        entry.direction as u32,
+        m.index,
+        transitive,
+        entry.kind as u32,
+        top,
+    );
     StepLeft { top, hand }
 }
 
 // Takes entries until none is left.
+// Kept: a turn takes the last entry and pushes others, so there is no index to count and nothing to go over.
 fn walk(ws: &mut [u32], mut top: usize, mut hand: usize, m: Mutation, base: u32) -> Taken
     requires { Ready base ws.old top hand }
     ensures { Walked m base ws.old top hand ws.new result.count result.hand }

@@ -60,7 +60,7 @@ impl QueueEntry {
 }
 
 // The kind of a bit.
-// Kept: any word is a bit here, as for `kind_of` of the definitions, so there is no error for a `TryFrom`.
+// Kept: any word is a bit here, as for `kind_of` of the definitions, so there is no error for a `TryFrom`; a `From` would stand in crate hir, which owns the type and knows no words.
 pub(crate) fn kind_of(bit: u32) -> MutationKind
     ensures { kind_says result ≡ kind_of bit }
 {

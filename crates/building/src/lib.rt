@@ -108,7 +108,7 @@ impl Building {
     }
 
     // "from" is captured in "into".
-    // Kept: this one and the next two differ in the relation alone; they have the names of the original.
+    // Kept: this one and the next two differ in the relation alone, and hand on to `relate`; that names are those of the original is a rule of the project.
     pub fn capture(&mut self, ws: &mut [u32], from: IdentifierId, into: IdentifierId)
         requires sound { Sound ws.old self.old }
         requires self_bound { (index_of self.old < most_index) × ((from.0 < most_identifiers) × (into.0 < most_identifiers)) }
