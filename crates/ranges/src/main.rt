@@ -1,6 +1,8 @@
 // Reads a sheet from standard input and prints the answer, a line for each section, or the refusal's number.
 #![tactic(auto)]
 
+ghost use Rattle.std.specs.Prelude.{◌≤◌, length, IfOk};
+
 use files::load_words;
 use service::turn_for;
 use std::io::{self, BufWriter, Read, Write};
@@ -28,7 +30,9 @@ fn print_section<'a, W: Write>(
     name: &str,
     width: usize,
     answer: &'a [u32],
-) -> io::Result<&'a [u32]> {
+) -> io::Result<&'a [u32]>
+    ensures { IfOk result (λ rest. length rest.now ≤ length answer.now) }
+{
     let mut rest = answer;
     write!(out, "{name}")?;
     if let Some((count, records)) = answer.split_first() {
