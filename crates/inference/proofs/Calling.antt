@@ -38,13 +38,14 @@ pub accepted_is : (sheet : List ℕ) {t : Told} → judgement_of (read sheet) �
 accepted_is sheet {t} e = let a = accepted_sheet sheet t e in (a.sheet, a.is)
 
 -- where neither a diagnosis nor a render was told it has no effect to copy
-pub accepted_none : (sheet : List ℕ) {t : Told} → judgement_of (read sheet) ≡ acceptance t → NoneUnless (t.diagnoses || ltb 0 t.renders) sheet
+pub accepted_none : (sheet : List ℕ) {t : Told} → judgement_of (read sheet) ≡ acceptance t → NoneUnless (ltb 0 t.diagnoses || ltb 0 t.renders) sheet
 accepted_none sheet {t} e h =
-    let r : t.renders ≤ 0 = ltb-false 0 t.renders (or_right t.diagnoses (ltb 0 t.renders) h) in
-    accepted_copies sheet t e (or_left t.diagnoses (ltb 0 t.renders) h) (omega (arith, r))
+    let d : t.diagnoses ≤ 0 = ltb-false 0 t.diagnoses (or_left (ltb 0 t.diagnoses) (ltb 0 t.renders) h) in
+    let r : t.renders ≤ 0 = ltb-false 0 t.renders (or_right (ltb 0 t.diagnoses) (ltb 0 t.renders) h) in
+    accepted_copies sheet t e (omega (arith, d)) (omega (arith, r))
 
 -- what was told of Apply
-pub accepted_tells : (sheet : List ℕ) {t : Told} → judgement_of (read sheet) ≡ acceptance t → AppliesIs t.applies sheet
+pub accepted_tells : (sheet : List ℕ) {t : Told} → judgement_of (read sheet) ≡ acceptance t → AppliesIs (ltb 0 t.applies) sheet
 accepted_tells sheet {t} e s is = sym (accepted_applies sheet t e s is)
 
 -- ---- what is prepared
@@ -80,7 +81,7 @@ module _ (sheet ws : List ℕ) where
     unfolding admit
     enough = sym (rw (le-ltb (length ws) least_workspace h))
 
-    reading_refused : {k : Refusal} → judgement_of (read sheet) ≡ no_sheet (refusal_number k) → Prepares (admit sheet (length ws)) sheet ws ws (Err k)
+    pub reading_refused : {k : Refusal} → judgement_of (read sheet) ≡ no_sheet (refusal_number k) → Prepares (admit sheet (length ws)) sheet ws ws (Err k)
     unfolding holds
     reading_refused {k} e = refuses (sym (ap holds (refused_sheet sheet (refusal_number k) e)) ∙ enough)
 

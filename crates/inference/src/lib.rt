@@ -69,8 +69,8 @@ pub fn prepare(sheet: &[u32], ws: &mut [u32]) -> Result<Read, Refusal>
         return Err(Refusal::ShortWorkspace);
     }
     let totals = reading::read(sheet)?;
-    let copies = totals.diagnoses || 0 < totals.renders;
-    build(sheet, ws, copies, totals.applies)
+    let copies = 0 < totals.diagnoses || 0 < totals.renders;
+    build(sheet, ws, copies, 0 < totals.applies)
 }
 
 // The sections of params and context.

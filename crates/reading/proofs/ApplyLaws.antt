@@ -66,9 +66,13 @@ pub applies_counted : (s : Sheet) → applies s ≡ ltb 0 (count_applies s)
 unfolding applies
 applies_counted s = some_apply (instruction_effects s) ∙ ap (ltb 0) (tally_effects one_apply s)
 
-told-applies : (s : Sheet) → applies s ≡ (told s).applies
-unfolding told
-told-applies s = refl
+one_told : (b : Bool) → b ≡ ltb 0 (one_if b)
+one_told true = refl
+one_told false = refl
 
-pub accepted_applies : (ws : List ℕ) (t : Told) → judgement_of (read ws) ≡ acceptance t → (s : Sheet) → IsSheet ws s → applies s ≡ t.applies
-accepted_applies ws t e s is = told-applies s ∙ ap (λ (u : Told). u.applies) (accepted_told ws t e s is)
+told-applies : (s : Sheet) → applies s ≡ ltb 0 (told s).applies
+unfolding told
+told-applies s = one_told (applies s)
+
+pub accepted_applies : (ws : List ℕ) (t : Told) → judgement_of (read ws) ≡ acceptance t → (s : Sheet) → IsSheet ws s → applies s ≡ ltb 0 t.applies
+accepted_applies ws t e s is = told-applies s ∙ ap (λ (u : Told). ltb 0 u.applies) (accepted_told ws t e s is)

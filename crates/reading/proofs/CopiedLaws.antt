@@ -1,11 +1,11 @@
 -- An accepted sheet with no diagnosis and no render has no effect to copy.
-use Prim.Native.Nat.{ℕ, ◌≤◌}
+use Prim.Native.Nat.{ℕ, zero, suc}
 use native.Mathlib.Omega.{arith}
 use mathlib.Core.Path.{◌≡◌, ◌∙◌, refl, ap}
 use mathlib.Core.Bool.{Bool, true, false, ◌||◌}
 use mathlib.Core.List.{List, [], ◌∷◌}
 use lib.Dec.{ltb}
-use borrow.Author.Tests.{ltb-false}
+use borrow.Author.Tests.{lt-ltb}
 use Rattle.model.specs.Lists.{keep, cons_if, tally, one_if}
 use Rattle.model.specs.Sheet.{Effect, Sheet}
 use Rattle.model.specs.Effects.{Role, row_of, is_render, is_diagnosis}
@@ -30,14 +30,15 @@ module _ {A : Type 0} (p q : A → Bool) where
 abbrev counts : (Role → Bool) → Effect → ℕ
 counts f e = one_if (f (row_of e.kind).role)
 
-none_told : (n : ℕ) → ltb 0 n ≡ false → n ≡ 0
-none_told n h = let k : n ≤ 0 = ltb-false 0 n h in omega arith
+none_told : (n : ℕ) → one_if (ltb 0 n) ≡ 0 → n ≡ 0
+none_told zero h = refl
+none_told (suc n) h = let k : one_if (ltb 0 (suc n)) ≡ 1 = ap one_if (lt-ltb 0 (suc n) (omega arith)) in absurd (omega (arith, h, k))
 
-none_copied : (s : Sheet) → (told s).diagnoses ≡ false → (told s).renders ≡ 0 → copied s ≡ []
+none_copied : (s : Sheet) → (told s).diagnoses ≡ 0 → (told s).renders ≡ 0 → copied s ≡ []
 unfolding copied told diagnoses totals
 none_copied s h k =
     none_kept (λ (e : Effect). is_diagnosis (row_of e.kind).role) (λ (e : Effect). is_render (row_of e.kind).role) (instruction_effects s)
     (tally_effects (counts is_diagnosis) s ∙ none_told (diagnoses s) h) (tally_effects (counts is_render) s ∙ k)
 
-pub accepted_copies : (ws : List ℕ) (t : Told) → judgement_of (read ws) ≡ acceptance t → t.diagnoses ≡ false → t.renders ≡ 0 → (s : Sheet) → IsSheet ws s → copied s ≡ []
+pub accepted_copies : (ws : List ℕ) (t : Told) → judgement_of (read ws) ≡ acceptance t → t.diagnoses ≡ 0 → t.renders ≡ 0 → (s : Sheet) → IsSheet ws s → copied s ≡ []
 accepted_copies ws t e h k s is = let q : told s ≡ t = accepted_told ws t e s is in none_copied s (ap (λ (u : Told). u.diagnoses) q ∙ h) (ap (λ (u : Told). u.renders) q ∙ k)

@@ -36,12 +36,12 @@ mutation_stop = most_mutations + 1
 abbrev pub render_stop : ℕ
 render_stop = most_renders + 1
 
--- both totals, whether an instruction has an effect of kind 14 to 16, and whether one has an Apply
+-- both totals, 1 if an instruction has an effect of kind 14 to 16, and 1 if one has an Apply
 pub record Told : Type 0 where
   pub mutations : ℕ
   pub renders : ℕ
-  pub diagnoses : Bool
-  pub applies : Bool
+  pub diagnoses : ℕ
+  pub applies : ℕ
 
 -- one more mutation
 unfoldable pub with_mutation : Told → Told
@@ -53,11 +53,11 @@ with_render t = record { mutations = t.mutations; renders = bump render_stop t.r
 
 -- there is a diagnosis
 unfoldable pub with_diagnosis : Told → Told
-with_diagnosis t = record { mutations = t.mutations; renders = t.renders; diagnoses = true; applies = t.applies }
+with_diagnosis t = record { mutations = t.mutations; renders = t.renders; diagnoses = 1; applies = t.applies }
 
 -- there is an Apply
 unfoldable pub with_apply : Told → Told
-with_apply t = record { mutations = t.mutations; renders = t.renders; diagnoses = t.diagnoses; applies = true }
+with_apply t = record { mutations = t.mutations; renders = t.renders; diagnoses = t.diagnoses; applies = 1 }
 
 -- an effect of an instruction, by what it is for and whether it is Apply
 abbrev pub tell_role : Bool → Role → Told → Told
@@ -73,7 +73,7 @@ tell_kind terminal k t = pick terminal t (tell_role (is_apply k) (row_of k).role
 
 -- before the first block
 abbrev pub no_totals : Told
-no_totals = record { mutations = 0; renders = 0; diagnoses = false; applies = false }
+no_totals = record { mutations = 0; renders = 0; diagnoses = 0; applies = 0 }
 
 -- "over .. 512 mutations or 256 renders"
 unfoldable pub over_told : Told → Bool

@@ -1,7 +1,7 @@
 -- A whole sheet judged: the heading, the lists of places, an instruction, the blocks; and the verdict.
 use Rattle.std.specs.Prelude.{ℕ, List, length, ltb}
 use Rattle.model.specs.Limits.{most_identifiers, most_functions, most_params, most_context, returns_count, most_order, most_lvalues, most_operands}
-use Rattle.model.specs.Lists.{each, tally}
+use Rattle.model.specs.Lists.{each, tally, one_if}
 use Rattle.model.specs.Sheet.{Place, BlockId, Block, Sheet}
 use Rattle.model.specs.Effects.{is_diagnosis}
 use Rattle.model.specs.Reading.{Result, got, refused, Read, ◌>>=◌, pure, fixed, at_most, counted, times_from, numbered_from}
@@ -82,7 +82,7 @@ diagnoses s = tally (λ (b : Block). with_role is_diagnosis b.instructions) s.bl
 
 -- what is told of an accepted sheet: its totals, whether there is a diagnosis, and whether refusal 10 applies
 unfoldable pub told : Sheet → Told
-told s = record { mutations = (totals s).mutations; renders = (totals s).renders; diagnoses = ltb 0 (diagnoses s); applies = applies s }
+told s = record { mutations = (totals s).mutations; renders = (totals s).renders; diagnoses = one_if (ltb 0 (diagnoses s)); applies = one_if (applies s) }
 
 -- what is said of a sheet: a refusal's number, or what is told of it
 pub data Judgement : Type 0 where

@@ -20,13 +20,14 @@ use hir::limits::{
 use hir::refusal::Refusal;
 use hir::{BlockId, Cursor, Step, TerminalKind};
 
-// The mutations and renders so far, each no higher than one above its limit; whether an instruction had a diagnosis; whether one had an Apply.
+// The mutations and renders so far, each no higher than one above its limit; 1 if an instruction had a diagnosis; 1 if one had an Apply.
 #[derive(Clone, Copy, Debug, Default, PartialEq, Eq)]
 pub struct Totals {
     pub mutations: u32,
     pub renders: u32,
-    pub diagnoses: bool,
-    pub applies: bool,
+    // Kept: these two stay numbers, since docs/MAP.md names `Totals::effect`, which takes a `Totals` of any numbers; a bool would ask more of callers.
+    pub diagnoses: u32,
+    pub applies: u32,
 }
 
 // An effect: an instruction's is counted at its kind, where refusal 8 may come, before its places; a terminal's is asked with the totals as they were.

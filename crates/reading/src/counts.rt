@@ -43,13 +43,10 @@ impl Totals {
                 ..self
             },
             Role::Diagnosis => Totals {
-                diagnoses: true,
+                diagnoses: 1,
                 ..self
             },
-            Role::Nothing if kind == EffectKind::Apply => Totals {
-                applies: true,
-                ..self
-            },
+            Role::Nothing if kind == EffectKind::Apply => Totals { applies: 1, ..self },
             Role::Relation | Role::Nothing => self,
         }
     }

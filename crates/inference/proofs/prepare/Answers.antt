@@ -1,9 +1,10 @@
 use mathlib.Core.Path.{◌≡◌, refl, sym, ◌∙◌}
 use mathlib.Core.Bool.{◌||◌}
 use lib.Dec.{ltb}
+use borrow.Author.Tests.{lt-ltb, le-ltb}
 use Rattle.inference.proofs.Calling.{accepted_is, accepted_none, accepted_tells, short_refused, reading_left, reading_prepares}
 use Rattle.inference.proofs.prepare.Goals as goal
-use Rattle.inference.proofs.prepare.Goals.{then-totals, else-totals}
+use Rattle.inference.proofs.prepare.Goals.{then-totals-gt0, else-totals-gt0}
 
 pub returns-then-ws-lt-LEAST : goal.returns-then-ws-lt-LEAST
 returns-then-ws-lt-LEAST c = short_refused _ _ c.if-ws-lt-LEAST.true
@@ -15,8 +16,11 @@ pub build-requires : goal.build-requires
 build-requires c =
     let said = sym c.in_ok-totals.ensures in
     let t = c.in_ok-totals.totals in
-    let copies : c.if-totals.copies ≡ (t.diagnoses || ltb 0 t.renders) =
-    elim c.if-totals.branch [ then-totals w ↦ w.copies-is ∙ sym (rw w.if-totals.true refl) | else-totals w ↦ w.copies-is ∙ sym (rw w.if-totals.false refl) ] in
+    let copies : c.if-totals-gt0.copies ≡ (ltb 0 t.diagnoses || ltb 0 t.renders) =
+    elim c.if-totals-gt0.branch [
+      | then-totals-gt0 w ↦ w.copies-is ∙ sym (rw (lt-ltb 0 t.diagnoses w.if-totals-gt0.true) refl)
+      | else-totals-gt0 w ↦ w.copies-is ∙ sym (rw (le-ltb 0 t.diagnoses w.if-totals-gt0.false) refl)
+    ] in
     record {
       in_bounds = c.if-ws-lt-LEAST.false;
       sheet = accepted_is c.args.sheet.now said;
