@@ -3,10 +3,8 @@ use Prim.Native.Nat.{ℕ, zero, suc, ◌+◌, ◌-◌, ◌≤◌, ◌<◌}
 use native.Mathlib.Omega.{arith}
 use mathlib.Core.Path.{◌≡◌, refl, sym, ap, ◌∙◌}
 use mathlib.Core.List.{List, [], ◌∷◌, ◌++◌, map}
-use lib.ListN.{length, get_or, take, drop, replicate, length-replicate, length-map}
-use lib.Seq.{sets, sets-eq, paste, slice, length-sets, length-slice, take_all}
-use Rattle.std.specs.List.{copy_within}
-use Rattle.std.proofs.lemmas.List.{drop-take}
+use lib.ListN.{length, get_or, drop, replicate, length-replicate, length-map}
+use lib.Seq.{sets, slice, length-sets, length-slice, take_all}
 use Rattle.model.specs.Limits.{most_identifiers, most_functions, most_inner_context, identifier_width}
 use Rattle.model.specs.Lists.{Every}
 use Rattle.model.specs.Sheet.{Identifier, InnerFunction, Place}
@@ -52,15 +50,6 @@ over_cleared ws f n t vs e h m =
 kept_sets : (ws : List ℕ) (at : ℕ) (vs : List ℕ) → Kept at (at + length vs) ws (sets ws at vs)
 kept_sets ws at vs = record { low = take_sets at vs ws at (omega arith); high = drop_sets (at + length vs) vs ws at (omega arith); same = length-sets ws at vs }
 
--- words copied from one part to another
-copied_within : (ws : List ℕ) (from n to : ℕ) → from + n ≤ length ws → to + n ≤ length ws → paste ws to (drop from ws) n ≡ sets ws to (slice from (from + n) ws)
-copied_within ws from n to h k =
-    let vs : List ℕ = slice from (from + n) ws in
-    let e : length vs ≡ n = omega (arith, length-slice from (from + n) ws h) in
-    ap (λ (l : List ℕ). take to ws ++ l ++ drop (to + n) ws) (sym (drop-take from n ws))
-    ∙ ap (λ (i : ℕ). take to ws ++ vs ++ drop (to + i) ws) (sym e)
-    ∙ sym (sets-eq vs ws to (omega (arith, e, k)))
-
 -- ---- no marks
 -- the words of the marks are 0
 abbrev pub Unmarked : List ℕ → Type 0
@@ -88,9 +77,9 @@ unmarked_cleared ws h i b e =
 
 -- ---- all of it: starts cleared and stored, ends copied, marks cleared
 pub begun : (ids : List Identifier) {ws ws₁ ws₂ ws₃ ws₄ : List ℕ} → length ids ≤ most_identifiers → LEAST ≤ length ws → ws₁ ≡ clear_w ws STARTS most_identifiers
-    → ws₂ ≡ sets ws₁ STARTS (map start_of ids) → ws₃ ≡ copy_within ws₂ END SEEN ENDS → ws₄ ≡ clear_w ws₃ CONTEXTS (PASSED - CONTEXTS) → Begun ids ws ws₄
+    → ws₂ ≡ sets ws₁ STARTS (map start_of ids) → ws₃ ≡ sets ws₂ ENDS (slice END SEEN ws₂) → ws₄ ≡ clear_w ws₃ CONTEXTS (PASSED - CONTEXTS) → Begun ids ws ws₄
 unfolding ranges_of sheet_starts
-begun ids {ws} {ws₁} {ws₂} {ws₃} {ws₄} m h e₁ e₂ copied e₄ =
+begun ids {ws} {ws₁} {ws₂} {ws₃} {ws₄} m h e₁ e₂ e₃ e₄ =
     let vs : List ℕ = map start_of ids in
     let es : List ℕ = slice END SEEN ws₂ in
     let n : length vs ≡ length ids = length-map ids start_of in
@@ -98,7 +87,6 @@ begun ids {ws} {ws₁} {ws₂} {ws₃} {ws₄} m h e₁ e₂ copied e₄ =
     let k₂ : Kept STARTS (STARTS + length vs) ws₁ ws₂ = rw e₂ (kept_sets ws₁ STARTS vs) in
     let k : Kept STARTS ENDS ws ws₂ = kept_then STARTS ENDS k₁ k₂ (omega arith) (omega arith) (omega arith) (omega (arith, n, m)) in
     let l : length es ≡ SEEN - END = length-slice END SEEN ws₂ (omega (arith, h, k.same)) in
-    let e₃ : ws₃ ≡ sets ws₂ ENDS es = copied ∙ copied_within ws₂ END (SEEN - END) ENDS (omega (arith, h, k.same)) (omega (arith, h, k.same)) in
     let k₃ : Kept ENDS (ENDS + length es) ws₂ ws₃ = rw e₃ (kept_sets ws₂ ENDS es) in
     let k₄ : Kept CONTEXTS (CONTEXTS + (PASSED - CONTEXTS)) ws₃ ws₄ = rw e₄ (kept_clear ws₃ CONTEXTS (PASSED - CONTEXTS)) in
     let j : Kept ENDS PASSED ws₂ ws₄ = kept_then ENDS PASSED k₃ k₄ (omega arith) (omega arith) (omega (arith, l)) (omega arith) in

@@ -15,12 +15,12 @@ use Rattle.hir.specs.declared.Effect.{Effect}
 use Rattle.operands.specs.Given.{given_to, word_gives}
 
 -- the word 0 gives nothing
-gives_nothing : (w : ℕ) (p : Place) → w ≡ 0 → p ≡ word_gives w p
+pub gives_nothing : (w : ℕ) (p : Place) → w ≡ 0 → p ≡ word_gives w p
 unfolding word_gives
 gives_nothing w p e = ap (λ (b : Bool). pick b p (with_effect (effect_of (w - 1)) p)) (sym (eq-eqb w 0 e))
 
 -- another gives the effect one below it
-gives-effect : (w : ℕ) (p : Place) → ¬ (w ≡ 0) → {n : ℕ} → n ≡ effect_of (w - 1) → with_effect n p ≡ word_gives w p
+pub gives-effect : (w : ℕ) (p : Place) → ¬ (w ≡ 0) → {n : ℕ} → n ≡ effect_of (w - 1) → with_effect n p ≡ word_gives w p
 unfolding word_gives
 gives-effect w p h e = ap (λ (k : ℕ). with_effect k p) e ∙ ap (λ (b : Bool). pick b p (with_effect (effect_of (w - 1)) p)) (sym (ne_eqb w 0 h))
 

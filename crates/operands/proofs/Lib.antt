@@ -1,5 +1,6 @@
 pub mod Adding
 pub mod Begun
+pub mod CopiedWords
 pub mod Folding
 pub mod Giving
 pub mod Inner

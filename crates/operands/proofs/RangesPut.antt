@@ -23,17 +23,17 @@ module _ (count : ℕ) (ws : List ℕ) where
     pub number : o.at ≡ o₀.at + range_width * x
 
   module _ {o₀ : Writer ℕ} {x : ℕ} {o : Writer ℕ} (v : RangesLeft o₀ x o) where
-    pub ranges_turn : count ≤ most_identifiers → x < count → {o' o'' : Writer ℕ} → Writes (get_or ws (STARTS + x) 0 ∷ []) o o' → Writes (get_or ws (ENDS + x) 0 ∷ []) o' o'' → RangesLeft o₀ (x + 1) o''
+    pub ranges_turn : count ≤ most_identifiers → x < count → {o' : Writer ℕ} → Writes (get_or ws (STARTS + x) 0 ∷ get_or ws (ENDS + x) 0 ∷ []) o o' → RangesLeft o₀ (x + 1) o'
     unfolding first_ranges
-    ranges_turn m h p q =
+    ranges_turn m h p =
         let k : x < most_identifiers = omega (arith, m, h) in
         record {
           leaves =
               table_turn range_words count (range_at (ranges_of ws)) x v.leaves h
-              (writes_as (writes_then p q)
+              (writes_as p
               (ap (λ (s : ℕ). s ∷ get_or ws (ENDS + x) 0 ∷ []) (sym (start_at ws x k))
               ∙ ap (λ (e : ℕ). get_or (ranges_of ws).starts x 0 ∷ e ∷ []) (sym (end_at_lem ws x k))));
-          number = omega (arith, v.number, p.wrote.next, q.wrote.next);
+          number = omega (arith, v.number, p.wrote.next);
         }
 
     -- all were written, behind their count

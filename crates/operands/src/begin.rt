@@ -1,12 +1,13 @@
 // What the pass begins on: the sheet's starts, the ends after the real walks, and no mark.
 ghost use Rattle.std.specs.Prelude.{◌≡◌, map, ◌≤◌, length};
 ghost use Rattle.std.proofs.lemmas.List.Edits.{sets};
+ghost use Rattle.std.proofs.Math.Seq.{slice};
 ghost use Rattle.model.specs.Limits.{most_identifiers};
 ghost use Rattle.workspace.specs.Layout.{LEAST, END, SEEN, STARTS, ENDS};
 ghost use Rattle.operands.specs.Begun.{identifiers_in, start_of, Begun};
 
 use hir::at::{IDENTIFIER_WIDTH, List, identifier_at};
-use workspace::{CONTEXTS, END, ENDS, IDENTIFIERS, PASSED, SEEN, STARTS, clear};
+use workspace::{CONTEXTS, END, ENDS, IDENTIFIERS, PASSED, STARTS, clear};
 
 // Stores the starts of the identifiers.
 fn read_starts(sheet: &[u32], list: List, ws: &mut [u32])
@@ -21,6 +22,16 @@ fn read_starts(sheet: &[u32], list: List, ws: &mut [u32])
     }
 }
 
+// Copies the ends. A loop and not `copy_within`, which would need `memcpy` from outside.
+fn copy_ends(ws: &mut [u32])
+    requires { LEAST ≤ length ws.old }
+    ensures { ws.new ≡ sets ws.old ENDS (slice END SEEN ws.old) }
+{
+    for x in 0..IDENTIFIERS {
+        ws[ENDS + x] = ws[END + x];
+    }
+}
+
 // Before the first block.
 pub fn begin(sheet: &[u32], identifiers: List, ws: &mut [u32])
     requires identifiers_in_bounds { (identifiers_in sheet.now identifiers).next ≤ length sheet.now }
@@ -29,6 +40,6 @@ pub fn begin(sheet: &[u32], identifiers: List, ws: &mut [u32])
 {
     clear(ws, STARTS, IDENTIFIERS);
     read_starts(sheet, identifiers, ws);
-    ws.copy_within(END..SEEN, ENDS);
+    copy_ends(ws);
     clear(ws, CONTEXTS, PASSED - CONTEXTS);
 }

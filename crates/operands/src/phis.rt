@@ -11,7 +11,7 @@ ghost use Rattle.writing.specs.Wrote.{Writes, farthest};
 ghost use Rattle.operands.specs.Ranges.{ranges_of, Ranged};
 ghost use Rattle.operands.specs.Given.{given_phi};
 ghost use Rattle.operands.specs.Phis.{phi_identifier, phis_in, PhisBelow, PlacesPut};
-ghost use Rattle.operands.specs.Known.{InnerFunctions};
+ghost use Rattle.operands.specs.Known.{InnerFunctions, Lists};
 ghost use Rattle.operands.specs.Passes.{Passable, Passed};
 
 use crate::given::{give, put_places};
@@ -106,8 +106,8 @@ impl Pass<'_> {
         ws: &mut [u32],
         out: &mut Writer<'_, u32>,
     ) -> usize
-        requires { Passable phis_from PhisBelow self.now.sheet.now self.now.lists.now ws.old from out.old }
-        ensures { Passed phis_from PhisBelow (λ (fs : InnerFunctions). phis order.0) self.now.section self.now.sheet.now self.now.lists.now from ws.old out.old ws.new out.new result }
+        requires { (lists : Lists) × Passable phis_from PhisBelow self.now.sheet.now lists ws.old from out.old }
+        ensures { (lists : Lists) → Passed phis_from PhisBelow (λ (fs : InnerFunctions). phis order.0) self.now.section self.now.sheet.now lists from ws.old out.old ws.new out.new result }
     {
         let list = list_at(self.sheet, from);
         if self.section == Section::Phis {

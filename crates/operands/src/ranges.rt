@@ -89,8 +89,7 @@ pub fn put_ranges(ws: &[u32], count: u32, out: &mut Writer<'_, u32>)
 {
     out.put(count);
     for x in 0..count as usize {
-        out.put(ws[STARTS + x]);
-        out.put(ws[ENDS + x]);
+        out.put_pair(ws[STARTS + x], ws[ENDS + x]);
     }
 }
 

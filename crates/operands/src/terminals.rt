@@ -7,7 +7,7 @@ ghost use Rattle.hir.specs.Numbers.{effect_number};
 ghost use Rattle.hir.specs.Words.{terminal_from};
 ghost use Rattle.writing.specs.Wrote.{farthest};
 ghost use Rattle.operands.specs.Phis.{PlacesPut};
-ghost use Rattle.operands.specs.Known.{InnerFunctions};
+ghost use Rattle.operands.specs.Known.{InnerFunctions, Lists};
 ghost use Rattle.operands.specs.Passes.{AnyTerminal, Passable, Passed};
 
 use crate::given::{put_places, with_effect};
@@ -46,8 +46,8 @@ fn put_terminal(sheet: &[u32], from: usize, expression: bool, out: &mut Writer<'
 impl Pass<'_> {
     // A terminal; the position after it.
     pub(crate) fn terminal(&self, from: usize, ws: &[u32], out: &mut Writer<'_, u32>) -> usize
-        requires { Passable terminal_from AnyTerminal self.now.sheet.now self.now.lists.now ws.now from out.old }
-        ensures { Passed terminal_from AnyTerminal (λ (fs : InnerFunctions). terminal self.now.expression) self.now.section self.now.sheet.now self.now.lists.now from ws.now out.old ws.now out.new result }
+        requires { (lists : Lists) × Passable terminal_from AnyTerminal self.now.sheet.now lists ws.now from out.old }
+        ensures { (lists : Lists) → Passed terminal_from AnyTerminal (λ (fs : InnerFunctions). terminal self.now.expression) self.now.section self.now.sheet.now lists from ws.now out.old ws.now out.new result }
     {
         if self.section == Section::Terminals {
             put_terminal(self.sheet, from, self.expression, out);

@@ -72,7 +72,7 @@ abbrev pub marked_words : State → Place → List ℕ
 marked_words t p = place_words (marked t p)
 
 -- their section: the count, then each
-marked-section : (ws : List ℕ) (first count : ℕ) (t : State) → count ∷ gather (marked_words t) (tab count (λ (i : ℕ). tracked_at ws (first + i))) ≡ section place_words (map (marked t) (tracked_from ws first count))
+pub marked-section : (ws : List ℕ) (first count : ℕ) (t : State) → count ∷ gather (marked_words t) (tab count (λ (i : ℕ). tracked_at ws (first + i))) ≡ section place_words (map (marked t) (tracked_from ws first count))
 unfolding tracked_from
 marked-section ws first count t =
     let l : List Place = tab count (λ (i : ℕ). tracked_at ws (first + i)) in

@@ -23,16 +23,16 @@ overflow_add-from-2 c =
 
 pub phis-instructions-requires : goal.phis-instructions-requires
 phis-instructions-requires c =
-    phis_passable _ _ c.requires
+    (c.args.self.now.lists.now, phis_passable _ _ c.requires)
 
 pub instructions-terminal-requires : goal.instructions-terminal-requires
 instructions-terminal-requires c =
-    instructions_passable _ _ _ _ c.phis-instructions.ensures c.requires
+    instructions_passable _ _ _ _ (c.phis-instructions.ensures _) c.requires
 
 pub terminal-requires : goal.terminal-requires
 terminal-requires c =
-    terminal_passable _ _ _ _ c.phis-instructions.ensures c.instructions-terminal.ensures c.requires
+    (c.args.self.now.lists.now, terminal_passable _ _ _ _ (c.phis-instructions.ensures _) c.instructions-terminal.ensures c.requires)
 
 pub returns : goal.returns
 returns c =
-    block_passed _ _ _ _ c.phis-instructions.ensures c.instructions-terminal.ensures _ c.past_phis-inside.ensures c.first_order-order.ensures c.terminal.ensures
+    block_passed _ _ _ _ (c.phis-instructions.ensures _) c.instructions-terminal.ensures _ c.past_phis-inside.ensures c.first_order-order.ensures (c.terminal.ensures _)

@@ -11,19 +11,19 @@ use Rattle.operands.proofs.Pass.phis.Goals as goal
 use Rattle.operands.proofs.Pass.phis.Goals.{then-eq, else-eq}
 
 pub list_at-list-requires : goal.list_at-list-requires
-list_at-list-requires c = phis-count _ _ c.requires.inside
+list_at-list-requires c = phis-count _ _ c.requires.1.inside
 
 pub put_phis-requires-clause-list_in_bounds : goal.put_phis-requires-clause-list_in_bounds
-put_phis-requires-clause-list_in_bounds c = phis_inside c.list_at-list.ensures c.requires
+put_phis-requires-clause-list_in_bounds c = phis_inside c.list_at-list.ensures c.requires.1
 
 pub put_phis-requires-clause-every : goal.put_phis-requires-clause-every
-put_phis-requires-clause-every c = (phis-below c.list_at-list.ensures c.requires, c.requires.ready.known.size)
+put_phis-requires-clause-every c = (phis-below c.list_at-list.ensures c.requires.1, c.requires.1.ready.known.size)
 
 pub start_phis-requires-clause-list_in_bounds : goal.start_phis-requires-clause-list_in_bounds
-start_phis-requires-clause-list_in_bounds c = phis_inside c.list_at-list.ensures c.requires
+start_phis-requires-clause-list_in_bounds c = phis_inside c.list_at-list.ensures c.requires.1
 
 pub start_phis-requires-clause-every : goal.start_phis-requires-clause-every
-start_phis-requires-clause-every c = (phis-below c.list_at-list.ensures c.requires, c.requires.ready.known.size)
+start_phis-requires-clause-every c = (phis-below c.list_at-list.ensures c.requires.1, c.requires.1.ready.known.size)
 
 pub returns : goal.returns
 returns c =
@@ -35,4 +35,4 @@ returns c =
       | then-eq w ↦ put_as (put_taken Phis a.self.now.section c.eq.ensures w.if-eq.true w.put_phis.ensures) w.out-is
       | else-eq w ↦ put_as (put_left Phis a.self.now.section places c.eq.ensures w.if-eq.false (several_rises l.count phi_from phi_follows a.self.now.sheet.now l.first)) w.out-is
     ] in
-    phis_passed c.list_at-list.ensures _ _ _ _ put c.start_phis.ensures
+    λ lists. phis_passed c.list_at-list.ensures _ _ _ _ put c.start_phis.ensures

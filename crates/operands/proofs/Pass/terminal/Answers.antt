@@ -18,4 +18,4 @@ returns c =
       | then-eq w ↦ put_as (put_taken Terminals a.self.now.section c.eq.ensures w.if-eq.true w.put_terminal.ensures) w.out-is
       | else-eq w ↦ put_as (put_left Terminals a.self.now.section places c.eq.ensures w.if-eq.false (omega (arith, terminal_rises a.self.now.sheet.now a.from))) w.out-is
     ] in
-    terminal_passed _ _ _ put c.past_terminal.ensures
+    λ lists. terminal_passed _ _ _ put c.past_terminal.ensures

@@ -3,7 +3,7 @@ use Rattle.operands.proofs.ranges.put_ranges.Goals as goal
 
 pub loop-x-preserved : goal.loop-x-preserved
 loop-x-preserved c =
-    ranges_turn _ _ c.loop-x.invariant c.requires.count_le_most_identifiers.0 c.loop-x-test.true c.put-in-loop-x.ensures c.put-in-loop-x-2.ensures
+    ranges_turn _ _ c.loop-x.invariant c.requires.count_le_most_identifiers.0 c.loop-x-test.true c.put_pair.ensures
 
 pub returns : goal.returns
 returns c =
