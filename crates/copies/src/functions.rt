@@ -21,11 +21,16 @@ fn copy_diagnostics(lists: &[u32], list: List, out: &mut Writer<'_, u32>)
     requires count_bound { out.old.at + diagnostic_width * list.count ≤ farthest }
     ensures { Writes (gather diagnostic_words (several list.count (wide diagnostic_width diagnostic_at) lists.now list.first).what) out.old out.new }
 {
+    let mut own = Writer {
+        buffer: &mut *out.buffer,
+        at: out.at,
+    };
     let mut next = list.first;
     for _ in 0..list.count {
-        put_diagnostic(out, diagnostic_at(lists, next));
+        put_diagnostic(&mut own, diagnostic_at(lists, next));
         next += DIAGNOSTIC_WIDTH;
     }
+    out.at = own.at;
 }
 
 // The diagnostics of one of `count` inner functions, whose list stands where the workspace says. A function that is not there has none.

@@ -29,9 +29,7 @@ pub fn put_place(out: &mut Writer<'_, u32>, p: Place)
     requires { out.old.at + place_width ≤ farthest }
     ensures { Writes (place_words (place_is p)) out.old out.new }
 {
-    out.put(p.identifier.0);
-    out.put(traits_word(p.effect, p.reactive));
-    out.put(p.span);
+    out.put_triple(p.identifier.0, traits_word(p.effect, p.reactive), p.span);
 }
 
 // A diagnostic in words, the identity first.
@@ -39,8 +37,7 @@ pub fn put_diagnostic(out: &mut Writer<'_, u32>, d: Diagnostic)
     requires { out.old.at + diagnostic_width ≤ farthest }
     ensures { Writes (diagnostic_words (diagnostic_is d)) out.old out.new }
 {
-    out.put(d.identity);
-    out.put(d.instance);
+    out.put_pair(d.identity, d.instance);
 }
 
 // An effect in words.

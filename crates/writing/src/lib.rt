@@ -1,7 +1,7 @@
 // The answer's words, or a text's bytes, written one after another into a lent buffer. What has no room is counted all the same, so that the length is known at any length.
 #![tactic(auto)]
 
-ghost use Rattle.std.specs.Prelude.{◌≡◌, [], ◌∷◌, ◌<◌};
+ghost use Rattle.std.specs.Prelude.{◌≡◌, [], ◌∷◌, ◌+◌, ◌<◌};
 ghost use Rattle.writing.specs.Wrote.{farthest, Writes, Patches};
 
 // A lent buffer, and where the next item goes.
@@ -31,6 +31,38 @@ impl<'a, T: Copy> Writer<'a, T> {
             self.buffer[self.at] = item;
         }
         self.at += 1;
+    }
+
+    // The next two items, with one test where both have room.
+    pub fn put_pair(&mut self, first: T, second: T)
+        requires { self.old.at + 1 < farthest }
+        ensures { Writes (first ∷ second ∷ []) self.old self.new }
+    {
+        let at = self.at;
+        if at + 1 < self.buffer.len() {
+            self.buffer[at] = first;
+            self.buffer[at + 1] = second;
+        } else if at < self.buffer.len() {
+            self.buffer[at] = first;
+        }
+        self.at = at + 2;
+    }
+
+    // The next three items, with one test where all have room.
+    pub fn put_triple(&mut self, first: T, second: T, third: T)
+        requires { self.old.at + 2 < farthest }
+        ensures { Writes (first ∷ second ∷ third ∷ []) self.old self.new }
+    {
+        let at = self.at;
+        if at + 2 < self.buffer.len() {
+            self.buffer[at] = first;
+            self.buffer[at + 1] = second;
+            self.buffer[at + 2] = third;
+            self.at = at + 3;
+        } else {
+            self.put_pair(first, second);
+            self.put(third);
+        }
     }
 
     // An item that was written before, once it is known.

@@ -1,4 +1,5 @@
 use native.Mathlib.Omega.{arith}
+use mathlib.Core.Path.{refl, sym, ◌∙◌}
 use Rattle.hir.proofs.Widths.{wide_rises}
 use Rattle.hir.specs.Words.{diagnostic_at}
 use Rattle.model.specs.Limits.{diagnostic_width}
@@ -26,4 +27,6 @@ loop-preserved c =
     copying_turn _ _ _ c.loop.invariant c.loop-test.true (copies_diagnostic c.diagnostic_at.ensures c.put_diagnostic.ensures)
 
 pub returns : goal.returns
-returns c = (copying_end _ _ _ c.loop.invariant c.loop-test.false).wrote
+returns c =
+    let w = (copying_end _ _ _ c.loop.invariant c.loop-test.false).wrote in
+    record { wrote = record { words = c.out-1.given.1 (sym w.same) ∙ w.wrote.words; next = w.wrote.next }; same = refl }

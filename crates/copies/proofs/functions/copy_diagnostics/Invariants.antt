@@ -4,4 +4,4 @@ use Rattle.copies.proofs.Errors.{diagnostic_from}
 use Rattle.copies.proofs.functions.copy_diagnostics.Given as goal
 
 abbrev pub invariant-loop : goal.invariant-loop
-invariant-loop l = Copying diagnostic_from diagnostic_words l.lists l.end l.initial.next l.initial.out l.counter l.next l.out
+invariant-loop l = Copying diagnostic_from diagnostic_words l.lists l.end l.initial.next l.initial.own l.counter l.next l.own
