@@ -56,6 +56,13 @@ any_turned v (w ∷ l) = ap (λ (b : Bool). pick b true (any_p (λ (u : ℕ). eq
 pub contains_part : (v at n : ℕ) (ws : List ℕ) → list_any (λ (w : ℕ). eqb w v) (between at (at + n) ws) ≡ any_p (eqb v) (slice at (at + n) ws)
 contains_part v at n ws = any_part (λ (w : ℕ). eqb w v) at n ws ∙ any_turned v (slice at (at + n) ws)
 
+-- of no words none is it
+pub none_in : (v at n : ℕ) (ws : List ℕ) → n ≡ 0 → false ≡ any_p (eqb v) (slice at (at + n) ws)
+unfolding any_p
+none_in v at n ws e =
+    let q : at + n ≡ at = omega (arith, e) in
+    sym (ap (λ (t : ℕ). any_p (eqb v) (slice at t ws)) q ∙ ap (any_p (eqb v)) (slice_empty at ws))
+
 -- ---- words at the front of which none passes the test
 pub none_both : (test : ℕ → Bool) (l m : List ℕ) → any_p test l ≡ false → any_p test m ≡ false → any_p test (l ++ m) ≡ false
 unfolding any_p

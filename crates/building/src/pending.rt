@@ -53,11 +53,14 @@ pub fn push_block(ws: &mut [u32], count: usize, block: BlockId)
     ws[SEEN + count] = block.0;
 }
 
-// Is the block one of `count` that came, from number `first` on?
+// Is the block one of `count` that came, from number `first` on? Mostly none came, and then no list is searched: `contains` is a call.
 pub fn has_come(ws: &[u32], first: usize, count: usize, block: BlockId) -> bool
     requires { (LEAST ≤ length ws.now) × (first + count ≤ most_blocks) }
     ensures { result ≡ any_p (eqb block.0) (slice (SEEN + first) (SEEN + first + count) ws.now) }
 {
+    if count == 0 {
+        return false;
+    }
     let start = SEEN + first;
     ws[start..start + count].contains(&block.0)
 }
