@@ -83,6 +83,7 @@ fn edge_kind(w: u32, kind: MutationKind) -> MutationKind
 }
 
 // Pushes the forward edges that lie from `at` to `end`. It stops at the first whose index is not below.
+#[tactic(auto, using(crate::proofs::Pushing::forward_stopped, crate::proofs::Pushing::forward_done))]
 fn push_forward(
     ws: &mut [u32],
     at: usize,
