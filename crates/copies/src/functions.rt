@@ -15,7 +15,7 @@ use hir::at::{DIAGNOSTIC_WIDTH, List, diagnostic_at, list_at};
 use workspace::{FUNCTIONS, HANDED};
 use writing::Writer;
 
-// A list of diagnostics.
+// A list of diagnostics, by a writer of its own, whose position stays in a register.
 fn copy_diagnostics(lists: &[u32], list: List, out: &mut Writer<'_, u32>)
     requires first_in_bounds { (several list.count (wide diagnostic_width diagnostic_at) lists.now list.first).next ≤ length lists.now }
     requires count_bound { out.old.at + diagnostic_width * list.count ≤ farthest }

@@ -40,13 +40,23 @@ pub fn put_diagnostic(out: &mut Writer<'_, u32>, d: Diagnostic)
     out.put_pair(d.identity, d.instance);
 }
 
+// A place of an effect, word by word: so `put_effect` stays small enough to stand inside its callers' loops.
+fn put_effect_place(out: &mut Writer<'_, u32>, p: Place)
+    requires { out.old.at + place_width ≤ farthest }
+    ensures { Writes (place_words (place_is p)) out.old out.new }
+{
+    out.put(p.identifier.0);
+    out.put(traits_word(p.effect, p.reactive));
+    out.put(p.span);
+}
+
 // An effect in words.
 pub fn put_effect(out: &mut Writer<'_, u32>, e: AliasingEffect)
     requires { out.old.at + effect_width ≤ farthest }
     ensures { Writes (effect_words (effect_is e)) out.old out.new }
 {
     out.put(u32::from(e.kind));
-    put_place(out, e.first);
-    put_place(out, e.second);
+    put_effect_place(out, e.first);
+    put_effect_place(out, e.second);
     out.put(e.extra);
 }

@@ -4,4 +4,4 @@ use Rattle.copies.proofs.put_effect.Goals as goal
 
 pub returns : goal.returns
 returns c =
-    writes_as (writes_then c.put.ensures (writes_then c.put_place.ensures (writes_then c.put_place-2.ensures c.put-2.ensures))) (rw (c.from.ensures, number_same))
+    writes_as (writes_then c.put.ensures (writes_then c.put_effect_place.ensures (writes_then c.put_effect_place-2.ensures c.put-2.ensures))) (rw (c.from.ensures, number_same))
